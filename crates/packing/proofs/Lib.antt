@@ -1,0 +1,4 @@
+-- The mathematics of star packings, by subject.
+pub mod Tests
+pub mod Sums
+pub mod Tight

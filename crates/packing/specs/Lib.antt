@@ -1,0 +1,6 @@
+-- What a reader has to believe about star packings, in the papers' order.
+pub mod Count
+pub mod Plant
+pub mod Grouping
+pub mod Holders
+pub mod Choke
