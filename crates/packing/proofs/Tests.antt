@@ -1,9 +1,10 @@
 -- Laws of tests: conjunctions, disjunctions, cases that keep their equation, and tests over all i below n.
 use Prim.Native.Nat.{ℕ, zero, suc, _+_, _<_, _≤_}
-use mathlib.Core.Path.{_≡_, refl, sym, _∙_}
+use mathlib.Core.Path.{_≡_, refl, sym, ap, _∙_}
 use mathlib.Core.Logic.{_⊎_, inl, inr, ⊎-elim}
 use mathlib.Core.Bool.{Bool, true, false, not, _&&_, _||_, false≢true, true≢false}
 use native.Mathlib.Nat.{not-suc-le-zero, eq-or-lt-of-le, le-of-suc-le-suc}
+use native.Mathlib.Numerals.{add-one}
 use native.Mathlib.Omega.{arith}
 use Rattle.packing.specs.Count.{all, any}
 
@@ -93,6 +94,18 @@ all-intro (suc n) p h = and-i (all n p) (p n) (all-intro n p (λ i l. h i (omega
 
 pub all-false : (n : ℕ) (p : ℕ → Bool) (i : ℕ) → i < n → p i ≡ false → all n p ≡ false
 all-false n p i l e = not-test (all n p) (λ t. clash (p i) (all-elim n p t i l) e)
+
+-- one more at the end, as a loop gathers it
+pub all-more : (n : ℕ) (p : ℕ → Bool) (ok b r : Bool) → ok ≡ all n p → b ≡ p n → r ≡ (ok && b) → r ≡ all (n + 1) p
+unfolding all
+all-more n p ok b r e f g = rw (g, e, f, add-one)
+
+-- what a loop has gathered at its end
+pub all-end : (n : ℕ) (p : ℕ → Bool) (ok : Bool) (i : ℕ) → i ≤ n → n ≤ i → ok ≡ all i p → ok ≡ all n p
+all-end n p ok i u l e = e ∙ ap (λ (k : ℕ). all k p) (last u l)
+  where
+    last : i ≤ n → n ≤ i → i ≡ n
+    last a b = omega arith
 
 -- where not every one has p, one has not
 pub all-fails : (n : ℕ) (p : ℕ → Bool) → all n p ≡ false → (i : ℕ) × (i < n) × (p i ≡ false)

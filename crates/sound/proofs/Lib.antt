@@ -1,0 +1,3 @@
+-- Laws of the passes, and what a sound record means.
+pub mod Tallies
+pub mod Walk

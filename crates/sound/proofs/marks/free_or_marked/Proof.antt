@@ -1,0 +1,13 @@
+-- `free_or_marked` meets its contract.
+use borrow.Author.Tests.{eq-eqb, ne-eqb, lt-ltb, le-ltb, lt-leb, le-leb}
+use Rattle.sound.proofs.marks.free_or_marked.Statement.{statement}
+use Rattle.sound.proofs.marks.free_or_marked.Tie as tie
+
+returns : tie.Need-returns
+returns c = simp (eq-eqb _ _ (c .if1 .taken))
+
+returns-2 : tie.Need-returns-2
+returns-2 c = simp (ne-eqb _ _ (c .if1 .left))
+
+pub free-or-marked-spec : {M : Type 1} → statement M
+free-or-marked-spec = tie.close (tie.spec returns returns-2)
