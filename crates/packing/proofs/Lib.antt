@@ -2,3 +2,5 @@
 pub mod Tests
 pub mod Sums
 pub mod Tight
+pub mod Hall
+pub mod Pairs

@@ -182,3 +182,20 @@ fibre n m p q f below inside =
     out : (u : ℕ) (b : Bool) → sum n (λ x. pick b (pick (p x && eqb (f x) u) 1)) ≡ pick b (sum n (λ x. pick (p x && eqb (f x) u) 1))
     out u true = refl
     out u false = sum-zero n (λ x. 0) (λ x l. refl)
+
+-- terms of a sum over a set are compared on the set only
+pick-le : (b : Bool) (x y : ℕ) → (b ≡ true → x ≤ y) → pick b x ≤ pick b y
+pick-le true x y h = h refl
+pick-le false x y h = omega arith
+
+pub sumOver-mono : (n : ℕ) (s : ℕ → Bool) (f g : ℕ → ℕ) → ((i : ℕ) → i < n → s i ≡ true → f i ≤ g i) → sumOver n s f ≤ sumOver n s g
+unfolding sumOver
+sumOver-mono n s f g h = sum-mono n (λ i. pick (s i) (f i)) (λ i. pick (s i) (g i)) (λ i l. pick-le (s i) (f i) (g i) (h i l))
+
+pub sumOver-ext : (n : ℕ) (s : ℕ → Bool) (f g : ℕ → ℕ) → ((i : ℕ) → i < n → s i ≡ true → f i ≡ g i) → sumOver n s f ≡ sumOver n s g
+unfolding sumOver
+sumOver-ext n s f g h = sum-ext n (λ i. pick (s i) (f i)) (λ i. pick (s i) (g i)) (λ i l. by-bool (s i) (λ e. rw e (h i l e)) (λ e. rw e refl))
+
+pub sumOver-equal : (n : ℕ) (s : ℕ → Bool) (f g : ℕ → ℕ) → ((i : ℕ) → i < n → s i ≡ true → f i ≤ g i) → sumOver n s g ≤ sumOver n s f → (i : ℕ) → i < n → s i ≡ true → f i ≡ g i
+unfolding sumOver
+sumOver-equal n s f g h e i l t = rw t at (sum-equal n (λ j. pick (s j) (f j)) (λ j. pick (s j) (g j)) (λ j k. pick-le (s j) (f j) (g j) (h j k)) e i l)
