@@ -4,3 +4,4 @@ pub mod Sums
 pub mod Tight
 pub mod Hall
 pub mod Pairs
+pub mod Groupings
