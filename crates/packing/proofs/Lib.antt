@@ -5,3 +5,4 @@ pub mod Tight
 pub mod Hall
 pub mod Pairs
 pub mod Groupings
+pub mod Prefixes
