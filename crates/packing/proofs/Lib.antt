@@ -6,3 +6,4 @@ pub mod Hall
 pub mod Pairs
 pub mod Groupings
 pub mod Prefixes
+pub mod Barrier

@@ -1,8 +1,8 @@
 -- Laws of sums and counts over the i below n, with the fibre lemma.
-use Prim.Native.Nat.{ℕ, zero, suc, _+_, _<_, _≤_}
+use Prim.Native.Nat.{ℕ, zero, suc, _+_, _*_, _<_, _≤_}
 use mathlib.Core.Path.{_≡_, refl, sym, ap, _∙_}
 use mathlib.Core.Bool.{Bool, true, false, not, _&&_, and-comm, false≢true}
-use native.Mathlib.Nat.{not-suc-le-zero}
+use native.Mathlib.Nat.{not-suc-le-zero, mul-zero, mul-one, mul-add}
 use native.Mathlib.Omega.{arith}
 use lib.Dec.{eqb}
 use borrow.Author.Tests.{eqb-true, eq-eqb, ne-eqb, not-true}
@@ -215,3 +215,13 @@ count-within n p q r inside outside =
   where
     swap : (s : ℕ → Bool) → count n (λ i. s i && r i) ≡ count n (λ i. r i && s i)
     swap s = count-ext n (λ i. s i && r i) (λ i. r i && s i) (λ i l. and-comm (s i) (r i))
+
+-- a sum of equal terms is their number times the term
+pub sumOver-const : (n c : ℕ) (s : ℕ → Bool) → sumOver n s (λ i. c) ≡ c * count n s
+unfolding sumOver count sum
+sumOver-const zero c s = sym (mul-zero c)
+sumOver-const (suc n) c s = rw mul-add (omega (arith, sumOver-const n c s, last (s n)))
+  where
+    last : (b : Bool) → pick b c ≡ c * pick b 1
+    last true = sym (mul-one c)
+    last false = sym (mul-zero c)
