@@ -29,6 +29,7 @@ unfoldable pub first : ℕ → (ℕ → Bool) → ℕ
 first zero p = 0
 first (suc n) p = cond (any n p) (first n p) n
 
+-- where there is one, it is below n and has p
 first-found : (n : ℕ) (p : ℕ → Bool) → any n p ≡ true → (first n p < n) × (p (first n p) ≡ true)
 unfolding first any
 first-found zero p e = absurd (false≢true e)
@@ -54,11 +55,13 @@ record Joins (n : ℕ) (adj : ℕ → ℕ → Bool) (g : ℕ → ℕ) (v u : ℕ
   some : u ≡ NONE → ⊥
 
 module _ (n : ℕ) (limit : ℕ → ℕ) (adj : ℕ → ℕ → Bool) (g : ℕ → ℕ) (gr : Grouping n limit adj g) where
+  -- the three kinds of entry
   entry-cases : {A : Type 0} (v : ℕ) → v < n → (isAlone g v ≡ true → A) → (isLeader n limit g v ≡ true → A) → (isMember n adj g v ≡ true → A) → A
   unfolding Grouping
   entry-cases v l alone leads joins =
       ⊎-elim (λ q. ⊎-elim alone leads (or-cases (isAlone g v) (isLeader n limit g v) q)) joins (or-cases (isAlone g v || isLeader n limit g v) (isMember n adj g v) (gr v l))
 
+  -- an entry that names another gateway makes a member
   member-joins : (v u : ℕ) → v < n → g v ≡ u → (u ≡ NONE → ⊥) → (v ≡ u → ⊥) → Joins n adj g v u
   member-joins v u l e some other =
       entry-cases v l (λ a. absurd (some (sym e ∙ eqb-true (g v) NONE a))) (λ a. absurd (other (sym (eqb-true (g v) v (and-l _ _ (and-l _ _ a))) ∙ e)))
@@ -71,8 +74,9 @@ module _ (n : ℕ) (limit : ℕ → ℕ) (adj : ℕ → ℕ → Bool) (g : ℕ �
         some = some;
       })
 
-  -- Where a gateway is linked to itself its own number would pass as a member's entry, without members or with too many: hence the premise.
+  -- Were a gateway linked to itself, its own number would pass as a member's entry, without members or with too many: hence the premise.
   module _ (loopless : Loopless n adj) where
+    -- an entry of the own number makes a leader
     leader-within : (u : ℕ) → u < n → g u ≡ u → (u ≡ NONE → ⊥) → (1 ≤ memberCount n g u) × (memberCount n g u ≤ limit u)
     leader-within u l e some =
         entry-cases u l (λ a. absurd (some (sym e ∙ eqb-true (g u) NONE a)))

@@ -14,6 +14,7 @@ use Rattle.packing.proofs.Sums.{count-mono, count-ext, fibre, sumOver-m
 unfoldable pub holdsOf : ℕ → (ℕ → ℕ) → (ℕ → Bool) → ℕ → ℕ
 holdsOf n h R u = count n (λ x. R x && held n h x && eqb (h x) u)
 
+-- .. which is no more than it holds
 pub holdsOf-most : (n : ℕ) (h : ℕ → ℕ) (R : ℕ → Bool) (u : ℕ) → holdsOf n h R u ≤ holds n h u
 unfolding holdsOf holds
 holdsOf-most n h R u = count-mono n (λ x. R x && held n h x && eqb (h x) u) (λ x. eqb (h x) u) (λ x l. and-r (R x && held n h x) (eqb (h x) u))

@@ -7,3 +7,4 @@ pub mod Pairs
 pub mod Groupings
 pub mod Prefixes
 pub mod Barrier
+pub mod Links

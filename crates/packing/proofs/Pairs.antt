@@ -15,7 +15,7 @@ use Rattle.packing.proofs.Hall.{holdsOf, holdsOf-most, held-from, hall,
 
 module _ {n : ℕ} {limit : ℕ → ℕ} {adj : ℕ → ℕ → Bool} where
   -- any feasible holders hold R from within S
-  pub tight-into : {h h' : ℕ → ℕ} {R S : ℕ → Bool} → Tight n limit adj h R S → Feasible n limit adj h'
+  tight-into : {h h' : ℕ → ℕ} {R S : ℕ → Bool} → Tight n limit adj h R S → Feasible n limit adj h'
       → (x : ℕ) → x < n → R x ≡ true → held n h' x ≡ true → S (h' x) ≡ true
   tight-into {h' = h'} t f x l r e = t .closed x (h' x) l (ltb-true (h' x) n e) r (f .along x l e)
 

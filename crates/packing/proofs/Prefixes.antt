@@ -63,6 +63,7 @@ order-place {n} {order} o v l = place v (count-same n stands (λ u. true) (λ u 
           count-bound n (λ u. true),
         )
 
+-- what stands among the first k stands among the first k + 1
 among-suc : (order : ℕ → ℕ) (k v : ℕ) → Among order k v → Among order (suc k) v
 among-suc order k v a = (a .0, omega (arith, a .1), a .2)
 
