@@ -3,3 +3,9 @@ pub mod Tests
 pub mod Sums
 pub mod Flat
 pub mod Tight
+pub mod Hall
+pub mod Pairs
+pub mod Groupings
+pub mod Prefixes
+pub mod Barrier
+pub mod Links

@@ -1,13 +1,13 @@
 -- Laws of sums and counts over the i below n, with the fibre lemma.
-use Prim.Native.Nat.{ℕ, zero, suc, _+_, _<_, _≤_}
+use Prim.Native.Nat.{ℕ, zero, suc, _+_, _*_, _<_, _≤_}
 use mathlib.Core.Path.{_≡_, refl, sym, ap, _∙_}
-use mathlib.Core.Bool.{Bool, true, false, not, _&&_, _||_, true≢false, false≢true}
-use native.Mathlib.Nat.{not-suc-le-zero, add-zero}
+use mathlib.Core.Bool.{Bool, true, false, not, _&&_, and-comm, false≢true}
+use native.Mathlib.Nat.{not-suc-le-zero, mul-zero, mul-one, mul-add}
 use native.Mathlib.Omega.{arith}
 use lib.Dec.{eqb}
-use borrow.Author.Tests.{eqb-true, eqb-false, eq-eqb, ne-eqb}
+use borrow.Author.Tests.{eqb-true, eq-eqb, ne-eqb, not-true}
 use Rattle.packing.specs.Count.{pick, sum, count, sumOver}
-use Rattle.packing.proofs.Tests.{by-bool, below-suc, and-l, and-r, and-i, not-test, clash}
+use Rattle.packing.proofs.Tests.{by-bool, below-suc, and-l, and-r, and-i, not-test}
 
 pub sum-ext : (n : ℕ) (f g : ℕ → ℕ) → ((i : ℕ) → i < n → f i ≡ g i) → sum n f ≡ sum n g
 unfolding sum
@@ -182,3 +182,46 @@ fibre n m p q f below inside =
     out : (u : ℕ) (b : Bool) → sum n (λ x. pick b (pick (p x && eqb (f x) u) 1)) ≡ pick b (sum n (λ x. pick (p x && eqb (f x) u) 1))
     out u true = refl
     out u false = sum-zero n (λ x. 0) (λ x l. refl)
+
+-- terms of a sum over a set are compared on the set only
+pick-le : (b : Bool) (x y : ℕ) → (b ≡ true → x ≤ y) → pick b x ≤ pick b y
+pick-le true x y h = h refl
+pick-le false x y h = omega arith
+
+pub sumOver-mono : (n : ℕ) (s : ℕ → Bool) (f g : ℕ → ℕ) → ((i : ℕ) → i < n → s i ≡ true → f i ≤ g i) → sumOver n s f ≤ sumOver n s g
+unfolding sumOver
+sumOver-mono n s f g h = sum-mono n (λ i. pick (s i) (f i)) (λ i. pick (s i) (g i)) (λ i l. pick-le (s i) (f i) (g i) (h i l))
+
+pub sumOver-ext : (n : ℕ) (s : ℕ → Bool) (f g : ℕ → ℕ) → ((i : ℕ) → i < n → s i ≡ true → f i ≡ g i) → sumOver n s f ≡ sumOver n s g
+unfolding sumOver
+sumOver-ext n s f g h = sum-ext n (λ i. pick (s i) (f i)) (λ i. pick (s i) (g i)) (λ i l. by-bool (s i) (λ e. rw e (h i l e)) (λ e. rw e refl))
+
+pub sumOver-equal : (n : ℕ) (s : ℕ → Bool) (f g : ℕ → ℕ) → ((i : ℕ) → i < n → s i ≡ true → f i ≤ g i) → sumOver n s g ≤ sumOver n s f → (i : ℕ) → i < n → s i ≡ true → f i ≡ g i
+unfolding sumOver
+sumOver-equal n s f g h e i l t = rw t at (sum-equal n (λ j. pick (s j) (f j)) (λ j. pick (s j) (g j)) (λ j k. pick-le (s j) (f j) (g j) (h j k)) e i l)
+
+-- p's count is at most q's where it is so within r, and outside r all with p have q
+pub count-within : (n : ℕ) (p q r : ℕ → Bool) → count n (λ i. r i && p i) ≤ count n (λ i. r i && q i) → ((i : ℕ) → i < n → r i ≡ false → p i ≡ true → q i ≡ true) → count n p ≤ count n q
+count-within n p q r inside outside =
+    omega (
+      arith,
+      inside,
+      count-split n p r,
+      count-split n q r,
+      swap p,
+      swap q,
+      count-mono n (λ i. p i && not (r i)) (λ i. q i && not (r i)) (λ i l e. and-i (q i) (not (r i)) (outside i l (not-true (r i) (and-r (p i) (not (r i)) e)) (and-l (p i) (not (r i)) e)) (and-r (p i) (not (r i)) e)),
+    )
+  where
+    swap : (s : ℕ → Bool) → count n (λ i. s i && r i) ≡ count n (λ i. r i && s i)
+    swap s = count-ext n (λ i. s i && r i) (λ i. r i && s i) (λ i l. and-comm (s i) (r i))
+
+-- a sum of equal terms is their number times the term
+pub sumOver-const : (n c : ℕ) (s : ℕ → Bool) → sumOver n s (λ i. c) ≡ c * count n s
+unfolding sumOver count sum
+sumOver-const zero c s = sym (mul-zero c)
+sumOver-const (suc n) c s = rw mul-add (omega (arith, sumOver-const n c s, last (s n)))
+  where
+    last : (b : Bool) → pick b c ≡ c * pick b 1
+    last true = sym (mul-one c)
+    last false = sym (mul-zero c)
