@@ -17,6 +17,7 @@ pair-at l i h =
   where
     one : i + 1 ≡ suc i
     one = omega arith
+
     two : i + 2 ≡ suc (suc i)
     two = omega arith
 

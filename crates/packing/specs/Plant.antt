@@ -4,11 +4,15 @@ use Prim.Native.Nat.{ℕ, _*_}
 use mathlib.Core.Bool.{Bool, true, false, _&&_, _||_, cond}
 use mathlib.Core.List.{List, [], _∷_}
 use lib.Dec.{eqb}
-use lib.ListN.{take}
+use lib.ListN.{take, getD}
 
 -- "no gateway", as an entry of a leader list and as a holder (01: 65535)
 abbrev pub NONE : ℕ
 NONE = 65535
+
+-- the entry of a list at a place
+abbrev pub at : List ℕ → ℕ → ℕ
+at l i = getD l i 0
 
 -- the common limit T (01: "a limit T")
 unfoldable pub common : ℕ → ℕ → ℕ

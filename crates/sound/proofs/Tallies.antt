@@ -47,11 +47,12 @@ module _ (n : ℕ) (l : List ℕ) (test : ℕ → Bool) (counts₀ : List ℕ) w
   pub counted-turn : {counts counts' : List ℕ} {ok ok' b : Bool} {i : ℕ} → Counted n l test counts₀ counts ok i → i < n → b ≡ test i → ok' ≡ (ok && b)
       → counts' ≡ set counts (getD l i 0) (getD counts (getD l i 0) 0 + 1) → Counted n l test counts₀ counts' ok' (i + 1)
   counted-turn {counts} {counts'} {ok} {ok'} {b} {i} c h e f g =
-      record
-        { upto = omega arith
-        ; same = rw (g, length-set) (c .same)
-        ; gathered = all-more i test ok b ok' (c .gathered) e f
-        ; tallied = rw g (tally-more counts i (c .tallied)) }
+      record {
+        upto = omega arith;
+        same = rw (g, length-set) (c .same);
+        gathered = all-more i test ok b ok' (c .gathered) e f;
+        tallied = rw g (tally-more counts i (c .tallied));
+      }
 
   -- a count never passes the number of entries, so one more fits
   pub counted-small : {counts : List ℕ} {ok : Bool} {i : ℕ} → Counted n l test counts₀ counts ok i → i < 65535 → (x : ℕ) → getD counts x 0 < 65535

@@ -52,8 +52,10 @@ noted-at hs marks v u w inside place = by-bool (eqb v w) (λ e. at-v (eqb-true v
     other : eqb v w ≡ false → (b : Bool) → eqb (getD (cond b (set marks v 1) marks) w 0) 1 ≡ (eqb (getD marks w 0) 1 || false)
     other e true = rw (getD-set-other marks v w 1 0 (λ q. eqb-false v w e (sym q))) (sym (or-false _))
     other e false = sym (or-false _)
+
     flip : (a b : ℕ) → eqb a b ≡ eqb b a
     flip a b = iff-test (eqb a b) (eqb b a) (λ e. eq-eqb b a (sym (eqb-true a b e))) (λ e. eq-eqb a b (sym (eqb-true b a e)))
+
     step : (b : Bool) → eqb (getD (cond b (set marks w 1) marks) w 0) 1 ≡ (eqb (getD marks w 0) 1 || b)
     step true = rw (getD-set-same marks w 1 0 place) (one (eqb (getD marks w 0) 1))
       where
@@ -61,6 +63,7 @@ noted-at hs marks v u w inside place = by-bool (eqb v w) (λ e. at-v (eqb-true v
         one true = refl
         one false = refl
     step false = sym (or-false _)
+
     at-v : v ≡ w → eqb (getD (cond (ltb v (length hs) && eqb (getD hs v 0) u) (set marks v 1) marks) w 0) 1 ≡ (eqb (getD marks w 0) 1 || (eqb v w && eqb u (getD hs w 0)))
     at-v q = rw (q, lt-ltb w (length hs) inside, eq-eqb w w refl, flip u (getD hs w 0)) (step (eqb (getD hs w 0) u))
 
@@ -95,16 +98,18 @@ module _ (n : ℕ) (ls hs marks₀ : List ℕ) where
   unfolding endsSound
   walk-turn {marks} {marks'} {marks''} {ok} {ok'} {e} {i} w h f g k r =
       let long : length marks'' ≡ length marks = length-turn hs marks marks' marks'' _ _ f g in
-      record
-        { upto = omega arith
-        ; same = long ∙ w .same
-        ; ends = rw (r, k) (and-assoc ok _ (endsSound n (drop (i + 2) ls)) ∙ (rw (pair-at ls i h) at (w .ends)))
-        ; marked = λ v p q.
+      record {
+        upto = omega arith;
+        same = long ∙ w .same;
+        ends = rw (r, k) (and-assoc ok _ (endsSound n (drop (i + 2) ls)) ∙ (rw (pair-at ls i h) at (w .ends)));
+        marked = λ v p q.
             let q' : v < length marks = rw long at q in
-            turn-marked hs marks marks' marks'' (drop (i + 2) ls) (getD ls i 0) (getD ls (i + 1) 0) v p q' f g ∙ (rw (pair-at ls i h) at (w .marked v p q')) }
+            turn-marked hs marks marks' marks'' (drop (i + 2) ls) (getD ls i 0) (getD ls (i + 1) 0) v p q' f g ∙ (rw (pair-at ls i h) at (w .marked v p q'));
+      }
 
   pub walk-end : {marks : List ℕ} {ok : Bool} {i : ℕ} → Walked n ls hs marks₀ marks ok i → length ls ≤ i + 1 → LinksPassed n ls hs marks ok
   walk-end {marks} {ok} {i} w h =
-      record
-        { ends = sym (and-true ok) ∙ ap (λ (b : Bool). ok && b) (sym (ends-short n (drop i ls) (pair-end ls i h))) ∙ w .ends
-        ; marked = λ v p q. sym (or-false _) ∙ ap (λ (b : Bool). eqb (getD marks v 0) 1 || b) (sym (linked-short (drop i ls) v (getD hs v 0) (pair-end ls i h))) ∙ w .marked v p q }
+      record {
+        ends = sym (and-true ok) ∙ ap (λ (b : Bool). ok && b) (sym (ends-short n (drop i ls) (pair-end ls i h))) ∙ w .ends;
+        marked = λ v p q. sym (or-false _) ∙ ap (λ (b : Bool). eqb (getD marks v 0) 1 || b) (sym (linked-short (drop i ls) v (getD hs v 0) (pair-end ls i h))) ∙ w .marked v p q;
+      }

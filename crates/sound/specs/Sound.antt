@@ -3,14 +3,10 @@ use Prim.Native.Nat.{ℕ, _*_}
 use mathlib.Core.Bool.{Bool, true, not, _&&_, _||_}
 use mathlib.Core.List.{List, [], _∷_}
 use lib.Dec.{eqb, ltb, leb}
-use lib.ListN.{length, getD}
+use lib.ListN.{length}
 use Rattle.packing.specs.Count.{count, all}
-use Rattle.packing.specs.Plant.{NONE, common, firstLinks, linked}
+use Rattle.packing.specs.Plant.{NONE, at, common, firstLinks, linked}
 use Rattle.packing.specs.Holders.{holds}
-
--- the entry of a list at a place
-abbrev pub at : List ℕ → ℕ → ℕ
-at l i = getD l i 0
 
 -- "n, T, m are in range, k ≤ n" (01, "The product": 0 to 1,024 gateways, 0 to 8,192 links, a limit T of 2 to 16)
 unfoldable pub numbersSound : ℕ → ℕ → ℕ → ℕ → Bool

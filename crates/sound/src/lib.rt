@@ -1,6 +1,7 @@
 // Whether a record is sound (01, "The record"; refusal 26). Each list is passed over once.
 mod marks;
 mod passes;
+
 ghost use mathlib.Core.Path.{_≡_};
 ghost use mathlib.Core.Bool.{_&&_};
 ghost use Prim.Native.Nat.{_≤_};
@@ -63,7 +64,15 @@ fn order_sound(n: u16, k: u16, order: &[u16], holders: &[u16]) -> bool
 }
 
 // 26's condition is that this is false. Any numbers, and lists of any lengths and contents.
-pub fn is_sound(n: u16, t: u8, m: u16, k: u16, links: &[u16], order: &[u16], holders: &[u16]) -> bool
+pub fn is_sound(
+    n: u16,
+    t: u8,
+    m: u16,
+    k: u16,
+    links: &[u16],
+    order: &[u16],
+    holders: &[u16],
+) -> bool
     ensures { λ r. ⌜ r ≡ isSound n t m k (now (links .entry)) (now (order .entry)) (now (holders .entry)) ⌝ }
 {
     if !numbers_sound(n, t, m, k) {

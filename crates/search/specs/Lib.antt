@@ -1,0 +1,2 @@
+-- 01, "Placing", as functions.
+pub mod Search

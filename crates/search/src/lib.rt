@@ -1,0 +1,1 @@
+// Finds a holder for a gateway (01, "Placing"), on plain lists and numbers.
