@@ -7,7 +7,7 @@ use native.Mathlib.Omega.{arith}
 use lib.Dec.{eqb}
 use borrow.Author.Tests.{eqb-true, eq-eqb, ne-eqb, not-true}
 use Rattle.packing.specs.Count.{pick, sum, count, sumOver}
-use Rattle.packing.proofs.Tests.{by-bool, below-suc, and-l, and-r, and-i, not-test}
+use Rattle.packing.proofs.Tests.{by-bool, not-i, below-suc, and-l, and-r, and-i, not-test}
 
 pub sum-ext : (n : ℕ) (f g : ℕ → ℕ) → ((i : ℕ) → i < n → f i ≡ g i) → sum n f ≡ sum n g
 unfolding sum
@@ -152,6 +152,12 @@ count-unique (suc n) p h =
     by-bool (p n)
     (λ t. omega (arith, ap (λ (b : Bool). pick b 1) t, count-none n p (λ i l. not-test (p i) (λ e. let q : i ≡ n = h i n (omega arith) (omega arith) e t in omega arith))))
     (λ f. omega (arith, ap (λ (b : Bool). pick b 1) f, count-unique n p (λ i j k l. h i j (omega arith) (omega arith))))
+
+-- where there is one with p, any two with p are equal
+pub count-one : (n : ℕ) (p : ℕ → Bool) → count n p ≤ 1 → (i j : ℕ) → i < n → j < n → p i ≡ true → p j ≡ true → i ≡ j
+count-one n p few i j k l e f =
+    by-bool (eqb i j) (λ q. eqb-true i j q)
+    (λ q. absurd (omega (arith, count-split n p (λ v. eqb i v), count-some n (λ v. p v && eqb i v) i k (and-i _ _ e (eq-eqb i i refl)), count-some n (λ v. p v && not (eqb i v)) j l (and-i _ _ f (not-i _ q)))))
 
 -- The fibre lemma: where f takes each x below n with p to a u below m with q, p's count is the sum of the fibres' counts over q.
 pub fibre : (n m : ℕ) (p q : ℕ → Bool) (f : ℕ → ℕ) → ((x : ℕ) → x < n → p x ≡ true → f x < m) → ((x : ℕ) → x < n → p x ≡ true → q (f x) ≡ true)

@@ -28,6 +28,9 @@ pub and-i : (a b : Bool) → a ≡ true → b ≡ true → (a && b) ≡ true
 and-i true b p q = q
 and-i false b p q = p
 
+-- a search with these takes a conjunction of tests apart, and puts one together
+pub ruleset tests = (and-l, and-r, and-i)
+
 pub or-cases : (a b : Bool) → (a || b) ≡ true → (a ≡ true) ⊎ (b ≡ true)
 or-cases true b e = inl refl
 or-cases false b e = inr e
@@ -94,6 +97,11 @@ all-intro (suc n) p h = and-i (all n p) (p n) (all-intro n p (λ i l. h i (omega
 
 pub all-false : (n : ℕ) (p : ℕ → Bool) (i : ℕ) → i < n → p i ≡ false → all n p ≡ false
 all-false n p i l e = not-test (all n p) (λ t. clash (p i) (all-elim n p t i l) e)
+
+pub all-ext : (n : ℕ) (p q : ℕ → Bool) → ((i : ℕ) → i < n → p i ≡ q i) → all n p ≡ all n q
+unfolding all
+all-ext zero p q h = refl
+all-ext (suc n) p q h = rw (all-ext n p q (λ i l. h i (omega arith)), h n (omega arith))
 
 -- one more at the end, as a loop gathers it
 pub all-more : (n : ℕ) (p : ℕ → Bool) (ok b r : Bool) → ok ≡ all n p → b ≡ p n → r ≡ (ok && b) → r ≡ all (n + 1) p

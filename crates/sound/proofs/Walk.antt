@@ -6,7 +6,7 @@ use mathlib.Core.List.{List, [], _∷_}
 use native.Mathlib.Omega.{arith}
 use lib.Dec.{eqb, ltb}
 use lib.ListN.{length, getD, set, drop, length-set}
-use lib.Seq.{getD-set-same, getD-set-other}
+use lib.Seq.{getD-set-same, getD-set-other, set-out}
 use borrow.Author.Tests.{eqb-true, eqb-false, eq-eqb, lt-ltb}
 use Rattle.packing.specs.Plant.{linked, joins}
 use Rattle.packing.proofs.Tests.{by-bool, iff-test}
@@ -38,6 +38,11 @@ and-true false = refl
 or-false : (a : Bool) → (a || false) ≡ a
 or-false true = refl
 or-false false = refl
+
+-- v has no place among the marks
+pub noted-out : (hs marks : List ℕ) (v u : ℕ) → length marks ≤ v → marks ≡ noted hs marks v u
+unfolding noted
+noted-out hs marks v u h = by-bool (ltb v (length hs) && eqb (getD hs v 0) u) (λ e. rw e (sym (set-out marks v 1 h))) (λ e. rw e)
 
 length-noted : (hs marks : List ℕ) (v u : ℕ) → length (noted hs marks v u) ≡ length marks
 unfolding noted

@@ -44,8 +44,8 @@ fn holders_sound(n: u16, t: u8, links: &[u16], holders: &[u16]) -> bool
     requires { ⌜ (n ≤ 1024) × (n ≤ length (now holders)) ⌝ }
     ensures { λ r. ⌜ r ≡ (endsSound n (now (links .entry)) && holdersLinked n (now (links .entry)) (now (holders .entry)) && holdersWithin n (common t) (now (holders .entry))) ⌝ }
 {
-    let mut marks = [0u8; 1024];
-    let mut loads = [0u16; 1024];
+    let mut marks = marks::zeros();
+    let mut loads = marks::zeros();
     let ends = passes::over_links(n, links, holders, &mut marks);
     let linked = passes::over_holders(n as usize, holders, &marks, &mut loads);
     let within = passes::counts_between(n as usize, 0, t as u16, &loads);
@@ -57,7 +57,7 @@ fn order_sound(n: u16, k: u16, order: &[u16], holders: &[u16]) -> bool
     requires { ⌜ (n ≤ 1024) × (n ≤ length (now order)) ⌝ }
     ensures { λ r. ⌜ r ≡ (onceEach n (now (order .entry)) && onlyPlacedHeld n k (now (order .entry)) (now (holders .entry))) ⌝ }
 {
-    let mut counts = [0u16; 1024];
+    let mut counts = marks::zeros();
     let placed = passes::over_order(n as usize, k as usize, order, holders, &mut counts);
     let once = passes::counts_between(n as usize, 1, 1, &counts);
     marks::both(once, placed)

@@ -3,9 +3,16 @@ ghost use mathlib.Core.Path.{_≡_};
 ghost use mathlib.Core.Bool.{not, _&&_, _||_};
 ghost use Prim.Native.Nat.{_+_, _<_};
 ghost use lib.Dec.{eqb, ltb, leb};
-ghost use lib.ListN.{getD, set};
+ghost use lib.ListN.{length, getD, set};
 ghost use Rattle.packing.specs.Plant.{NONE};
-ghost use Rattle.sound.specs.Marks.{noted};
+ghost use Rattle.sound.specs.Marks.{Zeros, noted};
+
+// 1,024 counts or marks, none of them set.
+pub fn zeros() -> [u16; 1024]
+    ensures { λ r. ⌜ (Zeros r) × (1024 ≡ length r) ⌝ }
+{
+    [0; 1024]
+}
 
 pub fn both(a: bool, b: bool) -> bool
     ensures { λ r. ⌜ r ≡ (a && b) ⌝ }
@@ -38,7 +45,7 @@ pub fn is_between(low: u16, high: u16, x: u16) -> bool
 }
 
 // Whether u is no holder, or its gateway is marked.
-pub fn free_or_marked(u: u16, mark: u8) -> bool
+pub fn free_or_marked(u: u16, mark: u16) -> bool
     ensures { λ r. ⌜ r ≡ (eqb u NONE || eqb mark 1) ⌝ }
 {
     if u == 65535 {
@@ -73,7 +80,7 @@ pub fn tally(counts: &mut [u16], x: u16)
 }
 
 // Marks v, where v has a place among the marks and u is its holder.
-pub fn note(v: u16, u: u16, holders: &[u16], marks: &mut [u8])
+pub fn note(v: u16, u: u16, holders: &[u16], marks: &mut [u16])
     ensures { λ _. ⌜ now (marks .exit) ≡ noted (now (holders .entry)) (now (marks .entry)) v u ⌝ }
 {
     let at = v as usize;

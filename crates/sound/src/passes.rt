@@ -15,7 +15,7 @@ ghost use Rattle.packing.specs.Count.{all};
 ghost use Rattle.sound.specs.Marks.{Zeros, Room, LinksPassed, HoldersPassed, OrderPassed};
 
 // The links: whether the ends of each differ and are below n. Marks each gateway whose holder is linked to it.
-pub fn over_links(n: u16, links: &[u16], holders: &[u16], marks: &mut [u8]) -> bool
+pub fn over_links(n: u16, links: &[u16], holders: &[u16], marks: &mut [u16]) -> bool
     requires { ⌜ Zeros (now marks) ⌝ }
     ensures { λ r. ⌜ LinksPassed n (now (links .entry)) (now (holders .entry)) (now (marks .exit)) r ⌝ }
 {
@@ -33,7 +33,7 @@ pub fn over_links(n: u16, links: &[u16], holders: &[u16], marks: &mut [u8]) -> b
 }
 
 // The holders: whether each is none or its gateway is marked. Counts how many each gateway holds.
-pub fn over_holders(n: usize, holders: &[u16], marks: &[u8], loads: &mut [u16]) -> bool
+pub fn over_holders(n: usize, holders: &[u16], marks: &[u16], loads: &mut [u16]) -> bool
     requires { ⌜ Room n (now holders) (now marks) (now loads) ⌝ }
     ensures { λ r. ⌜ HoldersPassed n (now (holders .entry)) (now (marks .entry)) (now (loads .exit)) r ⌝ }
 {

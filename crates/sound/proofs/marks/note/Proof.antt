@@ -1,7 +1,7 @@
 -- `note` meets its contract.
-use borrow.Author.Tests.{eq-eqb, ne-eqb, lt-ltb, le-ltb, lt-leb, le-leb}
-use lib.Seq.{set-out}
+use borrow.Author.Tests.{eq-eqb, ne-eqb, lt-ltb, le-ltb}
 use Rattle.sound.specs.Marks.{noted}
+use Rattle.sound.proofs.Walk.{noted-out}
 use borrow.Author.Needs.{needs}
 use Rattle.sound.proofs.marks.note.Statement.{statement}
 use Rattle.sound.proofs.marks.note.Tie as tie
@@ -11,14 +11,16 @@ unfolding noted
 returns c = simp (le-ltb _ _ (c .if1 .taken))
 
 returns-2 : tie.Need-returns-2
-unfolding noted
-returns-2 c = ?
+returns-2 c = noted-out _ _ _ _ (c .if2 .taken)
 
 mul-if3 : tie.Need-mul-if3
 mul-if3 c = search needs
 
 shared-slice-read-if3 : tie.Need-shared-slice-read-if3
 shared-slice-read-if3 c = search needs
+
+mul-marks : tie.Need-mul-marks
+mul-marks c = search needs
 
 slice-write-marks : tie.Need-slice-write-marks
 slice-write-marks c = search needs
@@ -42,6 +44,7 @@ note-spec =
     returns-2
     mul-if3
     shared-slice-read-if3
+    mul-marks
     slice-write-marks
     same-length
     returns-3

@@ -3,7 +3,7 @@ use borrow.Author.Needs.{needs}
 use Prim.Native.Nat.{_-_}
 use mathlib.Core.Bool.{_||_}
 use native.Mathlib.Omega.{arith}
-use lib.Dec.{eqb, ltb}
+use lib.Dec.{eqb}
 use lib.ListN.{getD}
 use Rattle.packing.specs.Plant.{NONE}
 use Rattle.sound.proofs.Tallies.{Counted, counted-start, counted-turn, counted-small, counted-end}
@@ -24,6 +24,9 @@ mul-u c = search needs
 
 shared-slice-read-u : tie.Need-shared-slice-read-u Inv-loop μ-loop
 shared-slice-read-u c = search needs
+
+mul-free-or-marked : tie.Need-mul-free-or-marked Inv-loop μ-loop
+mul-free-or-marked c = search needs
 
 shared-slice-read-free-or-marked : tie.Need-shared-slice-read-free-or-marked Inv-loop μ-loop
 shared-slice-read-free-or-marked c = search needs
@@ -65,6 +68,7 @@ over-holders-spec =
     loop-holds
     mul-u
     shared-slice-read-u
+    mul-free-or-marked
     shared-slice-read-free-or-marked
     free-or-marked-requires
     both-requires
