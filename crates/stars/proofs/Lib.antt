@@ -1,0 +1,2 @@
+-- Laws of the leader list.
+pub mod Examples

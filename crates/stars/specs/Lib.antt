@@ -1,0 +1,2 @@
+-- 01, "Reading": the leader list of a set of holders.
+pub mod Stars

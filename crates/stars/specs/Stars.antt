@@ -1,0 +1,80 @@
+-- 01, "Reading", rules 1 to 5. hs are the holders of n gateways; the arc into w comes from its holder.
+-- Pairing a run of a cycle from its start, with the first of an odd run joining the gateway before it, gives the same groups as rule 1 once the arcs into
+-- certain cycle gateways are cut: a run then ends in a leaf. proofs/Rules.antt states each rule as 01 writes it.
+use Prim.Native.Nat.{ℕ, zero, suc}
+use mathlib.Core.Bool.{Bool, false, not, cond, _&&_, _||_}
+use mathlib.Core.List.{List, [], _∷_, _++_}
+use lib.Dec.{eqb, ltb, leb}
+use Rattle.packing.specs.Count.{count, all, any}
+use Rattle.packing.specs.Plant.{NONE, at}
+use Rattle.packing.specs.Grouping.{memberCount}
+
+-- the smallest w below n with p; n where there is none
+unfoldable pub firstWith : ℕ → (ℕ → Bool) → ℕ
+firstWith zero p = zero
+firstWith (suc n) p = cond (any n p) (firstWith n p) (cond (p n) n (suc n))
+
+-- v's holder; what is no gateway has none
+unfoldable pub holder : ℕ → List ℕ → ℕ → ℕ
+holder n hs v = cond (ltb v n) (at hs v) NONE
+
+-- the gateway i arcs back from v
+unfoldable pub back : ℕ → List ℕ → ℕ → ℕ → ℕ
+back n hs zero v = v
+back n hs (suc i) v = holder n hs (back n hs i v)
+
+-- v stands on a cycle: some arcs back, at most n, is v again
+unfoldable pub onCycle : ℕ → List ℕ → ℕ → Bool
+onCycle n hs v = any n (λ i. eqb (back n hs (suc i) v) v)
+
+-- the next on the cycle after v
+unfoldable pub nextOnCycle : ℕ → List ℕ → ℕ → ℕ
+nextOnCycle n hs v = firstWith n (λ w. onCycle n hs w && eqb (at hs w) v)
+
+-- Rule 1, "a gateway leads those of its children that lead nobody", over the arcs that are kept: round f + 1 says that u leads if some child of it leads nobody in round f.
+-- n rounds go from the deepest upwards.
+unfoldable pub leadsIn : ℕ → ℕ → List ℕ → (ℕ → Bool) → ℕ → Bool
+leadsIn zero n hs kept u = false
+leadsIn (suc f) n hs kept u = any n (λ w. eqb (at hs w) u && kept w && not (leadsIn f n hs kept w))
+
+-- who leads by rule 1: "Children are tree arcs only, not the next on the cycle."
+unfoldable pub leadsInTrees : ℕ → List ℕ → ℕ → Bool
+leadsInTrees n hs = leadsIn n n hs (λ w. not (onCycle n hs w))
+
+-- v begins a cycle none of whose gateways lead: it is the lowest number on it (rule 3)
+unfoldable pub begins : ℕ → List ℕ → ℕ → Bool
+begins n hs v = onCycle n hs v && all n (λ i. not (leadsInTrees n hs (back n hs i v)) && leb v (back n hs i v))
+
+-- the arc into v is cut: v is on a cycle, and leads (rule 4: a run ends before it) or begins it (rule 3)
+unfoldable pub cut : ℕ → List ℕ → ℕ → Bool
+cut n hs v = (onCycle n hs v && leadsInTrees n hs v) || begins n hs v
+
+-- who leads by rules 1 to 4
+unfoldable pub leads : ℕ → List ℕ → ℕ → Bool
+leads n hs = leadsIn n n hs (λ w. not (cut n hs w))
+
+-- v's leader by rules 1 to 4: itself; or the holder whose arc to it is kept; or, for the first of an odd cycle none of whose gateways lead, the next on it, the middle one of three
+unfoldable pub leaderOf : ℕ → List ℕ → ℕ → ℕ
+leaderOf n hs v =
+    cond (leads n hs v) v
+    (cond (cut n hs v) (nextOnCycle n hs v) (cond (ltb (at hs v) n) (at hs v) NONE))
+
+-- Rule 5 over any grouping g: "in a group of two the lower number leads". leadsPair a b: of the pair a and b, a leads.
+unfoldable pub pairLeader : (ℕ → ℕ → Bool) → ℕ → ℕ → ℕ
+pairLeader leadsPair a b = cond (leadsPair a b) a b
+
+-- the one other than u with u's number as its entry
+unfoldable pub partner : ℕ → (ℕ → ℕ) → ℕ → ℕ
+partner n g u = firstWith n (λ w. eqb (g w) u && not (eqb w u))
+
+unfoldable pub ruleFive : (ℕ → ℕ → Bool) → ℕ → (ℕ → ℕ) → ℕ → ℕ
+ruleFive leadsPair n g v = cond (ltb (g v) n && eqb (memberCount n g (g v)) 1) (pairLeader leadsPair (g v) (partner n g (g v))) (g v)
+
+-- the leader list by all five rules, one entry for each gateway
+unfoldable pub leaderList : ℕ → List ℕ → ℕ → ℕ
+leaderList n hs = ruleFive ltb n (leaderOf n hs)
+
+-- the list of f's values below n
+unfoldable pub listOf : ℕ → (ℕ → ℕ) → List ℕ
+listOf zero f = []
+listOf (suc n) f = listOf n f ++ (f n ∷ [])
