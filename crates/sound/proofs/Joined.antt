@@ -4,13 +4,13 @@ use mathlib.Core.Path.{_≡_, refl, sym, ap, _∙_}
 use mathlib.Core.Bool.{Bool, true, false, _&&_, _||_}
 use mathlib.Core.List.{List}
 use native.Mathlib.Omega.{arith}
-use lib.Dec.{eqb, leb}
+use lib.Dec.{eqb, ltb, leb}
 use lib.ListN.{length, getD}
-use borrow.Author.Tests.{eqb-true, eq-eqb, leb-true, le-leb}
+use borrow.Author.Tests.{eqb-true, eq-eqb, lt-ltb, leb-true, le-leb}
 use Rattle.packing.specs.Count.{count, all}
 use Rattle.packing.specs.Plant.{NONE, at, common, firstLinks, linked}
 use Rattle.packing.specs.Holders.{holds}
-use Rattle.packing.proofs.Tests.{tests, all-ext, iff-test, and-l, and-r, and-i}
+use Rattle.packing.proofs.Tests.{tests, all-ext, all-intro, or-l, iff-test, and-l, and-r, and-i}
 use Rattle.sound.specs.Sound.{numbersSound, listsLong, endsSound, onceEach, holdersLinked, holdersWithin, onlyPlacedHeld, isSound}
 use Rattle.sound.specs.Marks.{Tally, LinksPassed, HoldersPassed, OrderPassed}
 
@@ -71,3 +71,13 @@ module _ (n t m k : ℕ) (ls os hs : List ℕ) where
     where
       shuffle : (a b c d p : Bool) → ((b && p) && (a && c && d)) ≡ (a && b && c && d && p)
       shuffle a b c d p = iff-test ((b && p) && (a && c && d)) (a && b && c && d && p) (λ e. search tests depth 8) (λ e. search tests depth 8)
+
+-- with all n placed, only the order itself is asked
+pub order-only : (n : ℕ) (os hs : List ℕ) {r : Bool} → r ≡ (onceEach n os && onlyPlacedHeld n n os hs) → r ≡ onceEach n os
+unfolding onlyPlacedHeld
+order-only n os hs e =
+    e ∙ rw (all-intro n (λ i. ltb i n || eqb (at hs (at os i)) NONE) (λ i l. or-l (ltb i n) (eqb (at hs (at os i)) NONE) (lt-ltb i n l))) (and-true (onceEach n os))
+  where
+    and-true : (b : Bool) → (b && true) ≡ b
+    and-true true = refl
+    and-true false = refl

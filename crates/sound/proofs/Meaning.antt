@@ -76,7 +76,7 @@ mean-ends n (a ∷ b ∷ l) h =
     let f = h a b (or-l (joins a b a b) (linked l a b) (or-l (eqb a a && eqb b b) (eqb a b && eqb b a) (and-i (eqb a a) (eqb b b) (eq-eqb a a refl) (eq-eqb b b refl)))) in
     rw (ne-eqb a b (f .2), lt-ltb a n (f .0), lt-ltb b n (f .1)) (mean-ends n l (λ x y j. h x y (or-r (joins a b x y) (linked l x y) j)))
 
-once-mean : (n : ℕ) (os : List ℕ) → onceEach n os ≡ true → IsOrder n (at os)
+pub once-mean : (n : ℕ) (os : List ℕ) → onceEach n os ≡ true → IsOrder n (at os)
 unfolding onceEach
 once-mean n os e = record { below = below; once = once }
   where
@@ -98,7 +98,7 @@ once-mean n os e = record { below = below; once = once }
     once : (i j : ℕ) → i < n → j < n → at os i ≡ at os j → i ≡ j
     once i j k l q = count-one n (λ w. eqb (at os w) (at os j)) (omega (arith, one (at os j) (below j l))) i j k l (eq-eqb (at os i) (at os j) q) (eq-eqb (at os j) (at os j) refl)
 
-mean-once : (n : ℕ) (os : List ℕ) → IsOrder n (at os) → onceEach n os ≡ true
+pub mean-once : (n : ℕ) (os : List ℕ) → IsOrder n (at os) → onceEach n os ≡ true
 unfolding onceEach
 mean-once n os o = all-intro n (λ v. eqb (count n (λ i. eqb (at os i) v)) 1) (λ v l. eq-eqb _ 1 (one v l))
   where

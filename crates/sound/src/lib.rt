@@ -63,6 +63,14 @@ fn order_sound(n: u16, k: u16, order: &[u16], holders: &[u16]) -> bool
     marks::both(once, placed)
 }
 
+// Whether the first n of a list hold 0 to n - 1 once each.
+pub fn is_order(n: u16, numbers: &[u16]) -> bool
+    requires { ⌜ (n ≤ 1024) × (n ≤ length (now numbers)) ⌝ }
+    ensures { λ r. ⌜ r ≡ onceEach n (now (numbers .entry)) ⌝ }
+{
+    order_sound(n, n, numbers, numbers)
+}
+
 // 26's condition is that this is false. Any numbers, and lists of any lengths and contents.
 pub fn is_sound(
     n: u16,

@@ -9,13 +9,6 @@ use Rattle.sound.proofs.Meaning.{numbers-mean, lists-mean}
 use borrow.Author.Needs.{needs}
 use Rattle.sound.proofs.is_sound.Statement.{statement}
 use Rattle.sound.proofs.is_sound.Tie as tie
-use Rattle.sound.proofs.is_sound.Reads as reads
-use Rattle.sound.proofs.is_sound.Lts as lts
-use Rattle.sound.proofs.holders_sound.Reads as holders-sound-reads
-use Rattle.sound.proofs.lists_long.Reads as lists-long-reads
-use Rattle.sound.proofs.marks.both.Reads as both-reads
-use Rattle.sound.proofs.numbers_sound.Reads as numbers-sound-reads
-use Rattle.sound.proofs.order_sound.Reads as order-sound-reads
 
 numbers-sound-requires : tie.Need-numbers-sound-requires
 numbers-sound-requires c κs = search needs

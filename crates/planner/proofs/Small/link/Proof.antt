@@ -1,0 +1,85 @@
+-- `link` meets its contract.
+use native.Mathlib.Omega.{arith}
+use mathlib.Core.Path.{sym, _∙_}
+use borrow.Author.Tests.{not-true, not-false}
+use lib.ListN.{length-set}
+use Rattle.sound.proofs.Meaning.{sound-means}
+use Rattle.planner.specs.Calls.{linkRefusal}
+use Rattle.planner.proofs.Answers.{unsound-number, sound-number, link-fits, link-refused, link-accepted}
+use borrow.Author.Needs.{needs}
+use Rattle.planner.proofs.Small.link.Statement.{statement}
+use Rattle.planner.proofs.Small.link.Tie as tie
+
+is-sound-requires : tie.Need-is-sound-requires
+is-sound-requires c κs = search needs
+
+same-length : tie.Need-same-length
+same-length c = search needs
+
+returns : tie.Need-returns
+unfolding linkRefusal
+returns c = link-refused _ _ _ _ _ _ (unsound-number _ (c .before .is-sound .ensures) (not-true _ (c .if1 .taken))) (λ z. omega arith)
+
+of-link-requires : tie.Need-of-link-requires
+of-link-requires c κs = sound-means _ _ _ _ _ _ _ (sym (c .before .before .is-sound .ensures) ∙ not-false _ (c .before .if1 .left)) .links-long
+
+same-length-2 : tie.Need-same-length-2
+same-length-2 c = search needs
+
+returns-2 : tie.Need-returns-2
+unfolding linkRefusal
+returns-2 c = let test = c .before .before .before in
+    link-refused _ _ _ _ _ _ (sound-number (test .before .is-sound .ensures) (not-false _ (test .if1 .left)) (c .before .of-link .ensures)) (c .if2 .taken)
+
+cast-at : tie.Need-cast-at
+cast-at c = search needs
+
+mul-at : tie.Need-mul-at
+mul-at c = search needs
+
+mul-links : tie.Need-mul-links
+mul-links c = search needs
+
+slice-write-links : tie.Need-slice-write-links
+slice-write-links c = omega (arith, link-fits _ _ _ _ _ _ _ (c .before .of-link .ensures) (c .if2 .left) .6)
+
+add-links : tie.Need-add-links
+add-links c = search needs
+
+mul-links-2 : tie.Need-mul-links-2
+mul-links-2 c = search needs
+
+slice-write-links-2 : tie.Need-slice-write-links-2
+slice-write-links-2 c = simp length-set (omega (arith, link-fits _ _ _ _ _ _ _ (c .before .of-link .ensures) (c .if2 .left) .6))
+
+add-t23 : tie.Need-add-t23
+add-t23 c = let sound = sound-means _ _ _ _ _ _ _ (sym (c .before .before .before .before .is-sound .ensures) ∙ not-false _ (c .before .before .before .if1 .left)) in omega (arith, sound .few-links)
+
+same-length-3 : tie.Need-same-length-3
+same-length-3 c = search needs
+
+returns-3 : tie.Need-returns-3
+unfolding linkRefusal
+returns-3 c = let test = c .before .before .before in
+    link-accepted _ _ _ _ _ _ (sound-number (test .before .is-sound .ensures) (not-false _ (test .if1 .left)) (c .before .of-link .ensures)) (c .if2 .left)
+
+pub link-spec : {M : Type 1} → statement M
+link-spec =
+    tie.close
+    (tie.spec
+    is-sound-requires
+    same-length
+    returns
+    of-link-requires
+    same-length-2
+    returns-2
+    cast-at
+    mul-at
+    mul-links
+    slice-write-links
+    add-links
+    mul-links-2
+    slice-write-links-2
+    add-t23
+    same-length-3
+    returns-3)

@@ -1,0 +1,59 @@
+-- `order` meets its contract.
+use native.Mathlib.Omega.{arith}
+use mathlib.Core.Path.{sym, _∙_, ap}
+use borrow.Author.Tests.{not-true, not-false}
+use Rattle.sound.proofs.Meaning.{sound-means}
+use Rattle.planner.specs.Calls.{orderRefusal}
+use Rattle.planner.proofs.Answers.{unsound-number, sound-number, order-fits, order-refused, order-accepted}
+use borrow.Author.Needs.{needs}
+use Rattle.planner.proofs.Small.order.Statement.{statement}
+use Rattle.planner.proofs.Small.order.Tie as tie
+
+is-sound-requires : tie.Need-is-sound-requires
+is-sound-requires c κs = search needs
+
+same-length : tie.Need-same-length
+same-length c = search needs
+
+returns : tie.Need-returns
+unfolding orderRefusal
+returns c = order-refused _ _ _ _ _ (unsound-number _ (c .before .is-sound .ensures) (not-true _ (c .if1 .taken))) (λ z. omega arith)
+
+of-order-requires : tie.Need-of-order-requires
+of-order-requires c κs = sound-means _ _ _ _ _ _ _ (sym (c .before .is-sound .ensures) ∙ not-false _ (c .if1 .left)) .few
+
+same-length-2 : tie.Need-same-length-2
+same-length-2 c = search needs
+
+returns-2 : tie.Need-returns-2
+unfolding orderRefusal
+returns-2 c = let test = c .before .before in
+    order-refused _ _ _ _ _ (sound-number (test .before .is-sound .ensures) (not-false _ (test .if1 .left)) (c .before .of-order .ensures)) (c .if2 .taken)
+
+with-list-requires : tie.Need-with-list-requires
+with-list-requires c κs = let test = c .before .before .before in
+    let sound = sound-means _ _ _ _ _ _ _ (sym (test .before .is-sound .ensures) ∙ not-false _ (test .if1 .left)) in
+    omega (arith, sound .order-long, order-fits _ _ _ (c .before .before .of-order .ensures) (c .before .if2 .left) .1)
+
+same-length-3 : tie.Need-same-length-3
+same-length-3 c = search needs
+
+returns-3 : tie.Need-returns-3
+unfolding orderRefusal
+returns-3 c = let asked = c .before .before .before .before .before in
+    let test = asked .before in
+    order-accepted _ _ _ _ _ (sound-number (test .before .is-sound .ensures) (not-false _ (test .if1 .left)) (asked .of-order .ensures)) (c .before .before .before .before .if2 .left) (order-fits _ _ _ (asked .of-order .ensures) (c .before .before .before .before .if2 .left) .1) (c .before .before .with-list .ensures)
+
+pub order-spec : {M : Type 1} → statement M
+order-spec =
+    tie.close
+    (tie.spec
+    is-sound-requires
+    same-length
+    returns
+    of-order-requires
+    same-length-2
+    returns-2
+    with-list-requires
+    same-length-3
+    returns-3)

@@ -1,0 +1,31 @@
+-- `of_order` meets its contract: each return rewrites by the tests that led there.
+use mathlib.Core.Path.{sym, _∙_, ap}
+use mathlib.Core.Bool.{not}
+use borrow.Author.Tests.{lt-ltb, le-ltb, eq-eqb, ne-eqb, not-true, not-false}
+use Rattle.planner.specs.Refusals.{orderConditions}
+use Rattle.planner.proofs.Orders.{order-test}
+use borrow.Author.Needs.{needs}
+use Rattle.planner.proofs.refusals.of_order.Statement.{statement}
+use Rattle.planner.proofs.refusals.of_order.Tie as tie
+
+returns : tie.Need-returns
+unfolding orderConditions
+returns c = simp (lt-ltb _ _ (c .if1 .taken))
+
+returns-2 : tie.Need-returns-2
+unfolding orderConditions
+returns-2 c = simp (le-ltb _ _ (c .before .if1 .left), ne-eqb _ _ (c .if2 .taken))
+
+is-order-requires : tie.Need-is-order-requires
+is-order-requires c κs = search needs
+
+returns-3 : tie.Need-returns-3
+unfolding orderConditions
+returns-3 c = simp (le-ltb _ _ (c .before .before .before .if1 .left), eq-eqb _ _ (c .before .before .if2 .left), ← order-test, ← c .before .is-order .ensures, c .if3 .taken)
+
+returns-4 : tie.Need-returns-4
+unfolding orderConditions
+returns-4 c = simp (le-ltb _ _ (c .before .before .before .if1 .left), eq-eqb _ _ (c .before .before .if2 .left), ← order-test, ← c .before .is-order .ensures, c .if3 .left)
+
+pub of-order-spec : {M : Type 1} → statement M
+of-order-spec = tie.close (tie.spec returns returns-2 is-order-requires returns-3 returns-4)

@@ -1,0 +1,37 @@
+-- 01, "Refused for what was handed in" and "Refused for where the record is": each call's conditions in the turn of "First to be named".
+-- The conditions without 26 speak of the links accepted so far, their number and the placings so far, not of a record.
+use Prim.Native.Nat.{ℕ, _+_, _*_}
+use mathlib.Core.Bool.{Bool, true, false, not, _||_}
+use mathlib.Core.List.{List}
+use lib.Dec.{eqb, ltb, leb}
+use lib.ListN.{length}
+use Rattle.packing.specs.Plant.{linked}
+use Rattle.planner.specs.Lists.{repeatsOrOutside}
+
+-- the number e if its condition holds, else what the later conditions give; 0 stands for accepted
+abbrev pub refuse : Bool → ℕ → ℕ → ℕ
+refuse true e later = e
+refuse false e later = later
+
+-- open: 1, 2, 10
+unfoldable pub openRefusal : ℕ → ℕ → List ℕ → List ℕ → ℕ
+openRefusal n t os hs =
+    refuse (ltb 1024 n) 1
+    (refuse (ltb t 2 || ltb 16 t) 2
+    (refuse (ltb (length os) n || ltb (length hs) n) 10 0))
+
+-- link, after 26: 22, 3, 4, 20, 21. l are the m links so far; room is the length of the lent link list.
+unfoldable pub linkConditions : ℕ → ℕ → ℕ → List ℕ → ℕ → ℕ → ℕ → ℕ
+linkConditions n k m l room a b =
+    refuse (ltb 0 k) 22
+    (refuse (leb n a || leb n b) 3
+    (refuse (eqb a b) 4
+    (refuse (linked l a b) 20
+    (refuse (eqb m 8192 || ltb room (2 * m + 2)) 21 0))))
+
+-- order, after 26: 22, 5, 6
+unfoldable pub orderConditions : ℕ → ℕ → List ℕ → ℕ
+orderConditions n k numbers =
+    refuse (ltb 0 k) 22
+    (refuse (not (eqb (length numbers) n)) 5
+    (refuse (repeatsOrOutside n numbers) 6 0))

@@ -1,0 +1,42 @@
+// Writes the front of a lent list, and nothing past it.
+ghost use mathlib.Core.Path.{_≡_};
+ghost use Prim.Native.Nat.{_≤_};
+ghost use lib.ListN.{length, replicate};
+ghost use Rattle.packing.specs.Plant.{NONE};
+ghost use Rattle.planner.specs.Lists.{upTo, written};
+
+// 0, 1, .., n - 1
+pub fn with_places(n: usize, list: &mut [u16])
+    requires { ⌜ (n ≤ 1024) × (n ≤ length (now list)) ⌝ }
+    ensures { λ _. ⌜ now (list .exit) ≡ written n (upTo n) (now (list .entry)) ⌝ }
+{
+    let mut i: usize = 0;
+    while i < n {
+        list[i] = i as u16;
+        i += 1;
+    }
+}
+
+// 65535 in each of the first n places
+pub fn with_none(n: usize, list: &mut [u16])
+    requires { ⌜ n ≤ length (now list) ⌝ }
+    ensures { λ _. ⌜ now (list .exit) ≡ written n (replicate n NONE) (now (list .entry)) ⌝ }
+{
+    let mut i: usize = 0;
+    while i < n {
+        list[i] = 65535;
+        i += 1;
+    }
+}
+
+// another list's numbers
+pub fn with_list(numbers: &[u16], list: &mut [u16])
+    requires { ⌜ length (now numbers) ≤ length (now list) ⌝ }
+    ensures { λ _. ⌜ now (list .exit) ≡ written (length (now (numbers .entry))) (now (numbers .entry)) (now (list .entry)) ⌝ }
+{
+    let mut i: usize = 0;
+    while i < numbers.len() {
+        list[i] = numbers[i];
+        i += 1;
+    }
+}

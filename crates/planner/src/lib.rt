@@ -1,0 +1,107 @@
+// The calls of 01 on a record: the small part as a struct that goes in by value and comes back beside the refusal number, and three lent lists.
+mod fill;
+pub mod links;
+mod refusals;
+
+ghost use mathlib.Core.Path.{_≡_};
+ghost use Rattle.planner.specs.Calls.{openAnswer, openOrder, openHolders, linkAnswer, linkLinks, orderAnswer, orderOrder};
+
+// 01's small part: n gateways, limit T, m links, k placed.
+pub struct Small {
+    pub n: u16,
+    pub t: u8,
+    pub m: u16,
+    pub k: u16,
+}
+
+// The refusal's number, or 0 for accepted, and the small part after the call.
+pub struct Answer {
+    pub refusal: u32,
+    pub small: Small,
+}
+
+impl Small {
+    // Order 0, 1, .., no holder, no link, none placed. The links are lent with the other lists; nothing of them is read or written.
+    pub fn open(n: u16, t: u8, links: &[u16], order: &mut [u16], holders: &mut [u16]) -> Answer
+        ensures answer { λ r. ⌜ r ≡ openAnswer n t (now (order .entry)) (now (holders .entry)) ⌝ }
+        ensures order { λ _. ⌜ now (order .exit) ≡ openOrder n t (now (order .entry)) (now (holders .entry)) ⌝ }
+        ensures holders { λ _. ⌜ now (holders .exit) ≡ openHolders n t (now (order .entry)) (now (holders .entry)) ⌝ }
+    {
+        let refusal = refusals::of_open(n, t, order, holders);
+        if refusal != 0 {
+            return Answer {
+                refusal,
+                small: Small {
+                    n: 0,
+                    t: 2,
+                    m: 0,
+                    k: 0,
+                },
+            };
+        }
+        fill::with_places(n as usize, order);
+        fill::with_none(n as usize, holders);
+        Answer {
+            refusal: 0,
+            small: Small { n, t, m: 0, k: 0 },
+        }
+    }
+
+    // Appends the link a-b.
+    pub fn link(self, links: &mut [u16], order: &[u16], holders: &[u16], a: u16, b: u16) -> Answer
+        ensures answer { λ r. ⌜ r ≡ linkAnswer self (now (links .entry)) (now (order .entry)) (now (holders .entry)) a b ⌝ }
+        ensures links { λ _. ⌜ now (links .exit) ≡ linkLinks self (now (links .entry)) (now (order .entry)) (now (holders .entry)) a b ⌝ }
+    {
+        let n = self.n;
+        let t = self.t;
+        let m = self.m;
+        let k = self.k;
+        if !sound::is_sound(n, t, m, k, links, order, holders) {
+            return Answer {
+                refusal: 26,
+                small: self,
+            };
+        }
+        let refusal = refusals::of_link(n, k, m, links, a, b);
+        if refusal != 0 {
+            return Answer {
+                refusal,
+                small: self,
+            };
+        }
+        let at = 2 * (m as usize);
+        links[at] = a;
+        links[at + 1] = b;
+        Answer {
+            refusal: 0,
+            small: Small { n, t, m: m + 1, k },
+        }
+    }
+
+    // Replaces the order.
+    pub fn order(self, links: &[u16], order: &mut [u16], holders: &[u16], numbers: &[u16]) -> Answer
+        ensures answer { λ r. ⌜ r ≡ orderAnswer self (now (links .entry)) (now (order .entry)) (now (holders .entry)) (now (numbers .entry)) ⌝ }
+        ensures order { λ _. ⌜ now (order .exit) ≡ orderOrder self (now (links .entry)) (now (order .entry)) (now (holders .entry)) (now (numbers .entry)) ⌝ }
+    {
+        let n = self.n;
+        let k = self.k;
+        if !sound::is_sound(n, self.t, self.m, k, links, order, holders) {
+            return Answer {
+                refusal: 26,
+                small: self,
+            };
+        }
+        let refusal = refusals::of_order(n, k, numbers);
+        if refusal != 0 {
+            return Answer {
+                refusal,
+                small: self,
+            };
+        }
+        fill::with_list(numbers, order);
+        Answer {
+            refusal: 0,
+            small: self,
+        }
+    }
+}

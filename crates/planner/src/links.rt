@@ -1,0 +1,38 @@
+// Looking a link up.
+ghost use mathlib.Core.Path.{_≡_};
+ghost use mathlib.Core.Bool.{_&&_};
+ghost use lib.Dec.{eqb};
+ghost use Rattle.packing.specs.Plant.{joins, linked};
+
+fn same(a: u16, b: u16, x: u16, y: u16) -> bool
+    ensures { λ r. ⌜ r ≡ (eqb a x && eqb b y) ⌝ }
+{
+    if a == x {
+        return b == y;
+    }
+    false
+}
+
+// Whether the link a-b joins x and y, either way round.
+fn is_joining(a: u16, b: u16, x: u16, y: u16) -> bool
+    ensures { λ r. ⌜ r ≡ joins a b x y ⌝ }
+{
+    if same(a, b, x, y) {
+        return true;
+    }
+    same(a, b, y, x)
+}
+
+// Whether x and y are linked by a list of two numbers for each link.
+pub fn is_linked(links: &[u16], x: u16, y: u16) -> bool
+    ensures { λ r. ⌜ r ≡ linked (now (links .entry)) x y ⌝ }
+{
+    let mut i: usize = 0;
+    while i + 1 < links.len() {
+        if is_joining(links[i], links[i + 1], x, y) {
+            return true;
+        }
+        i += 2;
+    }
+    false
+}

@@ -1,0 +1,75 @@
+// The first refusal of each call, in 01's turn; 0 where no condition holds.
+use crate::links::is_linked;
+ghost use mathlib.Core.Path.{_≡_};
+ghost use Prim.Native.Nat.{_≤_, _*_};
+ghost use lib.ListN.{length};
+ghost use Rattle.packing.specs.Plant.{firstLinks};
+ghost use Rattle.planner.specs.Refusals.{openRefusal, linkConditions, orderConditions};
+
+pub fn of_open(n: u16, t: u8, order: &[u16], holders: &[u16]) -> u32
+    ensures { λ r. ⌜ r ≡ openRefusal n t (now (order .entry)) (now (holders .entry)) ⌝ }
+{
+    if 1024 < n {
+        return 1;
+    }
+    if t < 2 {
+        return 2;
+    }
+    if 16 < t {
+        return 2;
+    }
+    if order.len() < n as usize {
+        return 10;
+    }
+    if holders.len() < n as usize {
+        return 10;
+    }
+    0
+}
+
+// After 26. links is the whole lent list, of which the first m links count.
+pub fn of_link(n: u16, k: u16, m: u16, links: &[u16], a: u16, b: u16) -> u32
+    requires { ⌜ 2 * m ≤ length (now links) ⌝ }
+    ensures { λ r. ⌜ r ≡ linkConditions n k m (firstLinks m (now (links .entry))) (length (now (links .entry))) a b ⌝ }
+{
+    if 0 < k {
+        return 22;
+    }
+    if n <= a {
+        return 3;
+    }
+    if n <= b {
+        return 3;
+    }
+    if a == b {
+        return 4;
+    }
+    let end = 2 * (m as usize);
+    if is_linked(&links[..end], a, b) {
+        return 20;
+    }
+    if m == 8192 {
+        return 21;
+    }
+    if links.len() < end + 2 {
+        return 21;
+    }
+    0
+}
+
+// After 26.
+pub fn of_order(n: u16, k: u16, numbers: &[u16]) -> u32
+    requires { ⌜ n ≤ 1024 ⌝ }
+    ensures { λ r. ⌜ r ≡ orderConditions n k (now (numbers .entry)) ⌝ }
+{
+    if 0 < k {
+        return 22;
+    }
+    if numbers.len() != n as usize {
+        return 5;
+    }
+    if !sound::is_order(n, numbers) {
+        return 6;
+    }
+    0
+}
