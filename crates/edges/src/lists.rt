@@ -1,0 +1,66 @@
+// Comparing lists, filling one, and the front part of one.
+ghost use Prim.Native.Nat.{_<_};
+
+// A number that tells most lists apart, for a list of which no copy is at hand.
+pub fn digest(list: &[u16]) -> u64 {
+    let mut sum: u64 = 0;
+    let mut i: usize = 0;
+    while i < list.len() {
+        sum = (sum * 31 + wide(list[i])) % 1000003;
+        i += 1;
+    }
+    sum
+}
+
+fn wide(x: u16) -> u64
+    ensures { λ r. ⌜ r < 65536 ⌝ }
+{
+    x as u64
+}
+
+// The first len entries, or the whole list where it has fewer.
+pub fn front(list: &[u16], len: usize) -> &[u16] {
+    if len <= list.len() {
+        return &list[..len];
+    }
+    list
+}
+
+pub fn front_mut(list: &mut [u16], len: usize) -> &mut [u16] {
+    if len <= list.len() {
+        return &mut list[..len];
+    }
+    list
+}
+
+pub fn same(a: &[u16], b: &[u16]) -> bool {
+    if a.len() != b.len() {
+        return false;
+    }
+    let mut i: usize = 0;
+    while i < a.len() {
+        if a[i] != b[i] {
+            return false;
+        }
+        i += 1;
+    }
+    true
+}
+
+// 0, 1, 2, ..
+pub fn count_up(list: &mut [u16]) {
+    let mut i: usize = 0;
+    while i < list.len() {
+        list[i] = (i % 65536) as u16;
+        i += 1;
+    }
+}
+
+// 0, 1, 0, 1, ..: the same link over and over
+pub fn repeat_link(list: &mut [u16]) {
+    let mut i: usize = 0;
+    while i < list.len() {
+        list[i] = (i % 2) as u16;
+        i += 1;
+    }
+}
