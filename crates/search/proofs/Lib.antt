@@ -2,3 +2,6 @@
 pub mod Examples
 pub mod Queue
 pub mod Loads
+pub mod Shifting
+pub mod States
+pub mod Turns

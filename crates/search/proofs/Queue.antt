@@ -1,5 +1,5 @@
 -- Laws of lists of gateways: membership by place, and what a gateway holds.
-use Prim.Native.Nat.{ℕ, zero, suc, _+_, _<_, _≤_}
+use Prim.Native.Nat.{ℕ, zero, suc, _+_, _-_, _<_, _≤_}
 use mathlib.Core.Path.{_≡_, refl, sym, ap, _∙_}
 use mathlib.Core.Logic.{⊎-elim}
 use mathlib.Core.Bool.{Bool, true, false, cond, _&&_, _||_, or-false, or-assoc, false≢true}
@@ -8,9 +8,9 @@ use native.Mathlib.Nat.{not-suc-le-zero}
 use native.Mathlib.Numerals.{add-one}
 use native.Mathlib.Omega.{arith}
 use lib.Dec.{eqb, ltb}
-use lib.ListN.{length, getD, set, take, length-append, length-set}
-use lib.Seq.{take-suc-set}
-use borrow.Author.Tests.{eqb-true, eq-eqb, ne-eqb, lt-ltb, ltb-true}
+use lib.ListN.{length, getD, set, take, length-append, length-set, List·getD-append}
+use lib.Seq.{take-suc-set, getD-append-add}
+use borrow.Author.Tests.{eqb-true, eq-eqb, ne-eqb, lt-ltb, ltb-true, ltb-false}
 use Rattle.packing.specs.Count.{pick, sum, count}
 use Rattle.packing.specs.Plant.{at}
 use Rattle.packing.specs.Holders.{holds}
@@ -37,6 +37,16 @@ pub member-append : (l k : List ℕ) (y : ℕ) → memberOf (l ++ k) y ≡ (memb
 unfolding memberOf
 member-append [] k y = refl
 member-append (a ∷ l) k y = rw (member-append l k y) (sym (or-assoc (eqb a y) (memberOf l y) (memberOf k y)))
+
+-- what stands at a place of two lists stands in the first, or so far behind it in the second
+pub append-at : {A : Type 0} (l k : List ℕ) (i : ℕ) → i < length (l ++ k) → (i < length l → at (l ++ k) i ≡ at l i → A)
+    → ((j : ℕ) → j < length k → i ≡ length l + j → at (l ++ k) i ≡ at k j → A) → A
+append-at l k i h front back =
+    by-bool (ltb i (length l)) (λ e. let p = ltb-true _ _ e in front p (List·getD-append l k 0 i p))
+    (λ e.
+    let q : length l ≤ i = ltb-false _ _ e in
+    let j : i ≡ length l + (i - length l) = omega arith in
+    back (i - length l) (omega (arith, length-append l k)) j (ap (at (l ++ k)) j ∙ getD-append-add l k (i - length l) 0))
 
 -- u holds one more below suc v where v is held by u
 pub holds-suc : (v : ℕ) (h : ℕ → ℕ) (u : ℕ) → holds (v + 1) h u ≡ holds v h u + pick (eqb (h v) u) 1

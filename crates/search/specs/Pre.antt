@@ -37,9 +37,10 @@ pub record Going (n : ℕ) (hs queue from : List ℕ) : Type 0 where
   pub room : length queue + count n (waiting n hs from) ≤ n
   pub below : (i : ℕ) → i < length queue → at queue i < n
 
--- .. with the queue in the first places of a lent list that has n
-pub record Ready (n : ℕ) (hs queue : List ℕ) (tail : ℕ) (from : List ℕ) : Type 0 where
+-- .. with the queue in the first places of a lent list that has n, where the gateway x is to look at its neighbours
+pub record Ready (n x : ℕ) (hs queue : List ℕ) (tail : ℕ) (from : List ℕ) : Type 0 where
   pub going : Going n hs (take tail queue) from
+  pub gateway : x < n
   pub holders : n ≤ length hs
   pub places : n ≤ length queue
   pub within : tail ≤ length queue
@@ -75,3 +76,9 @@ pub record Placeable (n : ℕ) (hs : List ℕ) (v : ℕ) : Type 0 where
   pub holders : n ≤ length hs
   pub inside : v < n
   pub free : held n (at hs) v ≡ false
+
+-- .. with a queue of n places and marks of nobody to work in
+pub record Settleable (n : ℕ) (hs : List ℕ) (v : ℕ) (queue from : List ℕ) : Type 0 where
+  pub placeable : Placeable n hs v
+  pub places : n ≤ length queue
+  pub unseen : from ≡ replicate n NONE

@@ -38,7 +38,7 @@ fn look(
     tail: usize,
     from: &mut [u16],
 ) -> Walked
-    requires { ⌜ Ready n (now holders) (now queue) tail (now from) ⌝ }
+    requires { ⌜ Ready n x (now holders) (now queue) tail (now from) ⌝ }
     ensures { λ r. ⌜ Is r (now (queue .exit)) (now (from .exit)) (model.look n (common t) (now (holders .entry)) x u (take tail (now (queue .entry))) (now (from .entry))) ⌝ }
 {
     if entry(from, u) != 65535 {
@@ -62,7 +62,7 @@ fn visit(
     tail: usize,
     from: &mut [u16],
 ) -> Walked
-    requires { ⌜ Ready n (now holders) (now queue) tail (now from) ⌝ }
+    requires { ⌜ Ready n x (now holders) (now queue) tail (now from) ⌝ }
     ensures { λ r. ⌜ Is r (now (queue .exit)) (now (from .exit)) (model.visit n (common t) (now (holders .entry)) x (neighbours (now (links .entry)) x) (more (take tail (now (queue .entry))) (now (from .entry)))) ⌝ }
 {
     let mut end = tail;

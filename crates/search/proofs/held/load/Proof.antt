@@ -1,45 +1,42 @@
+-- `load` meets its contract: the laws of Loads.
+use borrow.Author.Needs.{needs}
+use Prim.Native.Nat.{_-_}
+use mathlib.Core.Logic.{⊎-elim}
+use Rattle.search.proofs.Loads.{Counted, count-start, count-one, count-pass, count-end}
 use Rattle.search.proofs.held.load.Statement.{statement}
 use Rattle.search.proofs.held.load.Tie as tie
-use Rattle.search.proofs.held.load.Reads as reads
-use Rattle.search.proofs.held.load.Lts as lts
 
 abbrev Inv-loop : tie.InvT-loop
-Inv-loop n u holders k₀ v₀ k v = ?
+Inv-loop n u holders k₀ v₀ k v = Counted n u holders k v
 
 abbrev μ-loop : tie.MeasureT-loop
-μ-loop n u holders k₀ v₀ k v = ?
+μ-loop n u holders k₀ v₀ k v = n - v
 
--- src/held.rt:16:5
 loop-holds : tie.Need-loop-holds Inv-loop μ-loop
-loop-holds c = ?
+loop-holds c = count-start _ _ _
 
--- src/held.rt:17:12
 mul-if1 : tie.Need-mul-if1 Inv-loop μ-loop
-mul-if1 c = ?
+mul-if1 c = search needs
 
--- src/held.rt:17:12
 shared-slice-read-if1 : tie.Need-shared-slice-read-if1 Inv-loop μ-loop
-shared-slice-read-if1 c = ?
+shared-slice-read-if1 c = search needs
 
--- src/held.rt:18:13
 add-k : tie.Need-add-k Inv-loop μ-loop
-add-k c = ?
+add-k c = search needs
 
--- src/held.rt:20:9
 add-v : tie.Need-add-v Inv-loop μ-loop
-add-v c = ?
+add-v c = search needs
 
--- src/held.rt:16:5
 loop-less : tie.Need-loop-less Inv-loop μ-loop
-loop-less c = ?
+loop-less c = search needs
 
--- src/held.rt:16:5
 loop-again : tie.Need-loop-again Inv-loop μ-loop
-loop-again c = ?
+loop-again c = let turn = c .before .before in
+    ⊎-elim (λ w. rw (w .1) (count-one _ _ _ (turn .before .loop .inv) (turn .loop-test .taken) (w .0 .taken)))
+    (λ w. rw (w .1) (count-pass _ _ _ (turn .before .loop .inv) (turn .loop-test .taken) (w .0 .left))) (c .if1 .came)
 
--- src/held.rt:10:1
 returns : tie.Need-returns Inv-loop μ-loop
-returns c = ?
+returns c = count-end _ _ _ (c .before .loop .inv) (c .loop-test .left)
 
 pub load-spec : {M : Type 1} → statement M
 load-spec =

@@ -1,59 +1,54 @@
+-- `shift_back` meets its contract: the laws of Shifting.
+use borrow.Author.Needs.{needs}
+use Prim.Native.Nat.{_-_}
+use Rattle.search.proofs.Shifting.{Rounds, rounds-start, rounds-turn, rounds-done, rounds-end}
 use Rattle.search.proofs.shift.shift_back.Statement.{statement}
 use Rattle.search.proofs.shift.shift_back.Tie as tie
-use Rattle.search.proofs.shift.shift_back.Reads as reads
-use Rattle.search.proofs.shift.shift_back.Lts as lts
-use Rattle.search.proofs.lists.entry.Reads as entry-reads
-use Rattle.search.proofs.lists.put.Reads as put-reads
 
 abbrev Inv-loop : tie.InvT-loop
-Inv-loop n v u x from holders₀ taker₀ taken₀ k₀ holders taker taken k = ?
+Inv-loop n v u x from holders₀ taker₀ taken₀ k₀ holders taker taken k = Rounds n v u x from holders₀ holders taker taken k
 
 abbrev μ-loop : tie.MeasureT-loop
-μ-loop n v u x from holders₀ taker₀ taken₀ k₀ holders taker taken k = ?
+μ-loop n v u x from holders₀ taker₀ taken₀ k₀ holders taker taken k = n - k
 
--- src/shift.rt:14:5
 loop-holds : tie.Need-loop-holds Inv-loop μ-loop
-loop-holds c = ?
+loop-holds c = rounds-start _ _ _ _ _ _
 
--- src/shift.rt:15:13
 entry-requires : tie.Need-entry-requires Inv-loop μ-loop
-entry-requires c κs = ?
+entry-requires c κs = search needs
 
--- src/shift.rt:16:9
 put-requires : tie.Need-put-requires Inv-loop μ-loop
-put-requires c κs = ?
+put-requires c κs = search needs
 
--- src/shift.rt:18:13
 same-length : tie.Need-same-length Inv-loop μ-loop
-same-length c = ?
+same-length c = search needs
 
--- src/shift.rt:18:13
 returns : tie.Need-returns Inv-loop μ-loop
-returns c = ?
+returns c = let put = c .before .before .before in
+    let entry = put .before .before in
+    let turn = entry .before .before in
+    rounds-done _ _ _ _ _ _ (turn .before .loop .inv) (turn .loop-test .taken) (put .put .ensures) (c .if1 .taken)
 
--- src/shift.rt:21:9
 entry-requires-2 : tie.Need-entry-requires-2 Inv-loop μ-loop
-entry-requires-2 c κs = ?
+entry-requires-2 c κs = search needs
 
--- src/shift.rt:22:9
 add-k : tie.Need-add-k Inv-loop μ-loop
-add-k c = ?
+add-k c = search needs
 
--- src/shift.rt:14:5
 loop-less : tie.Need-loop-less Inv-loop μ-loop
-loop-less c = ?
+loop-less c = search needs
 
--- src/shift.rt:14:5
 loop-again : tie.Need-loop-again Inv-loop μ-loop
-loop-again c = ?
+loop-again c = let put = c .before .before .before .before in
+    let entry = put .before .before in
+    let turn = entry .before .before in
+    rounds-turn _ _ _ _ _ _ (turn .before .loop .inv) (turn .loop-test .taken) (entry .entry .ensures) (put .put .ensures) (c .before .if1 .left) (c .entry2 .ensures)
 
--- src/shift.rt:8:1
 same-length-2 : tie.Need-same-length-2 Inv-loop μ-loop
-same-length-2 c = ?
+same-length-2 c = search needs
 
--- src/shift.rt:8:1
 returns-2 : tie.Need-returns-2 Inv-loop μ-loop
-returns-2 c = ?
+returns-2 c = rounds-end _ _ _ _ _ _ (c .before .loop .inv) (c .loop-test .left)
 
 pub shift-back-spec : {M : Type 1} → statement M
 shift-back-spec =

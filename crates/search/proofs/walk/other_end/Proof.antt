@@ -1,19 +1,16 @@
+-- `other_end` meets its contract.
+use borrow.Author.Tests.{eq-eqb, ne-eqb}
 use Rattle.search.proofs.walk.other_end.Statement.{statement}
 use Rattle.search.proofs.walk.other_end.Tie as tie
-use Rattle.search.proofs.walk.other_end.Reads as reads
-use Rattle.search.proofs.walk.other_end.Lts as lts
 
--- src/walk.rt:22:9
 returns : tie.Need-returns
-returns c = ?
+returns c = simp (eq-eqb _ _ (c .if1 .taken))
 
--- src/walk.rt:25:9
 returns-2 : tie.Need-returns-2
-returns-2 c = ?
+returns-2 c = simp (ne-eqb _ _ (c .before .if1 .left), eq-eqb _ _ (c .if2 .taken))
 
--- src/walk.rt:18:1
 returns-3 : tie.Need-returns-3
-returns-3 c = ?
+returns-3 c = simp (ne-eqb _ _ (c .before .if1 .left), ne-eqb _ _ (c .if2 .left))
 
 pub other-end-spec : {M : Type 1} → statement M
 other-end-spec = tie.close (tie.spec returns returns-2 returns-3)
