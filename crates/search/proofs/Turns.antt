@@ -7,7 +7,7 @@ use native.Mathlib.Nat.{sub-zero}
 use native.Mathlib.Numerals.{add-one}
 use native.Mathlib.Omega.{arith}
 use lib.Dec.{eqb, ltb}
-use lib.ListN.{length, getD, set, take, drop, replicate, length-set, List·getD-eq-default}
+use lib.ListN.{length, getD, set, take, drop, replicate, length-set, length-replicate, List·getD-eq-default}
 use lib.Seq.{length-take-le, getD-take}
 use borrow.Author.Tests.{lt-ltb, le-ltb, eq-eqb, ne-eqb}
 use Rattle.packing.specs.Plant.{NONE, at, common, otherEnd, neighbours}
@@ -225,23 +225,22 @@ first-set : (l : List ℕ) (v : ℕ) → 1 ≤ length l → take 1 (set l 0 v) �
 first-set [] v h = absurd (omega arith)
 first-set (a ∷ l) v h = refl
 
-module _ (n t : ℕ) (ls hs : List ℕ) (v : ℕ) (queue from : List ℕ) (s : Settleable n hs v queue from) where
-  some : 1 ≤ length queue
-  some = omega (arith, s .places, s .placeable .inside)
+pub settle-walkable : {n : ℕ} {hs : List ℕ} {v : ℕ} {queue from : List ℕ} → Settleable n hs v queue from → Walkable n hs (set queue 0 v) 1 from
+settle-walkable {n} {hs} {v} {queue} s =
+    record {
+      start = rw (first-set queue v (omega (arith, s .places, s .placeable .inside))) (startable (s .placeable));
+      holders = s .placeable .holders;
+      places = rw length-set (s .places);
+      within = rw length-set (omega (arith, s .places, s .placeable .inside));
+      unseen = s .unseen;
+    }
 
-  pub settle-walkable : Walkable n hs (set queue 0 v) 1 from
-  settle-walkable =
-      record {
-        start = rw (first-set queue v some) (startable (s .placeable));
-        holders = s .placeable .holders;
-        places = rw length-set (s .places);
-        within = rw length-set some;
-        unseen = s .unseen;
-      }
-
-  module _ {queue' from' : List ℕ} {w : Walked} (d : Is w queue' from' (walk n (common t) ls hs (take 1 (set queue 0 v)))) where
+module _
+    (n t : ℕ) (ls hs : List ℕ) (v : ℕ) {queue from queue' from' : List ℕ} {w : Walked} (s : Settleable n hs v queue from)
+    (d : Is w queue' from' (walk n (common t) ls hs (take 1 (set queue 0 v))))
+  where
     walked : Is w queue' from' (walk n (common t) ls hs (v ∷ []))
-    walked = rw (first-set queue v some) at d
+    walked = rw (first-set queue v (omega (arith, s .places, s .placeable .inside))) at d
 
     pub settle-kept : {u x : ℕ} {hs' : List ℕ} → w ≡ Found u x → hs' ≡ shift n v from' u x hs → hs' ≡ placedHolders n (common t) ls hs v
     unfolding placedHolders settled
@@ -251,8 +250,15 @@ module _ (n t : ℕ) (ls hs : List ℕ) (v : ℕ) (queue from : List ℕ) (s : S
     unfolding placedHolders settled
     settle-left {tail} q = let is : Is (RanOut tail) queue' from' (walk n (common t) ls hs (v ∷ [])) = rw q at walked in rw (more-state is)
 
--- the marks of nobody: the first n of a list of NONE
-pub take-replicate : (n m a : ℕ) → n ≤ m → take n (replicate m a) ≡ replicate n a
+-- the first n of a list of equal entries
+take-replicate : (n m a : ℕ) → n ≤ m → take n (replicate m a) ≡ replicate n a
 take-replicate zero m a h = refl
 take-replicate (suc n) zero a h = absurd (omega arith)
 take-replicate (suc n) (suc m) a h = ap {B = List ℕ} (λ l. a ∷ l) (take-replicate n m a (omega arith))
+
+-- the arrays to work in
+pub place-marks : (n : ℕ) → n ≤ 1024 → n ≡ length (take n (replicate 1024 NONE))
+place-marks n few = sym (rw (take-replicate n 1024 NONE few) (length-replicate n NONE))
+
+pub place-settles : {n : ℕ} {hs : List ℕ} {v : ℕ} → Placeable n hs v → Settleable n hs v (replicate 1024 0) (take n (replicate 1024 NONE))
+place-settles {n} p = record { placeable = p; places = rw length-replicate (p .few); unseen = take-replicate n 1024 NONE (p .few) }

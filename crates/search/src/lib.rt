@@ -5,7 +5,6 @@ mod shift;
 pub mod walk;
 
 use crate::shift::shift_back;
-
 ghost use mathlib.Core.Path.{_≡_};
 ghost use Rattle.packing.specs.Plant.{common};
 ghost use Rattle.search.specs.Search.{placedHolders};

@@ -1,7 +1,6 @@
 // "u takes x. If x is not v, x's old holder lets x go and takes the gateway it was seen from, and so on until v has a holder."
 use crate::lists::entry;
 use crate::lists::put;
-
 ghost use mathlib.Core.Path.{_≡_};
 ghost use Rattle.search.specs.Search.{shift};
 

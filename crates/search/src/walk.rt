@@ -1,10 +1,9 @@
 // The search for a gateway with a place free.
+use crate::Walked;
 use crate::held::join;
 use crate::held::load;
 use crate::lists::entry;
 use crate::lists::put;
-use crate::Walked;
-
 ghost use mathlib.Core.Path.{_≡_};
 ghost use mathlib.Core.Bool.{cond};
 ghost use lib.Dec.{eqb};
