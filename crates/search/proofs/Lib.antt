@@ -5,3 +5,6 @@ pub mod Loads
 pub mod Shifting
 pub mod States
 pub mod Turns
+pub mod Reach
+pub mod Placing
+pub mod Repeats

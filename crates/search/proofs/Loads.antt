@@ -1,8 +1,9 @@
 -- The two passes over the holders: the invariant of each, its turns, and its end.
 use Prim.Native.Nat.{ℕ, _+_, _<_, _≤_}
 use mathlib.Core.Path.{_≡_, refl, sym, ap, _∙_}
-use mathlib.Core.Bool.{Bool, true, false}
+use mathlib.Core.Bool.{Bool}
 use mathlib.Core.List.{List, [], _∷_, _++_, append-nil, append-assoc}
+use native.Mathlib.Nat.{le-antisymm}
 use native.Mathlib.Numerals.{add-one}
 use native.Mathlib.Omega.{arith}
 use lib.Dec.{eqb}
@@ -12,7 +13,7 @@ use borrow.Author.Tests.{eq-eqb, ne-eqb}
 use Rattle.packing.specs.Count.{pick, sum, count}
 use Rattle.packing.specs.Plant.{at}
 use Rattle.packing.specs.Holders.{holds}
-use Rattle.packing.proofs.Sums.{count-bound, count-longer}
+use Rattle.packing.proofs.Sums.{count-longer}
 use Rattle.search.specs.Search.{heldBy}
 use Rattle.search.specs.Pre.{Joinable, Joined}
 use Rattle.search.proofs.Queue.{holds-suc}
@@ -42,10 +43,7 @@ module _ (n u : ℕ) (hs : List ℕ) where
   count-pass {k} {v} c l e = record { upto = omega arith; counted = c .counted ∙ sym (no-more v (at hs) u e); small = omega (arith, c .small) }
 
   pub count-end : {k v : ℕ} → Counted n u hs k v → n ≤ v → k ≡ holds n (at hs) u
-  count-end {k} {v} c l = c .counted ∙ ap (λ (w : ℕ). holds w (at hs) u) (last (c .upto) l)
-    where
-      last : v ≤ n → n ≤ v → v ≡ n
-      last a b = omega arith
+  count-end {k} {v} c l = c .counted ∙ ap (λ (w : ℕ). holds w (at hs) u) (le-antisymm (c .upto) l)
 
 -- what u holds of the first v has joined
 pub record Joining (n u : ℕ) (hs queue₀ : List ℕ) (tail : ℕ) (queue : List ℕ) (end v : ℕ) : Type 0 where
@@ -94,7 +92,4 @@ module _ (n u : ℕ) (hs queue₀ : List ℕ) (tail : ℕ) (j : Joinable n u hs 
 
   pub join-end : {queue : List ℕ} {end v : ℕ} → Joining n u hs queue₀ tail queue end v → n ≤ v → Joined n u hs queue₀ queue tail end
   join-end {queue} {end} {v} c l =
-      record { state = c .state ∙ ap (λ (w : ℕ). take tail queue₀ ++ heldBy w hs u) (last (c .upto) l); within = join-within c }
-    where
-      last : v ≤ n → n ≤ v → v ≡ n
-      last a b = omega arith
+      record { state = c .state ∙ ap (λ (w : ℕ). take tail queue₀ ++ heldBy w hs u) (le-antisymm (c .upto) l); within = join-within c }

@@ -2,23 +2,22 @@
 use Prim.Native.Nat.{ℕ, zero, suc, _+_, _-_, _<_, _≤_}
 use mathlib.Core.Path.{_≡_, refl, sym, ap, _∙_}
 use mathlib.Core.Logic.{⊎-elim}
-use mathlib.Core.Bool.{Bool, true, false, cond, _&&_, _||_, or-false, or-assoc, false≢true}
-use mathlib.Core.List.{List, [], _∷_, _++_, append-nil, append-assoc}
+use mathlib.Core.Bool.{Bool, true, false, cond, _||_, or-assoc, false≢true}
+use mathlib.Core.List.{List, [], _∷_, _++_}
 use native.Mathlib.Nat.{not-suc-le-zero}
 use native.Mathlib.Numerals.{add-one}
 use native.Mathlib.Omega.{arith}
 use lib.Dec.{eqb, ltb}
-use lib.ListN.{length, getD, set, take, length-append, length-set, List·getD-append}
-use lib.Seq.{take-suc-set, getD-append-add}
-use borrow.Author.Tests.{eqb-true, eq-eqb, ne-eqb, lt-ltb, ltb-true, ltb-false}
+use lib.ListN.{length, length-append, List·getD-append}
+use lib.Seq.{getD-append-add}
+use borrow.Author.Tests.{eqb-true, eq-eqb, ltb-true, ltb-false}
 use Rattle.packing.specs.Count.{pick, sum, count}
 use Rattle.packing.specs.Plant.{at}
 use Rattle.packing.specs.Holders.{holds}
-use Rattle.packing.proofs.Tests.{by-bool, below-suc, and-i, or-cases, or-l, or-r, not-test, iff-test}
-use Rattle.packing.proofs.Sums.{count-suc, count-bound, count-longer}
+use Rattle.packing.proofs.Tests.{by-bool, below-suc, or-cases, or-l, or-r}
+use Rattle.packing.proofs.Sums.{count-suc}
 use Rattle.packing.proofs.Links.{memberOf}
 use Rattle.search.specs.Search.{heldBy}
-use Rattle.search.specs.Pre.{Joinable, Joined}
 
 -- what stands at a place is in the list, and what is in the list stands at a place
 pub member-at : (l : List ℕ) (i : ℕ) → i < length l → memberOf l (at l i) ≡ true

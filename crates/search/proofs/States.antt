@@ -1,22 +1,20 @@
 -- States of the search: who is seen, the three ways a look ends, and room for all that may yet join the queue.
 use Prim.Native.Nat.{ℕ, zero, suc, _+_, _<_, _≤_}
 use mathlib.Core.Path.{_≡_, refl, sym, ap, _∙_}
-use mathlib.Core.Logic.{⊎-elim}
-use mathlib.Core.Bool.{Bool, true, false, not, cond, _&&_, true≢false}
+use mathlib.Core.Bool.{true, false, not, _&&_}
 use mathlib.Core.List.{List, [], _∷_, _++_}
 use native.Mathlib.Omega.{arith}
 use lib.Dec.{eqb, ltb}
-use lib.ListN.{length, set, take, replicate, length-append, length-set, length-replicate, getD-replicate, List·getD-append, List·getD-eq-default}
-use lib.Seq.{getD-set-same, getD-set-other, getD-append-add, length-take-le}
-use borrow.Author.Tests.{eqb-true, eqb-false, eq-eqb, ne-eqb, lt-ltb, le-ltb, ltb-true, ltb-false, not-true, not-false}
+use lib.ListN.{length, set, replicate, length-append, length-set, length-replicate, getD-replicate, List·getD-eq-default}
+use lib.Seq.{getD-set-same, getD-set-other}
+use borrow.Author.Tests.{eqb-true, eqb-false, ne-eqb, lt-ltb, le-ltb, ltb-true, ltb-false, not-true, not-false}
 use Rattle.packing.specs.Count.{count}
 use Rattle.packing.specs.Plant.{NONE, at, neighbours}
 use Rattle.packing.specs.Holders.{held, holds}
-use Rattle.packing.proofs.Tests.{by-bool, clash, and-l, and-r, and-i, not-i, not-i-false, not-test, iff-test}
-use Rattle.packing.proofs.Sums.{count-ext, count-split, count-mono}
-use Rattle.packing.proofs.Links.{memberOf}
+use Rattle.packing.proofs.Tests.{by-bool, clash, and-l, and-r, and-i, not-i, iff-test}
+use Rattle.packing.proofs.Sums.{count-ext, count-split, count-mono, count-all, count-some}
 use Rattle.search.specs.Search.{Search, found, more, seen, heldBy, look, visit, turn, turns}
-use Rattle.search.specs.Pre.{waiting, Going, Startable}
+use Rattle.search.specs.Pre.{waiting, Going, Startable, Placeable}
 use Rattle.search.proofs.Queue.{member-at, append-at, heldBy-length, heldBy-out}
 
 -- a gateway is no NONE
@@ -119,6 +117,19 @@ going-start {n} {hs} {start} s =
       below = s .below;
     }
 
+-- a gateway without holder may start a search alone
+pub startable : {n : ℕ} {hs : List ℕ} {v : ℕ} → Placeable n hs v → Startable n hs (v ∷ [])
+startable {n} {hs} {v} p =
+    record {
+      few = p .few;
+      below = λ i l. only i (omega arith) (p .inside);
+      room = omega (arith, count-split n (λ w. true) (held n (at hs)), count-all n (λ w. true) (λ w l. refl), count-some n (λ w. not (held n (at hs) w)) v (p .inside) (not-i _ (p .free)));
+    }
+  where
+    only : (i : ℕ) → i < 1 → v < n → at (v ∷ []) i < n
+    only zero l k = k
+    only (suc i) l k = absurd (omega arith)
+
 -- what u holds finds room in the queue, where u is not seen yet
 pub going-room : {n : ℕ} {hs queue from : List ℕ} → Going n hs queue from → (u x : ℕ) → x < n → seen from u ≡ false → length queue + holds n (at hs) u ≤ n
 going-room {n} {hs} {queue} {from} g u x l e = omega (arith, g .room, waiting-marked n hs from u x (g .marks) (gateway-some (g .few) l) e)
@@ -156,6 +167,10 @@ pub visit-found : (n : ℕ) (limit : ℕ → ℕ) (hs : List ℕ) (x : ℕ) (us 
 unfolding visit
 visit-found n limit hs x [] = refl
 visit-found n limit hs x (w ∷ us) = refl
+
+pub turns-zero : (n : ℕ) (limit : ℕ → ℕ) (ls hs : List ℕ) (head : ℕ) (s : Search) → turns zero n limit ls hs head s ≡ s
+unfolding turns
+turns-zero n limit ls hs head s = refl
 
 pub turns-found : (fuel n : ℕ) (limit : ℕ → ℕ) (ls hs : List ℕ) (head : ℕ) {u y : ℕ} {from : List ℕ} → turns fuel n limit ls hs head (found u y from) ≡ found u y from
 unfolding turns

@@ -1,25 +1,24 @@
 -- The loops over a gateway's links and over the queue: the invariant of each, its turns, and its end.
 use Prim.Native.Nat.{ℕ, zero, suc, _+_, _-_, _<_, _≤_}
 use mathlib.Core.Path.{_≡_, refl, sym, ap, _∙_}
-use mathlib.Core.Bool.{Bool, true, false, not, cond}
-use mathlib.Core.List.{List, [], _∷_, _++_}
+use mathlib.Core.Bool.{true, false, cond}
+use mathlib.Core.List.{List, [], _∷_}
 use native.Mathlib.Nat.{sub-zero}
 use native.Mathlib.Numerals.{add-one}
 use native.Mathlib.Omega.{arith}
-use lib.Dec.{eqb, ltb}
-use lib.ListN.{length, getD, set, take, drop, replicate, length-set, length-replicate, List·getD-eq-default}
+use lib.Dec.{eqb}
+use lib.ListN.{length, set, take, drop, replicate, length-set, length-replicate, List·getD-eq-default}
 use lib.Seq.{length-take-le, getD-take}
-use borrow.Author.Tests.{lt-ltb, le-ltb, eq-eqb, ne-eqb}
-use Rattle.packing.specs.Plant.{NONE, at, common, otherEnd, neighbours}
-use Rattle.packing.specs.Holders.{held, holds}
+use borrow.Author.Tests.{eq-eqb, ne-eqb}
+use Rattle.packing.specs.Plant.{NONE, at, common, neighbours}
+use Rattle.packing.specs.Holders.{holds}
 use Rattle.packing.proofs.Tests.{by-bool, not-i, not-i-false}
-use Rattle.packing.proofs.Sums.{count-split, count-all, count-some}
 use Rattle.packing.proofs.Flat.{pair-at, pair-end}
-use Rattle.search.specs.Search.{Search, found, more, seen, heldBy, look, visit, turn, turns, walk, shift, settled, placedHolders}
+use Rattle.search.specs.Search.{Search, found, more, seen, look, visit, turns, walk, shift, settled, placedHolders}
 use Rattle.search.specs.declared.Walked.{Walked}
 use Rattle.search.specs.declared.Walked.the-variants.{Found, RanOut}
-use Rattle.search.specs.Pre.{outcome, queued, Is, Going, Ready, Joinable, Joined, Startable, Walkable, Placeable, Settleable}
-use Rattle.search.proofs.States.{look-seen, look-free, look-full, look-going, going-room, going-start, visit-found, visit-going, turns-found, turns-out, turns-step}
+use Rattle.search.specs.Pre.{outcome, queued, Is, Going, Ready, Joinable, Joined, Walkable, Placeable, Settleable}
+use Rattle.search.proofs.States.{look-seen, look-free, look-full, look-going, going-room, going-start, visit-found, visit-going, turns-found, turns-out, turns-step, startable}
 
 -- a state read from a result and the lent lists
 found-state : {u x : ℕ} {queue from : List ℕ} {s : Search} → Is (Found u x) queue from s → s ≡ found u x from
@@ -208,19 +207,7 @@ module _ (n t : ℕ) (ls hs queue₀ : List ℕ) (tail : ℕ) (from₀ : List �
   walk-out {queue} {from} {end} {head} v l =
       more-is (sym (v .rest) ∙ turns-out (n - head) n (common t) ls hs head (take end queue) from (rw (length-take-le end queue (v .within)) l)) (v .within)
 
--- A search that starts with v alone.
-pub startable : {n : ℕ} {hs : List ℕ} {v : ℕ} → Placeable n hs v → Startable n hs (v ∷ [])
-startable {n} {hs} {v} p =
-    record {
-      few = p .few;
-      below = λ i l. only i (omega arith) (p .inside);
-      room = omega (arith, count-split n (λ w. true) (held n (at hs)), count-all n (λ w. true) (λ w l. refl), count-some n (λ w. not (held n (at hs) w)) v (p .inside) (not-i _ (p .free)));
-    }
-  where
-    only : (i : ℕ) → i < 1 → v < n → at (v ∷ []) i < n
-    only zero l k = k
-    only (suc i) l k = absurd (omega arith)
-
+-- Placing v: a queue that starts with v.
 first-set : (l : List ℕ) (v : ℕ) → 1 ≤ length l → take 1 (set l 0 v) ≡ v ∷ []
 first-set [] v h = absurd (omega arith)
 first-set (a ∷ l) v h = refl

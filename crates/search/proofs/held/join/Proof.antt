@@ -3,7 +3,6 @@ use mathlib.Core.Path.{refl}
 use borrow.Author.Needs.{needs}
 use Prim.Native.Nat.{_-_}
 use mathlib.Core.Logic.{⊎-elim}
-use native.Mathlib.Omega.{arith}
 use Rattle.search.proofs.Loads.{Joining, join-start, join-place, join-one, join-pass, join-end}
 use Rattle.search.proofs.held.join.Statement.{statement}
 use Rattle.search.proofs.held.join.Tie as tie

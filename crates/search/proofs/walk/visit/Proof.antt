@@ -5,10 +5,6 @@ use lib.ListN.{length}
 use Rattle.search.proofs.Turns.{Visiting, visit-start, visit-turn, visit-ends, visit-out}
 use Rattle.search.proofs.walk.visit.Statement.{statement}
 use Rattle.search.proofs.walk.visit.Tie as tie
-use Rattle.search.proofs.walk.visit.Reads as reads
-use Rattle.search.proofs.walk.visit.Lts as lts
-use Rattle.search.proofs.walk.look.Reads as look-reads
-use Rattle.search.proofs.walk.other_end.Reads as other-end-reads
 
 abbrev Inv-loop : tie.InvT-loop
 Inv-loop n t x links holders queue₀ tail from₀ end₀ i₀ queue from end i = Visiting n t x links holders queue₀ tail from₀ queue from end i
