@@ -1,2 +1,3 @@
 -- 01, "Placing", as functions.
 pub mod Search
+pub mod Pre

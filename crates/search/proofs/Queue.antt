@@ -1,0 +1,83 @@
+-- Laws of lists of gateways: membership by place, and what a gateway holds.
+use Prim.Native.Nat.{ℕ, zero, suc, _+_, _-_, _<_, _≤_}
+use mathlib.Core.Path.{_≡_, refl, sym, ap, _∙_}
+use mathlib.Core.Logic.{⊎-elim}
+use mathlib.Core.Bool.{Bool, true, false, cond, _||_, or-assoc, false≢true}
+use mathlib.Core.List.{List, [], _∷_, _++_}
+use native.Mathlib.Nat.{not-suc-le-zero}
+use native.Mathlib.Numerals.{add-one}
+use native.Mathlib.Omega.{arith}
+use lib.Dec.{eqb, ltb}
+use lib.ListN.{length, length-append, List·getD-append}
+use lib.Seq.{getD-append-add}
+use borrow.Author.Tests.{eqb-true, eq-eqb, ltb-true, ltb-false}
+use Rattle.packing.specs.Count.{pick, sum, count}
+use Rattle.packing.specs.Plant.{at}
+use Rattle.packing.specs.Holders.{holds}
+use Rattle.packing.proofs.Tests.{by-bool, below-suc, or-cases, or-l, or-r}
+use Rattle.packing.proofs.Sums.{count-suc}
+use Rattle.packing.proofs.Links.{memberOf}
+use Rattle.search.specs.Search.{heldBy}
+
+-- what stands at a place is in the list, and what is in the list stands at a place
+pub member-at : (l : List ℕ) (i : ℕ) → i < length l → memberOf l (at l i) ≡ true
+unfolding memberOf
+member-at [] i h = absurd (not-suc-le-zero h)
+member-at (a ∷ l) zero h = or-l (eqb a a) (memberOf l a) (eq-eqb a a refl)
+member-at (a ∷ l) (suc i) h = or-r (eqb a (at l i)) (memberOf l (at l i)) (member-at l i (omega arith))
+
+pub member-place : (l : List ℕ) (y : ℕ) → memberOf l y ≡ true → (i : ℕ) × (i < length l) × (at l i ≡ y)
+unfolding memberOf
+member-place [] y e = absurd (false≢true e)
+member-place (a ∷ l) y e =
+    ⊎-elim (λ q. (0, (omega arith), eqb-true a y q)) (λ q. let r = member-place l y q in (suc (r .0), omega (arith, r .1), r .2)) (or-cases (eqb a y) (memberOf l y) e)
+
+pub member-append : (l k : List ℕ) (y : ℕ) → memberOf (l ++ k) y ≡ (memberOf l y || memberOf k y)
+unfolding memberOf
+member-append [] k y = refl
+member-append (a ∷ l) k y = rw (member-append l k y) (sym (or-assoc (eqb a y) (memberOf l y) (memberOf k y)))
+
+-- what stands at a place of two lists stands in the first, or so far behind it in the second
+pub append-at : {A : Type 0} (l k : List ℕ) (i : ℕ) → i < length (l ++ k) → (i < length l → at (l ++ k) i ≡ at l i → A)
+    → ((j : ℕ) → j < length k → i ≡ length l + j → at (l ++ k) i ≡ at k j → A) → A
+append-at l k i h front back =
+    by-bool (ltb i (length l)) (λ e. let p = ltb-true _ _ e in front p (List·getD-append l k 0 i p))
+    (λ e.
+    let q : length l ≤ i = ltb-false _ _ e in
+    let j : i ≡ length l + (i - length l) = omega arith in
+    back (i - length l) (omega (arith, length-append l k)) j (ap (at (l ++ k)) j ∙ getD-append-add l k (i - length l) 0))
+
+-- u holds one more below suc v where v is held by u
+pub holds-suc : (v : ℕ) (h : ℕ → ℕ) (u : ℕ) → holds (v + 1) h u ≡ holds v h u + pick (eqb (h v) u) 1
+unfolding holds
+holds-suc v h u = rw add-one (count-suc v (λ w. eqb (h w) u))
+
+-- what u holds is as many as it holds
+pub heldBy-length : (n : ℕ) (hs : List ℕ) (u : ℕ) → length (heldBy n hs u) ≡ holds n (at hs) u
+unfolding heldBy holds count sum
+heldBy-length zero hs u = refl
+heldBy-length (suc n) hs u = length-append (heldBy n hs u) _ ∙ ap (λ (k : ℕ). k + length (cond (eqb (at hs n) u) (n ∷ []) [])) (heldBy-length n hs u) ∙ last (eqb (at hs n) u)
+  where
+    last : (b : Bool) → holds n (at hs) u + length (cond b (n ∷ []) []) ≡ holds n (at hs) u + pick b 1
+    last true = refl
+    last false = refl
+
+-- .. and it is those below n whose holder u is
+pub heldBy-in : (n : ℕ) (hs : List ℕ) (u v : ℕ) → v < n → at hs v ≡ u → memberOf (heldBy n hs u) v ≡ true
+unfolding heldBy memberOf
+heldBy-in zero hs u v h e = absurd (not-suc-le-zero h)
+heldBy-in (suc n) hs u v h e =
+    let two = member-append (heldBy n hs u) (cond (eqb (at hs n) u) (n ∷ []) []) v in
+    below-suc v n h (λ q. two ∙ or-r (memberOf (heldBy n hs u) v) _ (rw (← q, eq-eqb (at hs v) u e) (or-l (eqb v v) false (eq-eqb v v refl))))
+    (λ q. two ∙ or-l (memberOf (heldBy n hs u) v) _ (heldBy-in n hs u v q e))
+
+pub heldBy-out : (n : ℕ) (hs : List ℕ) (u v : ℕ) → memberOf (heldBy n hs u) v ≡ true → (v < n) × (at hs v ≡ u)
+unfolding heldBy memberOf
+heldBy-out zero hs u v e = absurd (false≢true e)
+heldBy-out (suc n) hs u v e =
+    ⊎-elim (λ q. let r = heldBy-out n hs u v q in (omega (arith, r .0), r .1)) (λ q. last (eqb (at hs n) u) refl q)
+    (or-cases (memberOf (heldBy n hs u) v) _ (sym (member-append (heldBy n hs u) (cond (eqb (at hs n) u) (n ∷ []) []) v) ∙ e))
+  where
+    last : (b : Bool) → eqb (at hs n) u ≡ b → memberOf (cond b (n ∷ []) []) v ≡ true → (v < suc n) × (at hs v ≡ u)
+    last true f q = let here : n ≡ v = eqb-true n v (⊎-elim (λ r. r) (λ r. absurd (false≢true r)) (or-cases (eqb n v) false q)) in (omega arith, rw (← here) (eqb-true (at hs n) u f))
+    last false f q = absurd (false≢true q)

@@ -1,0 +1,187 @@
+-- The shift: the loop that makes it, and what it leaves.
+use Prim.Native.Nat.{ℕ, zero, suc, _+_, _-_, _<_, _≤_}
+use mathlib.Core.Path.{_≡_, refl, sym, ap, _∙_}
+use mathlib.Core.Bool.{Bool, true, not, _&&_, _||_, and-comm, and-false, or-true, or-false}
+use mathlib.Core.List.{List}
+use native.Mathlib.Nat.{sub-zero, not-suc-le-zero}
+use native.Mathlib.Omega.{arith}
+use lib.Dec.{eqb}
+use lib.ListN.{length, set, length-set}
+use lib.Seq.{getD-set-same, getD-set-other}
+use borrow.Author.Tests.{eqb-true, eqb-false, eq-eqb, ne-eqb, lt-ltb, ltb-true}
+use Rattle.packing.specs.Count.{pick, count}
+use Rattle.packing.specs.Plant.{at, linked}
+use Rattle.packing.specs.Holders.{held, holds, Feasible}
+use Rattle.packing.proofs.Tests.{by-bool}
+use Rattle.packing.proofs.Sums.{sum-ext, sum-single, pick-and, count-ext, count-split}
+use Rattle.search.specs.Search.{shift}
+
+-- the shift that is left after k rounds gives what the whole shift gives
+pub record Rounds (n v u x : ℕ) (from hs₀ hs : List ℕ) (taker taken k : ℕ) : Type 0 where
+  pub upto : k ≤ n
+  pub same : length hs ≡ length hs₀
+  pub rest : shift (n - k) v from taker taken hs ≡ shift n v from u x hs₀
+
+module _ (n v u x : ℕ) (from hs₀ : List ℕ) where
+  pub rounds-start : Rounds n v u x from hs₀ hs₀ u x 0
+  rounds-start = record { upto = omega arith; same = refl; rest = rw sub-zero }
+
+  -- a round, by the test of whether v is taken
+  round : (hs : List ℕ) (taker taken k : ℕ) → k < n → shift (n - k) v from taker taken hs ≡ shift (suc (n - (k + 1))) v from taker taken hs
+  round hs taker taken k l = ap (λ (j : ℕ). shift j v from taker taken hs) (one k l)
+    where
+      one : (k : ℕ) → k < n → n - k ≡ suc (n - (k + 1))
+      one k l = omega arith
+
+  pub rounds-turn : {hs hs' : List ℕ} {taker taken taker' taken' k : ℕ} → Rounds n v u x from hs₀ hs taker taken k → k < n → taker' ≡ at hs taken → hs' ≡ set hs taken taker
+      → (taken ≡ v → ⊥) → taken' ≡ at from taker' → Rounds n v u x from hs₀ hs' taker' taken' (k + 1)
+  unfolding shift
+  rounds-turn {hs} {hs'} {taker} {taken} {taker'} {taken'} {k} r l old now go next =
+      record {
+        upto = omega arith;
+        same = rw (now, length-set) (r .same);
+        rest = rw (next, old, now) (rw (ne-eqb taken v go) at (sym (round hs taker taken k l) ∙ r .rest));
+      }
+
+  pub rounds-done : {hs hs' : List ℕ} {taker taken k : ℕ} → Rounds n v u x from hs₀ hs taker taken k → k < n → hs' ≡ set hs taken taker → taken ≡ v → hs' ≡ shift n v from u x hs₀
+  unfolding shift
+  rounds-done {hs} {hs'} {taker} {taken} {k} r l now done = now ∙ (rw (eq-eqb taken v done) at (sym (round hs taker taken k l) ∙ r .rest))
+
+  pub rounds-end : {hs : List ℕ} {taker taken k : ℕ} → Rounds n v u x from hs₀ hs taker taken k → n ≤ k → hs ≡ shift n v from u x hs₀
+  unfolding shift
+  rounds-end {hs} {taker} {taken} {k} r l = ap (λ (j : ℕ). shift j v from taker taken hs) (none l) ∙ r .rest
+    where
+      none : n ≤ k → 0 ≡ n - k
+      none a = omega arith
+
+-- A count below n is one at x and those at other places.
+count-point : (n : ℕ) (p : ℕ → Bool) (x : ℕ) → x < n → count n p ≡ pick (p x) 1 + count n (λ i. p i && not (eqb x i))
+unfolding count
+count-point n p x l =
+    count-split n p (λ i. eqb x i)
+    ∙ ap (λ (k : ℕ). k + count n (λ i. p i && not (eqb x i)))
+    (sum-ext n (λ i. pick (p i && eqb x i) 1) (λ i. pick (eqb x i) (pick (p i) 1)) (λ i k. ap (λ (b : Bool). pick b 1) (and-comm (p i) (eqb x i)) ∙ pick-and (eqb x i) (p i)) ∙ sum-single n x (λ i. pick (p i) 1) l)
+
+-- u takes x: the entries, and what each holds
+module _ (n : ℕ) (hs : List ℕ) (x u : ℕ) (long : n ≤ length hs) (inside : x < n) where
+  taken-here : at (set hs x u) x ≡ u
+  taken-here = getD-set-same hs x u 0 (omega arith)
+
+  taken-other : (w : ℕ) → (w ≡ x → ⊥) → at (set hs x u) w ≡ at hs w
+  taken-other w other = getD-set-other hs x w u 0 other
+
+  taken-holds : (y : ℕ) → holds n (at (set hs x u)) y + pick (eqb (at hs x) y) 1 ≡ holds n (at hs) y + pick (eqb u y) 1
+  unfolding holds
+  taken-holds y =
+      omega (
+        arith,
+        count-point n (λ w. eqb (at (set hs x u) w) y) x inside,
+        ap (λ (k : ℕ). pick (eqb k y) 1) taken-here,
+        count-point n (λ w. eqb (at hs w) y) x inside,
+        count-ext n (λ w. eqb (at (set hs x u) w) y && not (eqb x w)) (λ w. eqb (at hs w) y && not (eqb x w)) rest,
+      )
+    where
+      rest : (w : ℕ) → w < n → (eqb (at (set hs x u) w) y && not (eqb x w)) ≡ (eqb (at hs w) y && not (eqb x w))
+      rest w l =
+          by-bool (eqb x w) (λ e. rw e (and-false (eqb (at (set hs x u) w) y) ∙ sym (and-false (eqb (at hs w) y))))
+          (λ e. rw (taken-other w (λ q. eqb-false x w e (sym q))))
+
+  -- x is held then, and any other as before
+  taken-held : u < n → (w : ℕ) → held n (at (set hs x u)) w ≡ (held n (at hs) w || eqb w x)
+  taken-held below w =
+      by-bool (eqb w x) (λ e. rw (e, eqb-true w x e, taken-here, lt-ltb u n below) (sym (or-true (held n (at hs) x))))
+      (λ e. rw (e, taken-other w (eqb-false w x e)) (sym (or-false (held n (at hs) w))))
+
+  module _ {limit : ℕ → ℕ} {adj : ℕ → ℕ → Bool} (f : Feasible n limit adj (at hs)) (free : holds n (at hs) u < limit u) where
+    -- a gateway with a place free takes a neighbour
+    taken-feasible : adj x u ≡ true → Feasible n limit adj (at (set hs x u))
+    taken-feasible link =
+        record {
+          along = λ w l e. by-bool (eqb w x) (λ q. rw (eqb-true w x q, taken-here) link) (λ q. let same = taken-other w (eqb-false w x q) in rw same (f .along w l (rw same at e)));
+          within = λ y l. by-bool (eqb u y) (λ q. rw (← eqb-true u y q) (omega (arith, taken-holds u, one u))) (λ q. omega (arith, taken-holds y, f .within y l, ap (λ (b : Bool). pick b 1) q));
+        }
+      where
+        one : (w : ℕ) → pick (eqb w w) 1 ≡ 1
+        one w = ap (λ (b : Bool). pick b 1) (eq-eqb w w refl)
+
+    -- x's old holder has a place free then
+    taken-frees : at hs x < n → holds n (at (set hs x u)) (at hs x) < limit (at hs x)
+    taken-frees below =
+        let one : pick (eqb (at hs x) (at hs x)) 1 ≡ 1 = ap (λ (b : Bool). pick b 1) (eq-eqb (at hs x) (at hs x) refl) in
+        by-bool (eqb u (at hs x)) (λ q. let same : u ≡ at hs x = eqb-true u (at hs x) q in omega (arith, taken-holds (at hs x), one, ap (λ (b : Bool). pick b 1) q, rw same at free))
+        (λ q. omega (arith, taken-holds (at hs x), one, ap (λ (b : Bool). pick b 1) q, f .within (at hs x) below))
+
+-- what is kept: the holders hs' are feasible, and hold what hs held and v
+pub record Kept (n : ℕ) (limit : ℕ → ℕ) (adj : ℕ → ℕ → Bool) (hs hs' : List ℕ) (v : ℕ) : Type 0 where
+  pub feasible : Feasible n limit adj (at hs')
+  pub holding : (w : ℕ) → w < n → held n (at hs') w ≡ (held n (at hs) w || eqb w v)
+
+module _ (n : ℕ) (ls : List ℕ) (v : ℕ) (from : List ℕ) (inside : v < n) where
+  -- From x, going to the gateway that the holder was seen from, v is reached in k steps and not before. So each gateway has one such k, and none comes twice.
+  unfoldable pub Chain : List ℕ → ℕ → ℕ → Type 0
+  Chain hs zero x = x ≡ v
+  Chain hs (suc k) x = (x ≡ v → ⊥) × (x < n) × (held n (at hs) x ≡ true) × (linked ls (at from (at hs x)) (at hs x) ≡ true) × Chain hs k (at from (at hs x))
+
+  chain-unique : (hs : List ℕ) (j k x : ℕ) → Chain hs j x → Chain hs k x → j ≡ k
+  unfolding Chain
+  chain-unique hs zero zero x c d = refl
+  chain-unique hs zero (suc k) x c d = absurd (d .0 c)
+  chain-unique hs (suc j) zero x c d = absurd (c .0 d)
+  chain-unique hs (suc j) (suc k) x c d = ap suc (chain-unique hs j k (at from (at hs x)) (c .4) (d .4))
+
+  chain-below : (hs : List ℕ) (k x : ℕ) → Chain hs k x → x < n
+  unfolding Chain
+  chain-below hs zero x c = rw c inside
+  chain-below hs (suc k) x c = c .1
+
+  -- a shorter chain does not pass x, so it stays when x changes its holder
+  chain-kept : (hs : List ℕ) (x u j : ℕ) → Chain hs j x → (k y : ℕ) → k < j → Chain hs k y → Chain (set hs x u) k y
+  unfolding Chain
+  chain-kept hs x u j c zero y l d = d
+  chain-kept hs x u j c (suc k) y l d =
+      let other : y ≡ x → ⊥ = λ q. (let same : j ≡ suc k = chain-unique hs j (suc k) x c (unfold Chain in rw q at d) in omega arith) in
+      let same : at (set hs x u) y ≡ at hs y = getD-set-other hs x y u 0 other in
+      (d .0, d .1, rw same (d .2), rw same (d .3), rw same (chain-kept hs x u j c k (at from (at hs y)) (omega arith) (d .4)))
+
+  -- what any step keeps the shift keeps
+  pub shift-any : (P : List ℕ → Type 0) → ((hs : List ℕ) (x u : ℕ) → x < n → u < n → P hs → P (set hs x u))
+      → (fuel k : ℕ) (hs : List ℕ) (u x : ℕ) → u < n → Chain hs k x → P hs → P (shift fuel v from u x hs)
+  unfolding shift Chain
+  shift-any P step zero k hs u x below c p = p
+  shift-any P step (suc fuel) zero hs u x below c p = rw (eq-eqb x v c) (step hs x u (rw c inside) below p)
+  shift-any P step (suc fuel) (suc k) hs u x below c p =
+      rw (ne-eqb x v (c .0))
+      (shift-any P step fuel k (set hs x u) (at hs x) (at from (at hs x)) (ltb-true _ _ (c .2)) (chain-kept hs x u (suc k) c k (at from (at hs x)) (omega arith) (c .4)) (step hs x u (c .1) below p))
+
+  -- The shift: the holders so far are feasible, and u has a place free.
+  pub shift-kept : {limit : ℕ → ℕ} (fuel k : ℕ) (hs : List ℕ) (u x : ℕ) → k < fuel → n ≤ length hs → u < n → Chain hs k x → linked ls x u ≡ true
+      → Feasible n limit (linked ls) (at hs) → holds n (at hs) u < limit u → Kept n limit (linked ls) hs (shift fuel v from u x hs) v
+  unfolding shift Chain
+  shift-kept zero k hs u x l long below c link f free = absurd (not-suc-le-zero l)
+  shift-kept {limit} (suc fuel) zero hs u x l long below c link f free =
+      rw (eq-eqb x v c)
+      (record {
+        feasible = taken-feasible n hs x u long (rw c inside) f free link;
+        holding = λ w k. taken-held n hs x u long (rw c inside) below w ∙ ap (λ (y : ℕ). held n (at hs) w || eqb w y) c;
+      })
+  shift-kept {limit} (suc fuel) (suc k) hs u x l long below c link f free =
+      let old : at hs x < n = ltb-true _ _ (c .2) in
+      let r : Kept n limit (linked ls) (set hs x u) (shift fuel v from (at hs x) (at from (at hs x)) (set hs x u)) v =
+      shift-kept fuel k (set hs x u) (at hs x) (at from (at hs x)) (omega arith) (rw length-set long) old (chain-kept hs x u (suc k) c k (at from (at hs x)) (omega arith) (c .4)) (c .3)
+      (taken-feasible n hs x u long (c .1) f free link) (taken-frees n hs x u long (c .1) f free old) in
+      rw (ne-eqb x v (c .0))
+      (record {
+        feasible = r .feasible;
+        holding = λ w q. r .holding w q ∙ ap (λ (b : Bool). b || eqb w v) (taken-held n hs x u long (c .1) below w ∙ stays w (c .2));
+      })
+    where
+      -- x was held before
+      stays : (w : ℕ) → held n (at hs) x ≡ true → (held n (at hs) w || eqb w x) ≡ held n (at hs) w
+      stays w e = by-bool (eqb w x) (λ q. rw (q, eqb-true w x q, e)) (λ q. rw q (or-false (held n (at hs) w)))
+
+-- The shift writes entries and no more.
+pub shift-length : (fuel v : ℕ) (from : List ℕ) (u x : ℕ) (hs : List ℕ) → length (shift fuel v from u x hs) ≡ length hs
+unfolding shift
+shift-length zero v from u x hs = refl
+shift-length (suc fuel) v from u x hs =
+    by-bool (eqb x v) (λ e. rw e (length-set hs x u)) (λ e. rw e (shift-length fuel v from (at hs x) (at from (at hs x)) (set hs x u) ∙ length-set hs x u))

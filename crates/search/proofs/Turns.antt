@@ -1,0 +1,251 @@
+-- The loops over a gateway's links and over the queue: the invariant of each, its turns, and its end.
+use Prim.Native.Nat.{ℕ, zero, suc, _+_, _-_, _<_, _≤_}
+use mathlib.Core.Path.{_≡_, refl, sym, ap, _∙_}
+use mathlib.Core.Bool.{true, false, cond}
+use mathlib.Core.List.{List, [], _∷_}
+use native.Mathlib.Nat.{sub-zero}
+use native.Mathlib.Numerals.{add-one}
+use native.Mathlib.Omega.{arith}
+use lib.Dec.{eqb}
+use lib.ListN.{length, set, take, drop, replicate, length-set, length-replicate, List·getD-eq-default}
+use lib.Seq.{length-take-le, getD-take}
+use borrow.Author.Tests.{eq-eqb, ne-eqb}
+use Rattle.packing.specs.Plant.{NONE, at, common, neighbours}
+use Rattle.packing.specs.Holders.{holds}
+use Rattle.packing.proofs.Tests.{by-bool, not-i, not-i-false}
+use Rattle.packing.proofs.Flat.{pair-at, pair-end}
+use Rattle.search.specs.Search.{Search, found, more, seen, look, visit, turns, walk, shift, settled, placedHolders}
+use Rattle.search.specs.declared.Walked.{Walked}
+use Rattle.search.specs.declared.Walked.the-variants.{Found, RanOut}
+use Rattle.search.specs.Pre.{outcome, queued, Is, Going, Ready, Joinable, Joined, Walkable, Placeable, Settleable}
+use Rattle.search.proofs.States.{look-seen, look-free, look-full, look-going, going-room, going-start, visit-found, visit-going, turns-found, turns-out, turns-step, startable}
+
+-- a state read from a result and the lent lists
+found-state : {u x : ℕ} {queue from : List ℕ} {s : Search} → Is (Found u x) queue from s → s ≡ found u x from
+unfolding outcome
+found-state i = sym (i .state)
+
+more-state : {tail : ℕ} {queue from : List ℕ} {s : Search} → Is (RanOut tail) queue from s → s ≡ more (take tail queue) from
+unfolding outcome
+more-state i = sym (i .state)
+
+more-within : {tail : ℕ} {queue from : List ℕ} {s : Search} → Is (RanOut tail) queue from s → tail ≤ length queue
+unfolding queued
+more-within i = i .within
+
+found-is : {u x : ℕ} {queue from : List ℕ} {s : Search} → s ≡ found u x from → Is (Found u x) queue from s
+unfolding outcome queued
+found-is e = record { state = sym e; within = omega arith }
+
+more-is : {tail : ℕ} {queue from : List ℕ} {s : Search} → s ≡ more (take tail queue) from → tail ≤ length queue → Is (RanOut tail) queue from s
+unfolding outcome queued
+more-is e l = record { state = sym e; within = l }
+
+-- The three ways of a look. The lent list of marks is from' once u is marked, and k is u's entry.
+module _ (n t x u : ℕ) (hs queue : List ℕ) (tail : ℕ) (from : List ℕ) (r : Ready n x hs queue tail from) where
+  unseen : {k : ℕ} → k ≡ at from u → k ≡ NONE → seen from u ≡ false
+  unseen e none = not-i-false _ (eq-eqb (at from u) NONE (sym e ∙ none))
+
+  pub look-is-seen : {k : ℕ} → k ≡ at from u → (k ≡ NONE → ⊥) → Is (RanOut tail) queue from (look n (common t) hs x u (take tail queue) from)
+  look-is-seen e some = more-is (look-seen n (common t) hs x u (take tail queue) from (not-i _ (ne-eqb (at from u) NONE (λ q. some (e ∙ q))))) (r .within)
+
+  pub look-is-free : {k load : ℕ} {from' : List ℕ} → k ≡ at from u → k ≡ NONE → from' ≡ set from u x → load ≡ holds n (at hs) u → load < t
+      → Is (Found u x) queue from' (look n (common t) hs x u (take tail queue) from)
+  unfolding common
+  look-is-free e none mark count less =
+      found-is (look-free n (common t) hs x u (take tail queue) from (unseen e none) (omega (arith, count)) ∙ ap (found u x) (sym mark))
+
+  pub look-joins : {k : ℕ} → k ≡ at from u → k ≡ NONE → Joinable n u hs queue tail
+  look-joins e none =
+      record {
+        few = r .going .few;
+        holders = r .holders;
+        room = omega (arith, r .places, length-take-le tail queue (r .within), going-room (r .going) u x (r .gateway) (unseen e none));
+      }
+
+  pub look-is-full : {k load tail' : ℕ} {queue' from' : List ℕ} → k ≡ at from u → k ≡ NONE → from' ≡ set from u x → load ≡ holds n (at hs) u → t ≤ load
+      → Joined n u hs queue queue' tail tail' → Is (RanOut tail') queue' from' (look n (common t) hs x u (take tail queue) from)
+  unfolding common
+  look-is-full e none mark count most j =
+      more-is (look-full n (common t) hs x u (take tail queue) from (unseen e none) (omega (arith, count)) ∙ rw (j .state, mark)) (j .within)
+
+-- one link: a look at its other end, where NONE stands for a link that x is no end of
+link-visit : (n : ℕ) (limit : ℕ → ℕ) (hs : List ℕ) (x a b : ℕ) (rest queue from : List ℕ) {u : ℕ} → length from ≤ 1024 → u ≡ cond (eqb a x) b (cond (eqb b x) a NONE)
+    → visit n limit hs x (neighbours (a ∷ b ∷ rest) x) (more queue from) ≡ visit n limit hs x (neighbours rest x) (look n limit hs x u queue from)
+unfolding visit neighbours
+link-visit n limit hs x a b rest queue from long e =
+    by-bool (eqb a x) (λ p. rw (e, p))
+    (λ p. by-bool (eqb b x) (λ q. rw (e, p, q)) (λ q. rw (e, p, q) (ap (visit n limit hs x (neighbours rest x)) (sym (look-seen n limit hs x NONE queue from none)))))
+  where
+    none : seen from NONE ≡ true
+    none = rw (List·getD-eq-default {A = ℕ} from 0 {n = NONE} (omega arith))
+
+visit-short : (n : ℕ) (limit : ℕ → ℕ) (hs : List ℕ) (x : ℕ) (ls : List ℕ) (s : Search) → length ls ≤ 1 → visit n limit hs x (neighbours ls x) s ≡ s
+unfolding visit neighbours
+visit-short n limit hs x [] s h = refl
+visit-short n limit hs x (a ∷ []) s h = refl
+visit-short n limit hs x (a ∷ b ∷ ls) s h = absurd (omega arith)
+
+-- what the links from i on give is what all give
+pub record Visiting (n t x : ℕ) (ls hs queue₀ : List ℕ) (tail : ℕ) (from₀ queue from : List ℕ) (end i : ℕ) : Type 0 where
+  pub upto : i ≤ length ls
+  pub ready : Ready n x hs queue end from
+  pub same : (length queue ≡ length queue₀) × (length from ≡ length from₀)
+  pub rest : visit n (common t) hs x (neighbours (drop i ls) x) (more (take end queue) from) ≡ visit n (common t) hs x (neighbours ls x) (more (take tail queue₀) from₀)
+
+module _ (n t x : ℕ) (ls hs queue₀ : List ℕ) (tail : ℕ) (from₀ : List ℕ) where
+  pub visit-start : Ready n x hs queue₀ tail from₀ → Visiting n t x ls hs queue₀ tail from₀ queue₀ from₀ tail 0
+  visit-start r = record { upto = omega arith; ready = r; same = (refl, refl); rest = refl }
+
+  module _
+      {queue from queue' from' : List ℕ} {end i u : ℕ} {w : Walked} (v : Visiting n t x ls hs queue₀ tail from₀ queue from end i) (l : i + 1 < length ls)
+      (e : u ≡ cond (eqb (at ls i) x) (at ls (i + 1)) (cond (eqb (at ls (i + 1)) x) (at ls i) NONE)) (d : Is w queue' from' (look n (common t) hs x u (take end queue) from))
+    where
+      step : visit n (common t) hs x (neighbours (drop (i + 2) ls) x) (look n (common t) hs x u (take end queue) from)
+          ≡ visit n (common t) hs x (neighbours ls x) (more (take tail queue₀) from₀)
+      step =
+          sym (link-visit n (common t) hs x (at ls i) (at ls (i + 1)) (drop (i + 2) ls) (take end queue) from (omega (arith, v .ready .going .marks, v .ready .going .few)) e)
+          ∙ (rw (pair-at ls i l) at (v .rest))
+
+      pub visit-turn : {end' : ℕ} → w ≡ RanOut end' → (length queue' ≡ length queue) × (length from' ≡ length from) → Visiting n t x ls hs queue₀ tail from₀ queue' from' end' (i + 2)
+      visit-turn {end'} q long =
+          let is : Is (RanOut end') queue' from' (look n (common t) hs x u (take end queue) from) = rw q at d in
+          let same : look n (common t) hs x u (take end queue) from ≡ more (take end' queue') from' = more-state is in
+          record {
+            upto = omega arith;
+            ready = record {
+              going = look-going (common t) (v .ready .going) u x (v .ready .gateway) same;
+              gateway = v .ready .gateway;
+              holders = v .ready .holders;
+              places = omega (arith, v .ready .places, long .0);
+              within = more-within is;
+            };
+            same = (long .0 ∙ v .same .0, long .1 ∙ v .same .1);
+            rest = rw same at step;
+          }
+
+      pub visit-ends : {y z : ℕ} → w ≡ Found y z → Is (Found y z) queue' from' (visit n (common t) hs x (neighbours ls x) (more (take tail queue₀) from₀))
+      visit-ends {y} {z} q =
+          let is : Is (Found y z) queue' from' (look n (common t) hs x u (take end queue) from) = rw q at d in
+          found-is (sym step ∙ ap (visit n (common t) hs x (neighbours (drop (i + 2) ls) x)) (found-state is) ∙ visit-found n (common t) hs x (neighbours (drop (i + 2) ls) x))
+
+  pub visit-out : {queue from : List ℕ} {end i : ℕ} → Visiting n t x ls hs queue₀ tail from₀ queue from end i → length ls ≤ i + 1
+      → Is (RanOut end) queue from (visit n (common t) hs x (neighbours ls x) (more (take tail queue₀) from₀))
+  visit-out {queue} {from} {end} {i} v l =
+      more-is (sym (v .rest) ∙ visit-short n (common t) hs x (drop i ls) (more (take end queue) from) (pair-end ls i l)) (v .ready .within)
+
+-- what the turns from head on give is what the walk gives
+pub record Walking (n t : ℕ) (ls hs queue₀ : List ℕ) (tail : ℕ) (from₀ queue from : List ℕ) (end head : ℕ) : Type 0 where
+  pub going : Going n hs (take end queue) from
+  pub holders : n ≤ length hs
+  pub places : n ≤ length queue
+  pub within : end ≤ length queue
+  pub same : (length queue ≡ length queue₀) × (length from ≡ length from₀)
+  pub rest : turns (n - head) n (common t) ls hs head (more (take end queue) from) ≡ walk n (common t) ls hs (take tail queue₀)
+
+module _ (n t : ℕ) (ls hs queue₀ : List ℕ) (tail : ℕ) (from₀ : List ℕ) where
+  pub walk-start : Walkable n hs queue₀ tail from₀ → Walking n t ls hs queue₀ tail from₀ queue₀ from₀ tail 0
+  unfolding walk
+  walk-start w =
+      record {
+        going = rw (w .unseen) (going-start (w .start));
+        holders = w .holders;
+        places = w .places;
+        within = w .within;
+        same = (refl, refl);
+        rest = rw (w .unseen, sub-zero);
+      }
+
+  module _ {queue from : List ℕ} {end head : ℕ} (v : Walking n t ls hs queue₀ tail from₀ queue from end head) (l : head < end) where
+    long : length (take end queue) ≡ end
+    long = length-take-le end queue (v .within)
+
+    here : at (take end queue) head ≡ at queue head
+    here = getD-take end queue head 0 l
+
+    -- there are fewer turns than gateways
+    pub walk-below : head < n
+    walk-below = omega (arith, v .going .room, long)
+
+    -- the gateway at the head looks at its neighbours
+    pub walk-ready : Ready n (at queue head) hs queue end from
+    walk-ready =
+        record { going = v .going; gateway = rw here at (v .going .below head (rw long l)); holders = v .holders; places = v .places; within = v .within }
+
+    module _
+        {queue' from' : List ℕ} {w : Walked} (d : Is w queue' from' (visit n (common t) hs (at queue head) (neighbours ls (at queue head)) (more (take end queue) from)))
+      where
+        next : turns (n - (head + 1)) n (common t) ls hs (head + 1) (visit n (common t) hs (at queue head) (neighbours ls (at queue head)) (more (take end queue) from))
+            ≡ walk n (common t) ls hs (take tail queue₀)
+        next =
+            rw (add-one, ← here) (sym (turns-step (n - suc head) n (common t) ls hs head (take end queue) from (rw long l)))
+            ∙ ap (λ (k : ℕ). turns k n (common t) ls hs head (more (take end queue) from)) (one walk-below) ∙ v .rest
+          where
+            one : head < n → suc (n - suc head) ≡ n - head
+            one k = omega arith
+
+        pub walk-turn : {end' : ℕ} → w ≡ RanOut end' → (length queue' ≡ length queue) × (length from' ≡ length from) → Walking n t ls hs queue₀ tail from₀ queue' from' end' (head + 1)
+        walk-turn {end'} q long' =
+            let is = rw q at d in
+            let same = more-state is in
+            record {
+              going = visit-going (common t) (at queue head) (neighbours ls (at queue head)) (v .going) (walk-ready .gateway) same;
+              holders = v .holders;
+              places = omega (arith, v .places, long' .0);
+              within = more-within is;
+              same = (long' .0 ∙ v .same .0, long' .1 ∙ v .same .1);
+              rest = rw same at next;
+            }
+
+        pub walk-ends : {y z : ℕ} → w ≡ Found y z → Is (Found y z) queue' from' (walk n (common t) ls hs (take tail queue₀))
+        walk-ends {y} {z} q =
+            let is = rw q at d in
+            found-is (sym next ∙ ap (turns (n - (head + 1)) n (common t) ls hs (head + 1)) (found-state is) ∙ turns-found (n - (head + 1)) n (common t) ls hs (head + 1))
+
+  pub walk-out : {queue from : List ℕ} {end head : ℕ} → Walking n t ls hs queue₀ tail from₀ queue from end head → end ≤ head
+      → Is (RanOut end) queue from (walk n (common t) ls hs (take tail queue₀))
+  walk-out {queue} {from} {end} {head} v l =
+      more-is (sym (v .rest) ∙ turns-out (n - head) n (common t) ls hs head (take end queue) from (rw (length-take-le end queue (v .within)) l)) (v .within)
+
+-- Placing v: a queue that starts with v.
+first-set : (l : List ℕ) (v : ℕ) → 1 ≤ length l → take 1 (set l 0 v) ≡ v ∷ []
+first-set [] v h = absurd (omega arith)
+first-set (a ∷ l) v h = refl
+
+pub settle-walkable : {n : ℕ} {hs : List ℕ} {v : ℕ} {queue from : List ℕ} → Settleable n hs v queue from → Walkable n hs (set queue 0 v) 1 from
+settle-walkable {n} {hs} {v} {queue} s =
+    record {
+      start = rw (first-set queue v (omega (arith, s .places, s .placeable .inside))) (startable (s .placeable));
+      holders = s .placeable .holders;
+      places = rw length-set (s .places);
+      within = rw length-set (omega (arith, s .places, s .placeable .inside));
+      unseen = s .unseen;
+    }
+
+module _
+    (n t : ℕ) (ls hs : List ℕ) (v : ℕ) {queue from queue' from' : List ℕ} {w : Walked} (s : Settleable n hs v queue from)
+    (d : Is w queue' from' (walk n (common t) ls hs (take 1 (set queue 0 v))))
+  where
+    walked : Is w queue' from' (walk n (common t) ls hs (v ∷ []))
+    walked = rw (first-set queue v (omega (arith, s .places, s .placeable .inside))) at d
+
+    pub settle-kept : {u x : ℕ} {hs' : List ℕ} → w ≡ Found u x → hs' ≡ shift n v from' u x hs → hs' ≡ placedHolders n (common t) ls hs v
+    unfolding placedHolders settled
+    settle-kept {u} {x} q e = let is : Is (Found u x) queue' from' (walk n (common t) ls hs (v ∷ [])) = rw q at walked in rw (found-state is) e
+
+    pub settle-left : {tail : ℕ} → w ≡ RanOut tail → hs ≡ placedHolders n (common t) ls hs v
+    unfolding placedHolders settled
+    settle-left {tail} q = let is : Is (RanOut tail) queue' from' (walk n (common t) ls hs (v ∷ [])) = rw q at walked in rw (more-state is)
+
+-- the first n of a list of equal entries
+take-replicate : (n m a : ℕ) → n ≤ m → take n (replicate m a) ≡ replicate n a
+take-replicate zero m a h = refl
+take-replicate (suc n) zero a h = absurd (omega arith)
+take-replicate (suc n) (suc m) a h = ap {B = List ℕ} (λ l. a ∷ l) (take-replicate n m a (omega arith))
+
+-- the arrays to work in
+pub place-marks : (n : ℕ) → n ≤ 1024 → n ≡ length (take n (replicate 1024 NONE))
+place-marks n few = sym (rw (take-replicate n 1024 NONE few) (length-replicate n NONE))
+
+pub place-settles : {n : ℕ} {hs : List ℕ} {v : ℕ} → Placeable n hs v → Settleable n hs v (replicate 1024 0) (take n (replicate 1024 NONE))
+place-settles {n} p = record { placeable = p; places = rw length-replicate (p .few); unseen = take-replicate n 1024 NONE (p .few) }

@@ -1,0 +1,69 @@
+-- `shift_back` meets its contract: the laws of Shifting.
+use borrow.Author.Needs.{needs}
+use Prim.Native.Nat.{_-_}
+use Rattle.search.proofs.Shifting.{Rounds, rounds-start, rounds-turn, rounds-done, rounds-end}
+use Rattle.search.proofs.shift.shift_back.Statement.{statement}
+use Rattle.search.proofs.shift.shift_back.Tie as tie
+
+abbrev Inv-loop : tie.InvT-loop
+Inv-loop n v u x from holders₀ taker₀ taken₀ k₀ holders taker taken k = Rounds n v u x from holders₀ holders taker taken k
+
+abbrev μ-loop : tie.MeasureT-loop
+μ-loop n v u x from holders₀ taker₀ taken₀ k₀ holders taker taken k = n - k
+
+loop-holds : tie.Need-loop-holds Inv-loop μ-loop
+loop-holds c = rounds-start _ _ _ _ _ _
+
+entry-requires : tie.Need-entry-requires Inv-loop μ-loop
+entry-requires c κs = search needs
+
+put-requires : tie.Need-put-requires Inv-loop μ-loop
+put-requires c κs = search needs
+
+same-length : tie.Need-same-length Inv-loop μ-loop
+same-length c = search needs
+
+returns : tie.Need-returns Inv-loop μ-loop
+returns c = let put = c .before .before .before in
+    let entry = put .before .before in
+    let turn = entry .before .before in
+    rounds-done _ _ _ _ _ _ (turn .before .loop .inv) (turn .loop-test .taken) (put .put .ensures) (c .if1 .taken)
+
+entry-requires-2 : tie.Need-entry-requires-2 Inv-loop μ-loop
+entry-requires-2 c κs = search needs
+
+add-k : tie.Need-add-k Inv-loop μ-loop
+add-k c = search needs
+
+loop-less : tie.Need-loop-less Inv-loop μ-loop
+loop-less c = search needs
+
+loop-again : tie.Need-loop-again Inv-loop μ-loop
+loop-again c = let put = c .before .before .before .before in
+    let entry = put .before .before in
+    let turn = entry .before .before in
+    rounds-turn _ _ _ _ _ _ (turn .before .loop .inv) (turn .loop-test .taken) (entry .entry .ensures) (put .put .ensures) (c .before .if1 .left) (c .entry2 .ensures)
+
+same-length-2 : tie.Need-same-length-2 Inv-loop μ-loop
+same-length-2 c = search needs
+
+returns-2 : tie.Need-returns-2 Inv-loop μ-loop
+returns-2 c = rounds-end _ _ _ _ _ _ (c .before .loop .inv) (c .loop-test .left)
+
+pub shift-back-spec : {M : Type 1} → statement M
+shift-back-spec =
+    tie.close
+    (tie.spec
+    Inv-loop
+    μ-loop
+    loop-holds
+    entry-requires
+    put-requires
+    same-length
+    returns
+    entry-requires-2
+    add-k
+    loop-less
+    loop-again
+    same-length-2
+    returns-2)

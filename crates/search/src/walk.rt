@@ -1,0 +1,106 @@
+// The search for a gateway with a place free.
+use crate::Walked;
+use crate::held::join;
+use crate::held::load;
+use crate::lists::entry;
+use crate::lists::put;
+ghost use mathlib.Core.Path.{_≡_};
+ghost use mathlib.Core.Bool.{cond};
+ghost use lib.Dec.{eqb};
+ghost use lib.ListN.{take};
+ghost use Rattle.packing.specs.Plant.{NONE, common, neighbours};
+ghost use Rattle.search.specs.Search as model;
+ghost use Rattle.search.specs.Search.{more};
+ghost use Rattle.search.specs.Pre.{Is, Ready, Walkable};
+
+// The other end of the link a-b where x is an end of it; else none.
+fn other_end(a: u16, b: u16, x: u16) -> u16
+    ensures { λ r. ⌜ r ≡ cond (eqb a x) b (cond (eqb b x) a NONE) ⌝ }
+{
+    if a == x {
+        return b;
+    }
+    if b == x {
+        return a;
+    }
+    65535
+}
+
+// Looks at u from x.
+fn look(
+    n: usize,
+    t: u8,
+    x: u16,
+    u: u16,
+    holders: &[u16],
+    queue: &mut [u16],
+    tail: usize,
+    from: &mut [u16],
+) -> Walked
+    requires { ⌜ Ready n x (now holders) (now queue) tail (now from) ⌝ }
+    ensures { λ r. ⌜ Is r (now (queue .exit)) (now (from .exit)) (model.look n (common t) (now (holders .entry)) x u (take tail (now (queue .entry))) (now (from .entry))) ⌝ }
+{
+    if entry(from, u) != 65535 {
+        return Walked::RanOut(tail);
+    }
+    put(from, u, x);
+    if load(n, u, holders) < t as usize {
+        return Walked::Found(u, x);
+    }
+    Walked::RanOut(join(n, u, holders, queue, tail))
+}
+
+// Goes through x's links in order of arrival.
+fn visit(
+    n: usize,
+    t: u8,
+    x: u16,
+    links: &[u16],
+    holders: &[u16],
+    queue: &mut [u16],
+    tail: usize,
+    from: &mut [u16],
+) -> Walked
+    requires { ⌜ Ready n x (now holders) (now queue) tail (now from) ⌝ }
+    ensures { λ r. ⌜ Is r (now (queue .exit)) (now (from .exit)) (model.visit n (common t) (now (holders .entry)) x (neighbours (now (links .entry)) x) (more (take tail (now (queue .entry))) (now (from .entry)))) ⌝ }
+{
+    let mut end = tail;
+    let mut i: usize = 0;
+    while i + 1 < links.len() {
+        let u = other_end(links[i], links[i + 1], x);
+        let w = look(n, t, x, u, holders, queue, end, from);
+        match w {
+            Walked::Found(y, z) => return Walked::Found(y, z),
+            Walked::RanOut(e) => end = e,
+        }
+        i += 2;
+    }
+    Walked::RanOut(end)
+}
+
+// The search from the first `tail` of the queue, nobody seen yet. A limit of 0 leaves nobody a place free.
+pub fn walk(
+    n: usize,
+    t: u8,
+    links: &[u16],
+    holders: &[u16],
+    queue: &mut [u16],
+    tail: usize,
+    from: &mut [u16],
+) -> Walked
+    requires { ⌜ Walkable n (now holders) (now queue) tail (now from) ⌝ }
+    ensures { λ r. ⌜ Is r (now (queue .exit)) (now (from .exit)) (model.walk n (common t) (now (links .entry)) (now (holders .entry)) (take tail (now (queue .entry)))) ⌝ }
+{
+    let mut end = tail;
+    let mut head: usize = 0;
+    while head < end {
+        let x = queue[head];
+        let w = visit(n, t, x, links, holders, queue, end, from);
+        match w {
+            Walked::Found(y, z) => return Walked::Found(y, z),
+            Walked::RanOut(e) => end = e,
+        }
+        head += 1;
+    }
+    Walked::RanOut(end)
+}
