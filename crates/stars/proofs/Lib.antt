@@ -1,2 +1,5 @@
 -- Laws of the leader list.
 pub mod Examples
+pub mod Loops
+pub mod Tables
+pub mod Backs
