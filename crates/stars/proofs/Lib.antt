@@ -3,3 +3,4 @@ pub mod Examples
 pub mod Loops
 pub mod Tables
 pub mod Backs
+pub mod Passes

@@ -42,6 +42,11 @@ marked l v = eqb (at l v) 1
 unfoldable pub holdsLed : ℕ → List ℕ → List ℕ → List ℕ → ℕ → Bool
 holdsLed i hs ss ls u = any i (λ w. eqb (at hs w) u && not (marked ss w) && not (marked ls w))
 
+-- n holders, and an array of the stopped arcs
+pub record Stopped (n : ℕ) (hs ss : List ℕ) : Type 0 where
+  pub holders : Holders n hs
+  pub stops : 1024 ≡ length ss
+
 -- a round: n holders, an array of the stopped arcs and one of those who lead by the round before
 pub record Round (n : ℕ) (hs ss ls : List ℕ) : Type 0 where
   pub holders : Holders n hs
