@@ -3,4 +3,5 @@ pub mod Examples
 pub mod Loops
 pub mod Tables
 pub mod Backs
+pub mod Begins
 pub mod Passes
