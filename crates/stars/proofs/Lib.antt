@@ -5,3 +5,6 @@ pub mod Tables
 pub mod Backs
 pub mod Begins
 pub mod Passes
+pub mod RuleFive
+pub mod Listing
+pub mod Joined

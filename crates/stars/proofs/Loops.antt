@@ -5,7 +5,7 @@ use mathlib.Core.Bool.{Bool, true, false, cond, _||_}
 use native.Mathlib.Nat.{not-suc-le-zero}
 use native.Mathlib.Numerals.{add-one}
 use native.Mathlib.Omega.{arith}
-use Rattle.packing.specs.Count.{pick, count, any}
+use Rattle.packing.specs.Count.{pick, sum, count, any}
 use Rattle.packing.proofs.Tests.{by-bool, or-none, below-suc, any-intro, any-none, any-fails}
 use Rattle.packing.proofs.Sums.{count-suc}
 use Rattle.stars.specs.Stars.{firstWith}
@@ -28,13 +28,6 @@ unfolding any
 any-ext zero p q h = refl
 any-ext (suc n) p q h = rw (any-ext n p q (λ i l. h i (omega arith)), h n (omega arith))
 
--- one more counted
-pub count-more : (n : ℕ) (p : ℕ → Bool) (k b r : ℕ) → k ≡ count n p → b ≡ pick (p n) 1 → r ≡ k + b → r ≡ count (n + 1) p
-count-more n p k b r e f g = rw add-one (g ∙ rw (e, f) (sym (count-suc n p)))
-
-pub count-end : (n : ℕ) (p : ℕ → Bool) (k i : ℕ) → i ≤ n → n ≤ i → k ≡ count i p → k ≡ count n p
-count-end n p k i u l e = e ∙ ap (λ (m : ℕ). count m p) (last u l)
-
 -- the first with p is where none before it has p
 pub first-here : (n : ℕ) (p : ℕ → Bool) (w : ℕ) → w < n → any w p ≡ false → p w ≡ true → w ≡ firstWith n p
 unfolding firstWith
@@ -51,6 +44,33 @@ pub first-ext : (n : ℕ) (p q : ℕ → Bool) → ((i : ℕ) → i < n → p i 
 unfolding firstWith
 first-ext zero p q h = refl
 first-ext (suc n) p q h = rw (any-ext n p q (λ i l. h i (omega arith)), first-ext n p q (λ i l. h i (omega arith)), h n (omega arith))
+
+-- a loop that counts those with p has counted k of the first w
+pub record Tallied (n : ℕ) (p : ℕ → Bool) (k w : ℕ) : Type 0 where
+  pub upto : w ≤ n
+  pub few : k ≤ w
+  pub counted : k ≡ count w p
+
+-- a test adds at most 1
+pub pick-few : (b : Bool) {x : ℕ} → x ≡ pick b 1 → x ≤ 1
+pick-few true e = omega arith
+pick-few false e = omega arith
+
+module _ (n : ℕ) (p : ℕ → Bool) where
+  pub tally-start : Tallied n p 0 0
+  unfolding count sum
+  tally-start = record { upto = omega arith; few = omega arith; counted = refl }
+
+  pub tally-turn : {k w x : ℕ} (b : Bool) → Tallied n p k w → w < n → b ≡ p w → x ≡ pick b 1 → Tallied n p (k + x) (w + 1)
+  tally-turn {k} {w} {x} b t h e f =
+      record {
+        upto = omega arith;
+        few = omega (arith, pick-few b f);
+        counted = rw add-one (rw (t .counted, f, e) (sym (count-suc w p)));
+      }
+
+  pub tally-end : {k w : ℕ} → Tallied n p k w → n ≤ w → k ≡ count n p
+  tally-end {k} {w} t h = t .counted ∙ ap (λ (m : ℕ). count m p) (last (t .upto) h)
 
 -- a loop that looks for the first with p has passed w, none of which has it
 pub record Sought (n : ℕ) (p : ℕ → Bool) (w : ℕ) : Type 0 where

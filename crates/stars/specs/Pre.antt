@@ -15,10 +15,10 @@ pub record Lent (n : ℕ) (hs out : List ℕ) : Type 0 where
   pub held : n ≤ length hs
   pub room : n ≤ length out
 
--- n holders
-pub record Holders (n : ℕ) (hs : List ℕ) : Type 0 where
+-- the first n entries of a list
+pub record Entries (n : ℕ) (l : List ℕ) : Type 0 where
   pub few : n ≤ 1024
-  pub held : n ≤ length hs
+  pub enough : n ≤ length l
 
 -- an array of 1,024 in which nothing is marked
 pub record Blank (l : List ℕ) : Type 0 where
@@ -44,29 +44,29 @@ holdsLed i hs ss ls u = any i (λ w. eqb (at hs w) u && not (marked ss w) && not
 
 -- n holders, and an array of the stopped arcs
 pub record Stopped (n : ℕ) (hs ss : List ℕ) : Type 0 where
-  pub holders : Holders n hs
+  pub holders : Entries n hs
   pub stops : 1024 ≡ length ss
 
 -- a round: n holders, an array of the stopped arcs and one of those who lead by the round before
 pub record Round (n : ℕ) (hs ss ls : List ℕ) : Type 0 where
-  pub holders : Holders n hs
+  pub holders : Entries n hs
   pub stops : 1024 ≡ length ss
   pub led : 1024 ≡ length ls
 
 -- n holders, with their cycles marked
 pub record Cycled (n : ℕ) (hs cs : List ℕ) : Type 0 where
-  pub holders : Holders n hs
+  pub holders : Entries n hs
   pub cycles : Marks n (onCycle n hs) cs
 
 -- with those who lead by rule 1 marked too
 pub record Treed (n : ℕ) (hs cs ts : List ℕ) : Type 0 where
-  pub holders : Holders n hs
+  pub holders : Entries n hs
   pub cycles : Marks n (onCycle n hs) cs
   pub trees : Marks n (leadsInTrees n hs) ts
 
 -- with the cut arcs and those who lead by rules 1 to 4 marked
 pub record Ruled (n : ℕ) (hs cs ds ls : List ℕ) : Type 0 where
-  pub holders : Holders n hs
+  pub holders : Entries n hs
   pub cycles : Marks n (onCycle n hs) cs
   pub cuts : Marks n (cut n hs) ds
   pub led : Marks n (leads n hs) ls

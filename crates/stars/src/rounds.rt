@@ -9,7 +9,7 @@ ghost use mathlib.Core.Bool.{not, _&&_};
 ghost use Prim.Native.Nat.{_<_};
 ghost use lib.ListN.{length};
 ghost use Rattle.stars.specs.Stars.{leadsIn};
-ghost use Rattle.stars.specs.Pre.{Holders, Marks, Round, Stopped, marked, holdsLed};
+ghost use Rattle.stars.specs.Pre.{Marks, Round, Stopped, marked, holdsLed};
 
 // Whether w's holder leads w: the arc is not stopped, and w does not lead.
 fn is_led(stops: &[u16], leading: &[u16], w: u16) -> bool

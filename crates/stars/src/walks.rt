@@ -7,10 +7,10 @@ use crate::marks::is_marked;
 use crate::marks::zeros;
 ghost use mathlib.Core.Path.{_≡_};
 ghost use Rattle.stars.specs.Stars.{holder, onCycle, nextOnCycle};
-ghost use Rattle.stars.specs.Pre.{Holders, Marks, Cycled};
+ghost use Rattle.stars.specs.Pre.{Entries, Marks, Cycled};
 
 pub fn holder_of(n: u16, holders: &[u16], v: u16) -> u16
-    requires { ⌜ Holders n (now holders) ⌝ }
+    requires { ⌜ Entries n (now holders) ⌝ }
     ensures { λ r. ⌜ r ≡ holder n (now (holders .entry)) v ⌝ }
 {
     if v < n {
@@ -20,7 +20,7 @@ pub fn holder_of(n: u16, holders: &[u16], v: u16) -> u16
 }
 
 fn on_cycle(n: u16, holders: &[u16], v: u16) -> bool
-    requires { ⌜ Holders n (now holders) ⌝ }
+    requires { ⌜ Entries n (now holders) ⌝ }
     ensures { λ r. ⌜ r ≡ onCycle n (now (holders .entry)) v ⌝ }
 {
     let mut found = false;
@@ -35,7 +35,7 @@ fn on_cycle(n: u16, holders: &[u16], v: u16) -> bool
 }
 
 pub fn on_cycles(n: u16, holders: &[u16]) -> [u16; 1024]
-    requires { ⌜ Holders n (now holders) ⌝ }
+    requires { ⌜ Entries n (now holders) ⌝ }
     ensures { λ r. ⌜ Marks n (onCycle n (now (holders .entry))) r ⌝ }
 {
     let mut cycles = zeros();
