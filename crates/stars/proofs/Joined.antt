@@ -47,8 +47,8 @@ module _ {n : ℕ} {hs cs ds ls : List ℕ} (r : Ruled n hs cs ds ls) (v : ℕ) 
   leader-holder e f g q s t = rw (sym (leading e) ∙ f, sym (cutting g) ∙ q) (rw s at t)
 
 -- the list by rule 5 over the array of leaders is the leader list
-pub list-joined : (n : ℕ) (hs : List ℕ) {gs old new : List ℕ} → Table n (leaderOf n hs) gs → new ≡ listOf n (ruleFive ltb n (at gs)) ++ drop n old
+pub list-joined : (n : ℕ) (hs old : List ℕ) {gs new : List ℕ} → Table n (leaderOf n hs) gs → new ≡ listOf n (ruleFive ltb n (at gs)) ++ drop n old
     → new ≡ listOf n (leaderList n hs) ++ drop n old
 unfolding leaderList
-list-joined n hs {gs} {old} t e =
+list-joined n hs old {gs} t e =
     e ∙ ap (λ (l : List ℕ). l ++ drop n old) (listOf-ext n (ruleFive ltb n (at gs)) (ruleFive ltb n (leaderOf n hs)) (five-ext ltb n (at gs) (leaderOf n hs) (t .entry)))

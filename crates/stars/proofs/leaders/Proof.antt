@@ -1,77 +1,58 @@
+-- `leaders` meets its contract: the laws of Joined.
+use Rattle.stars.proofs.Joined.{trees-marked, leads-marked, list-joined}
 use borrow.Author.Needs.{needs}
 use Rattle.stars.proofs.leaders.Statement.{statement}
 use Rattle.stars.proofs.leaders.Tie as tie
-use Rattle.stars.proofs.leaders.Reads as reads
-use Rattle.stars.proofs.leaders.Lts as lts
-use Rattle.stars.proofs.cuts.cut_arcs.Reads as cut-arcs-reads
-use Rattle.stars.proofs.pairs.write_list.Reads as write-list-reads
-use Rattle.stars.proofs.reading.leaders_of.Reads as leaders-of-reads
-use Rattle.stars.proofs.rounds.leading.Reads as leading-reads
-use Rattle.stars.proofs.walks.on_cycles.Reads as on-cycles-reads
 
--- src/lib.rt:20:18
 on-cycles-requires : tie.Need-on-cycles-requires
 on-cycles-requires c κs = search needs
 
--- src/lib.rt:21:45
 slice-aggregate-leading : tie.Need-slice-aggregate-leading
 slice-aggregate-leading c = search needs
 
--- src/lib.rt:21:17
 leading-requires : tie.Need-leading-requires
 leading-requires c κs = search needs
 
--- src/lib.rt:22:42
 slice-aggregate-cut-arcs : tie.Need-slice-aggregate-cut-arcs
 slice-aggregate-cut-arcs c = search needs
 
--- src/lib.rt:22:51
 slice-aggregate-cut-arcs-2 : tie.Need-slice-aggregate-cut-arcs-2
 slice-aggregate-cut-arcs-2 c = search needs
 
--- src/lib.rt:22:15
 cut-arcs-requires : tie.Need-cut-arcs-requires
-cut-arcs-requires c κs = ?
+cut-arcs-requires c κs = let first = c .before .before .before .before in
+    record { holders = search needs; cycles = first .on-cycles .ensures; trees = trees-marked _ _ (first .on-cycles .ensures) (c .before .before .leading .ensures) }
 
--- src/lib.rt:23:47
 slice-aggregate-leading-2 : tie.Need-slice-aggregate-leading-2
 slice-aggregate-leading-2 c = search needs
 
--- src/lib.rt:23:19
 leading-requires-2 : tie.Need-leading-requires-2
 leading-requires-2 c κs = search needs
 
--- src/lib.rt:24:50
 slice-aggregate-leaders-of : tie.Need-slice-aggregate-leaders-of
 slice-aggregate-leaders-of c = search needs
 
--- src/lib.rt:24:59
 slice-aggregate-leaders-of-2 : tie.Need-slice-aggregate-leaders-of-2
 slice-aggregate-leaders-of-2 c = search needs
 
--- src/lib.rt:24:65
 slice-aggregate-leaders-of-3 : tie.Need-slice-aggregate-leaders-of-3
 slice-aggregate-leaders-of-3 c = search needs
 
--- src/lib.rt:24:18
 leaders-of-requires : tie.Need-leaders-of-requires
-leaders-of-requires c κs = ?
+leaders-of-requires c κs = let third = c .before .before .before .before .before in
+    record { holders = search needs; cycles = third .before .before .before .before .before .on-cycles .ensures; cuts = third .cut-arcs .ensures; led = leads-marked _ _ (third .cut-arcs .ensures) (c .before .before .before .leading2 .ensures) }
 
--- src/lib.rt:25:26
 slice-aggregate-write-list : tie.Need-slice-aggregate-write-list
 slice-aggregate-write-list c = search needs
 
--- src/lib.rt:25:5
 write-list-requires : tie.Need-write-list-requires
 write-list-requires c κs = search needs
 
--- src/lib.rt:16:1
 same-length : tie.Need-same-length
 same-length c = search needs
 
--- src/lib.rt:16:1
 returns : tie.Need-returns
-returns c = ?
+returns c = list-joined _ _ _ (c .before .before .before .before .before .leaders-of .ensures) (c .before .before .write-list .ensures)
 
 pub leaders-spec : {M : Type 1} → statement M
 leaders-spec =

@@ -1,40 +1,34 @@
+-- `rule_five` meets its contract: the laws of RuleFive.
+use lib.Dec.{ltb}
+use Rattle.packing.specs.Plant.{at}
+use Rattle.stars.proofs.RuleFive.{five-none, five-more, five-pair}
 use borrow.Author.Needs.{needs}
 use Rattle.stars.proofs.pairs.rule_five.Statement.{statement}
 use Rattle.stars.proofs.pairs.rule_five.Tie as tie
-use Rattle.stars.proofs.pairs.rule_five.Reads as reads
-use Rattle.stars.proofs.pairs.rule_five.Lts as lts
-use Rattle.stars.proofs.marks.entry.Reads as entry-reads
-use Rattle.stars.proofs.pairs.member_count.Reads as member-count-reads
-use Rattle.stars.proofs.pairs.pair_leader.Reads as pair-leader-reads
-use Rattle.stars.proofs.pairs.partner_of.Reads as partner-of-reads
 
--- src/pairs.rt:72:9
 entry-requires : tie.Need-entry-requires
 entry-requires c κs = search needs
 
--- src/pairs.rt:74:9
 returns : tie.Need-returns
-returns c = ?
+returns c = five-none ltb _ (at (c .before .before .before .args .groups .now)) _ (c .before .entry .ensures) (c .if1 .taken)
 
--- src/pairs.rt:76:8
 member-count-requires : tie.Need-member-count-requires
 member-count-requires c κs = search needs
 
--- src/pairs.rt:77:9
 returns-2 : tie.Need-returns-2
-returns-2 c = ?
+returns-2 c = let first = c .before .before in
+    five-more ltb _ (at (first .before .before .before .args .groups .now)) _ (first .before .entry .ensures) (first .if1 .left) (c .before .member-count .ensures) (c .if2 .taken)
 
--- src/pairs.rt:79:20
 partner-of-requires : tie.Need-partner-of-requires
 partner-of-requires c κs = search needs
 
--- src/pairs.rt:79:5
 pair-leader-requires : tie.Need-pair-leader-requires
 pair-leader-requires c κs = search needs
 
--- src/pairs.rt:68:1
 returns-3 : tie.Need-returns-3
-returns-3 c = ?
+returns-3 c = let second = c .before .before in
+    let first = second .before .before in
+    five-pair ltb _ (at (first .before .before .before .args .groups .now)) _ (first .before .entry .ensures) (first .if1 .left) (second .before .member-count .ensures) (second .if2 .left) (c .before .partner-of .ensures) (c .pair-leader .ensures)
 
 pub rule-five-spec : {M : Type 1} → statement M
 rule-five-spec =
