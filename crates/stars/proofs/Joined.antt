@@ -1,11 +1,10 @@
 -- The arrays, put together, are the leaders by rules 1 to 4 and the leader list.
-use Prim.Native.Nat.{ℕ, _<_, _≤_}
-use mathlib.Core.Path.{_≡_, refl, sym, ap, _∙_}
+use Prim.Native.Nat.{ℕ, _<_}
+use mathlib.Core.Path.{_≡_, sym, ap, _∙_}
 use mathlib.Core.Bool.{Bool, true, false, not, cond}
 use mathlib.Core.List.{List, _++_}
 use lib.Dec.{ltb}
 use lib.ListN.{drop}
-use Rattle.packing.specs.Count.{pick}
 use Rattle.packing.specs.Plant.{NONE, at}
 use Rattle.stars.specs.Stars.{onCycle, nextOnCycle, leadsIn, leadsInTrees, cut, leads, leaderOf, ruleFive, leaderList, listOf}
 use Rattle.stars.specs.Pre.{Table, Marks, Ruled, marked}

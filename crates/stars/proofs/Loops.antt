@@ -1,12 +1,12 @@
 -- What a loop over the i below n gathers: whether any has p, how many have it, and the first that has it.
 use Prim.Native.Nat.{ℕ, zero, suc, _+_, _<_, _≤_}
 use mathlib.Core.Path.{_≡_, refl, sym, ap, _∙_}
-use mathlib.Core.Bool.{Bool, true, false, cond, _||_}
+use mathlib.Core.Bool.{Bool, true, false, _||_}
 use native.Mathlib.Nat.{not-suc-le-zero}
 use native.Mathlib.Numerals.{add-one}
 use native.Mathlib.Omega.{arith}
 use Rattle.packing.specs.Count.{pick, sum, count, any}
-use Rattle.packing.proofs.Tests.{by-bool, or-none, below-suc, any-intro, any-none, any-fails}
+use Rattle.packing.proofs.Tests.{or-none, below-suc, any-intro, any-none, any-fails}
 use Rattle.packing.proofs.Sums.{count-suc}
 use Rattle.stars.specs.Stars.{firstWith}
 

@@ -1,7 +1,7 @@
 -- The rounds of rule 1: one pass over the gateways, and n rounds of it.
 use Prim.Native.Nat.{ℕ, zero, suc, _+_, _<_, _≤_}
 use mathlib.Core.Path.{_≡_, refl, sym, ap, _∙_}
-use mathlib.Core.Bool.{Bool, true, false, not, cond, _&&_, _||_}
+use mathlib.Core.Bool.{Bool, true, false, not, cond, _&&_, _||_, and-false, and-assoc, or-true, or-false}
 use mathlib.Core.List.{List}
 use native.Mathlib.Numerals.{add-one}
 use native.Mathlib.Omega.{arith}
@@ -13,30 +13,17 @@ use Rattle.packing.specs.Count.{pick, any}
 use Rattle.packing.specs.Plant.{at}
 use Rattle.packing.proofs.Tests.{by-bool}
 use Rattle.stars.specs.Stars.{leadsIn}
-use Rattle.stars.specs.Pre.{Blank, Table, Marks, marked, holdsLed}
+use Rattle.stars.specs.Pre.{Blank, Marks, marked, holdsLed}
 use Rattle.stars.proofs.Loops.{last, any-more, any-ext}
 use Rattle.stars.proofs.Tables.{read-mark}
 
 -- u noted where b is true: v is marked if it was, or is u
 note-at : (l : List ℕ) (u v : ℕ) (old b : Bool) → v < length l → at l v ≡ pick old 1 → at (cond b (set l u 1) l) v ≡ pick (old || (eqb u v && b)) 1
-note-at l u v old false h e = e ∙ ap (λ (c : Bool). pick c 1) (nothing old (eqb u v))
-  where
-    nothing : (a c : Bool) → a ≡ (a || (c && false))
-    nothing true c = refl
-    nothing false true = refl
-    nothing false false = refl
+note-at l u v old false h e = rw (and-false, or-false) e
 note-at l u v old true h e =
     by-bool (eqb u v)
-    (λ q. rw (q, eqb-true u v q) (getD-set-same l v 1 0 h ∙ ap (λ (c : Bool). pick c 1) (certain old)))
-    (λ q. rw q (getD-set-other l u v 1 0 (λ r. eqb-false u v q (sym r)) ∙ e ∙ ap (λ (c : Bool). pick c 1) (same old)))
-  where
-    certain : (a : Bool) → true ≡ (a || true)
-    certain true = refl
-    certain false = refl
-
-    same : (a : Bool) → a ≡ (a || false)
-    same true = refl
-    same false = refl
+    (λ q. rw (q, eqb-true u v q, or-true) (getD-set-same l v 1 0 h))
+    (λ q. rw (q, or-false) (getD-set-other l u v 1 0 (λ r. eqb-false u v q (sym r)) ∙ e))
 
 length-note : (l : List ℕ) (u : ℕ) (b : Bool) → length (cond b (set l u 1) l) ≡ length l
 length-note l u true = length-set l u 1
@@ -65,10 +52,6 @@ module _ (n : ℕ) (hs ss ls : List ℕ) where
               ∙ ap (λ (b : Bool). pick b 1) (any-more w _ _ (eqb u v && led) _ refl (rw (e, f) (sym (and-assoc (eqb (at hs w) v) _ _))) refl);
         };
       }
-    where
-      and-assoc : (a b c : Bool) → (a && b && c) ≡ (a && (b && c))
-      and-assoc true b c = refl
-      and-assoc false b c = refl
 
   pub pass-end : {next : List ℕ} {w : ℕ} → n ≤ 1024 → Passed n hs ss ls next w → n ≤ w → Marks n (holdsLed n hs ss ls) next
   pass-end {next} {w} few p h =

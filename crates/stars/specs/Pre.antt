@@ -1,4 +1,4 @@
--- What the functions are lent, and the arrays that they fill.
+-- What the functions are lent, and the arrays that they fill: cs marks the gateways on cycles, ts those who lead by rule 1, ds the cut arcs, ss the arcs that are stopped, ls those who lead.
 use Prim.Native.Nat.{ℕ, _<_, _≤_}
 use mathlib.Core.Path.{_≡_}
 use mathlib.Core.Bool.{Bool, not, _&&_}

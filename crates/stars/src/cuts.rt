@@ -23,6 +23,7 @@ fn goes_on(trees: &[u16], v: u16, u: u16) -> bool
     v <= u
 }
 
+// Whether v is the lowest number on a cycle none of whose gateways lead.
 fn begins_cycle(n: u16, holders: &[u16], cycles: &[u16], trees: &[u16], v: u16) -> bool
     requires { ⌜ (Treed n (now holders) (now cycles) (now trees)) × (v < n) ⌝ }
     ensures { λ r. ⌜ r ≡ begins n (now (holders .entry)) v ⌝ }
@@ -41,6 +42,7 @@ fn begins_cycle(n: u16, holders: &[u16], cycles: &[u16], trees: &[u16], v: u16) 
     ok
 }
 
+// Whether the arc into v is cut.
 fn is_cut(n: u16, holders: &[u16], cycles: &[u16], trees: &[u16], v: u16) -> bool
     requires { ⌜ (Treed n (now holders) (now cycles) (now trees)) × (v < n) ⌝ }
     ensures { λ r. ⌜ r ≡ cut n (now (holders .entry)) v ⌝ }
@@ -51,6 +53,7 @@ fn is_cut(n: u16, holders: &[u16], cycles: &[u16], trees: &[u16], v: u16) -> boo
     begins_cycle(n, holders, cycles, trees, v)
 }
 
+// Marks each gateway whose arc is cut.
 pub fn cut_arcs(n: u16, holders: &[u16], cycles: &[u16], trees: &[u16]) -> [u16; 1024]
     requires { ⌜ Treed n (now holders) (now cycles) (now trees) ⌝ }
     ensures { λ r. ⌜ Marks n (cut n (now (holders .entry))) r ⌝ }

@@ -13,6 +13,7 @@ ghost use Rattle.stars.specs.Stars.{leaderList, listOf};
 ghost use Rattle.stars.specs.Pre.{Lent};
 
 // Writes the leader list to the first n places of out. Each step fills one array: the cycles, who leads by rule 1, the cut arcs, who leads by rules 1 to 4, and their leaders.
+// The equation shuts out, for one, the holders passed on as leaders, since a chain of holders is no star; and an odd cycle whose last gateway is left alone, where its first three are to be one group.
 pub fn leaders(n: u16, holders: &[u16], out: &mut [u16])
     requires { ⌜ Lent n (now holders) (now out) ⌝ }
     ensures { λ _. ⌜ now (out .exit) ≡ listOf n (leaderList n (now (holders .entry))) ++ drop n (now (out .entry)) ⌝ }

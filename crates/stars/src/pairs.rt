@@ -38,6 +38,7 @@ fn is_member(g: u16, w: u16, u: u16) -> bool
     false
 }
 
+// How many others have u's number as their entry.
 fn member_count(n: u16, groups: &[u16], u: u16) -> u16
     requires { ⌜ Entries n (now groups) ⌝ }
     ensures { λ r. ⌜ r ≡ memberCount n (at (now (groups .entry))) u ⌝ }
@@ -51,6 +52,7 @@ fn member_count(n: u16, groups: &[u16], u: u16) -> u16
     k
 }
 
+// The lowest of these; n where there is none.
 fn partner_of(n: u16, groups: &[u16], u: u16) -> u16
     requires { ⌜ Entries n (now groups) ⌝ }
     ensures { λ r. ⌜ r ≡ partner n (at (now (groups .entry))) u ⌝ }
@@ -65,6 +67,7 @@ fn partner_of(n: u16, groups: &[u16], u: u16) -> u16
     n
 }
 
+// v's entry once in a group of two the one that leads the pair leads.
 fn rule_five(n: u16, groups: &[u16], v: u16) -> u16
     requires { ⌜ (Entries n (now groups)) × (v < n) ⌝ }
     ensures { λ r. ⌜ r ≡ ruleFive ltb n (at (now (groups .entry))) v ⌝ }

@@ -11,6 +11,7 @@ ghost use Rattle.packing.specs.Plant.{NONE};
 ghost use Rattle.stars.specs.Stars.{leaderOf};
 ghost use Rattle.stars.specs.Pre.{Table, Ruled};
 
+// u, where it is a gateway.
 fn gateway_or_none(n: u16, u: u16) -> u16
     ensures { λ r. ⌜ r ≡ cond (ltb u n) u NONE ⌝ }
 {
@@ -20,6 +21,7 @@ fn gateway_or_none(n: u16, u: u16) -> u16
     65535
 }
 
+// v's leader: itself, the next on its cycle, or its holder.
 fn leader_of(n: u16, holders: &[u16], cycles: &[u16], cuts: &[u16], leading: &[u16], v: u16) -> u16
     requires { ⌜ (Ruled n (now holders) (now cycles) (now cuts) (now leading)) × (v < n) ⌝ }
     ensures { λ r. ⌜ r ≡ leaderOf n (now (holders .entry)) v ⌝ }
@@ -33,6 +35,7 @@ fn leader_of(n: u16, holders: &[u16], cycles: &[u16], cuts: &[u16], leading: &[u
     gateway_or_none(n, entry(holders, v))
 }
 
+// The leader of each gateway.
 pub fn leaders_of(
     n: u16,
     holders: &[u16],

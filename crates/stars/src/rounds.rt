@@ -1,5 +1,4 @@
 // Who leads, by rounds over the arcs that are not stopped.
-use crate::marks::both;
 use crate::marks::entry;
 use crate::marks::is_marked;
 use crate::marks::note;
@@ -38,7 +37,7 @@ fn round(n: u16, holders: &[u16], stops: &[u16], leading: &[u16]) -> [u16; 1024]
     next
 }
 
-// n rounds.
+// Marks who leads after n rounds.
 pub fn leading(n: u16, holders: &[u16], stops: &[u16]) -> [u16; 1024]
     requires { ⌜ Stopped n (now holders) (now stops) ⌝ }
     ensures { λ r. ⌜ Marks n (leadsIn n n (now (holders .entry)) (λ w. not (marked (now (stops .entry)) w))) r ⌝ }

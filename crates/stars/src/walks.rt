@@ -9,6 +9,7 @@ ghost use mathlib.Core.Path.{_≡_};
 ghost use Rattle.stars.specs.Stars.{holder, onCycle, nextOnCycle};
 ghost use Rattle.stars.specs.Pre.{Entries, Marks, Cycled};
 
+// v's holder; what is no gateway has none.
 pub fn holder_of(n: u16, holders: &[u16], v: u16) -> u16
     requires { ⌜ Entries n (now holders) ⌝ }
     ensures { λ r. ⌜ r ≡ holder n (now (holders .entry)) v ⌝ }
@@ -19,6 +20,7 @@ pub fn holder_of(n: u16, holders: &[u16], v: u16) -> u16
     65535
 }
 
+// Whether some arcs back from v, at most n, is v again.
 fn on_cycle(n: u16, holders: &[u16], v: u16) -> bool
     requires { ⌜ Entries n (now holders) ⌝ }
     ensures { λ r. ⌜ r ≡ onCycle n (now (holders .entry)) v ⌝ }
@@ -34,6 +36,7 @@ fn on_cycle(n: u16, holders: &[u16], v: u16) -> bool
     found
 }
 
+// Marks each gateway on a cycle.
 pub fn on_cycles(n: u16, holders: &[u16]) -> [u16; 1024]
     requires { ⌜ Entries n (now holders) ⌝ }
     ensures { λ r. ⌜ Marks n (onCycle n (now (holders .entry))) r ⌝ }
@@ -48,6 +51,7 @@ pub fn on_cycles(n: u16, holders: &[u16]) -> [u16; 1024]
     cycles
 }
 
+// The lowest number on a cycle that v holds; n where there is none.
 pub fn next_on_cycle(n: u16, holders: &[u16], cycles: &[u16], v: u16) -> u16
     requires { ⌜ Cycled n (now holders) (now cycles) ⌝ }
     ensures { λ r. ⌜ r ≡ nextOnCycle n (now (holders .entry)) v ⌝ }
