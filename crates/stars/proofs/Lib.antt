@@ -1,2 +1,10 @@
 -- Laws of the leader list.
 pub mod Examples
+pub mod Loops
+pub mod Tables
+pub mod Backs
+pub mod Begins
+pub mod Passes
+pub mod RuleFive
+pub mod Listing
+pub mod Joined

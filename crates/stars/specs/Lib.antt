@@ -1,2 +1,3 @@
 -- 01, "Reading": the leader list of a set of holders.
 pub mod Stars
+pub mod Pre

@@ -1,0 +1,63 @@
+-- `member_count` meets its contract: a count.
+use borrow.Author.Needs.{needs}
+use Prim.Native.Nat.{_-_}
+use mathlib.Core.Bool.{not, _&&_}
+use native.Mathlib.Omega.{arith}
+use lib.Dec.{eqb}
+use Rattle.packing.specs.Plant.{at}
+use Rattle.packing.specs.Grouping.{memberCount}
+use Rattle.stars.proofs.Loops.{Tallied, tally-start, tally-turn, tally-end, pick-few}
+use Rattle.stars.proofs.RuleFive.{member-test}
+use Rattle.stars.proofs.pairs.member_count.Statement.{statement}
+use Rattle.stars.proofs.pairs.member_count.Tie as tie
+
+abbrev Inv-loop : tie.InvT-loop
+Inv-loop n groups u k₀ w₀ k w = Tallied n (λ x. eqb (at groups x) u && not (eqb x u)) k w
+
+abbrev μ-loop : tie.MeasureT-loop
+μ-loop n groups u k₀ w₀ k w = n - w
+
+loop-holds : tie.Need-loop-holds Inv-loop μ-loop
+loop-holds c = tally-start _ _
+
+entry-requires : tie.Need-entry-requires Inv-loop μ-loop
+entry-requires c κs = search needs
+
+is-member-requires : tie.Need-is-member-requires Inv-loop μ-loop
+is-member-requires c κs = search needs
+
+bit-requires : tie.Need-bit-requires Inv-loop μ-loop
+bit-requires c κs = search needs
+
+add-k : tie.Need-add-k Inv-loop μ-loop
+add-k c = omega (arith, pick-few (c .before .is-member .result) (c .bit .ensures))
+
+add-w : tie.Need-add-w Inv-loop μ-loop
+add-w c = search needs
+
+loop-less : tie.Need-loop-less Inv-loop μ-loop
+loop-less c = search needs
+
+loop-again : tie.Need-loop-again Inv-loop μ-loop
+loop-again c = let turn = c .before .before .before in
+    tally-turn _ _ (c .before .is-member .result) (turn .before .loop .inv) (turn .loop-test .taken) (member-test (at (turn .before .before .before .args .groups .now)) _ _ (c .before .before .entry .ensures) (c .before .is-member .ensures)) (c .bit .ensures)
+
+returns : tie.Need-returns Inv-loop μ-loop
+unfolding memberCount
+returns c = tally-end _ _ (c .before .loop .inv) (c .loop-test .left)
+
+pub member-count-spec : {M : Type 1} → statement M
+member-count-spec =
+    tie.close
+    (tie.spec
+    Inv-loop
+    μ-loop
+    loop-holds
+    entry-requires
+    is-member-requires
+    bit-requires
+    add-k
+    add-w
+    loop-less
+    loop-again
+    returns)

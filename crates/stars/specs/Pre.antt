@@ -1,0 +1,72 @@
+-- What the functions are lent, and the arrays that they fill: cs marks the gateways on cycles, ts those who lead by rule 1, ds the cut arcs, ss the arcs that are stopped, ls those who lead.
+use Prim.Native.Nat.{ℕ, _<_, _≤_}
+use mathlib.Core.Path.{_≡_}
+use mathlib.Core.Bool.{Bool, not, _&&_}
+use mathlib.Core.List.{List}
+use lib.Dec.{eqb}
+use lib.ListN.{length}
+use Rattle.packing.specs.Count.{pick, any}
+use Rattle.packing.specs.Plant.{at}
+use Rattle.stars.specs.Stars.{onCycle, leadsInTrees, cut, leads}
+
+-- what the leader list is made of, and where it goes: n holders and n places. An entry of hs may be any number: one from n on is no gateway.
+pub record Lent (n : ℕ) (hs out : List ℕ) : Type 0 where
+  pub few : n ≤ 1024
+  pub held : n ≤ length hs
+  pub room : n ≤ length out
+
+-- the first n entries of a list
+pub record Entries (n : ℕ) (l : List ℕ) : Type 0 where
+  pub few : n ≤ 1024
+  pub enough : n ≤ length l
+
+-- an array of 1,024 in which nothing is marked
+pub record Blank (l : List ℕ) : Type 0 where
+  pub long : 1024 ≡ length l
+  pub zero : (v : ℕ) → at l v ≡ 0
+
+-- an array of 1,024 that holds f's value at each v below n
+pub record Table (n : ℕ) (f : ℕ → ℕ) (l : List ℕ) : Type 0 where
+  pub long : 1024 ≡ length l
+  pub entry : (v : ℕ) → v < n → at l v ≡ f v
+
+-- the same with 1 where a test holds, and 0 where it does not
+abbrev pub Marks : ℕ → (ℕ → Bool) → List ℕ → Type 0
+Marks n p l = Table n (λ v. pick (p v) 1) l
+
+-- v is marked
+abbrev pub marked : List ℕ → ℕ → Bool
+marked l v = eqb (at l v) 1
+
+-- u holds one below i whose arc is not stopped and who does not lead
+unfoldable pub holdsLed : ℕ → List ℕ → List ℕ → List ℕ → ℕ → Bool
+holdsLed i hs ss ls u = any i (λ w. eqb (at hs w) u && not (marked ss w) && not (marked ls w))
+
+-- n holders, and an array of the stopped arcs
+pub record Stopped (n : ℕ) (hs ss : List ℕ) : Type 0 where
+  pub holders : Entries n hs
+  pub stops : 1024 ≡ length ss
+
+-- a round: n holders, an array of the stopped arcs and one of those who lead by the round before
+pub record Round (n : ℕ) (hs ss ls : List ℕ) : Type 0 where
+  pub holders : Entries n hs
+  pub stops : 1024 ≡ length ss
+  pub led : 1024 ≡ length ls
+
+-- n holders, with their cycles marked
+pub record Cycled (n : ℕ) (hs cs : List ℕ) : Type 0 where
+  pub holders : Entries n hs
+  pub cycles : Marks n (onCycle n hs) cs
+
+-- with those who lead by rule 1 marked too
+pub record Treed (n : ℕ) (hs cs ts : List ℕ) : Type 0 where
+  pub holders : Entries n hs
+  pub cycles : Marks n (onCycle n hs) cs
+  pub trees : Marks n (leadsInTrees n hs) ts
+
+-- with the cut arcs and those who lead by rules 1 to 4 marked
+pub record Ruled (n : ℕ) (hs cs ds ls : List ℕ) : Type 0 where
+  pub holders : Entries n hs
+  pub cycles : Marks n (onCycle n hs) cs
+  pub cuts : Marks n (cut n hs) ds
+  pub led : Marks n (leads n hs) ls

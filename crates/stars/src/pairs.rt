@@ -1,0 +1,96 @@
+// Rule 5, over any grouping.
+use crate::marks::bit;
+use crate::marks::entry;
+ghost use mathlib.Core.Path.{_≡_};
+ghost use mathlib.Core.Bool.{not, _&&_};
+ghost use mathlib.Core.List.{_++_};
+ghost use Prim.Native.Nat.{_<_, _≤_};
+ghost use lib.Dec.{eqb, ltb};
+ghost use lib.ListN.{length, drop};
+ghost use Rattle.packing.specs.Plant.{at};
+ghost use Rattle.packing.specs.Grouping.{memberCount};
+ghost use Rattle.stars.specs.Stars.{pairLeader, partner, ruleFive, listOf};
+ghost use Rattle.stars.specs.Pre.{Entries};
+
+// Of the pair a and b, whether a leads.
+fn leads_pair(a: u16, b: u16) -> bool
+    ensures { λ r. ⌜ r ≡ ltb a b ⌝ }
+{
+    a < b
+}
+
+fn pair_leader(a: u16, b: u16) -> u16
+    ensures { λ r. ⌜ r ≡ pairLeader ltb a b ⌝ }
+{
+    if leads_pair(a, b) {
+        return a;
+    }
+    b
+}
+
+// Whether w, with the entry g, is another one of u's group.
+fn is_member(g: u16, w: u16, u: u16) -> bool
+    ensures { λ r. ⌜ r ≡ (eqb g u && not (eqb w u)) ⌝ }
+{
+    if g == u {
+        return w != u;
+    }
+    false
+}
+
+// How many others have u's number as their entry.
+fn member_count(n: u16, groups: &[u16], u: u16) -> u16
+    requires { ⌜ Entries n (now groups) ⌝ }
+    ensures { λ r. ⌜ r ≡ memberCount n (at (now (groups .entry))) u ⌝ }
+{
+    let mut k: u16 = 0;
+    let mut w: u16 = 0;
+    while w < n {
+        k += bit(is_member(entry(groups, w), w, u));
+        w += 1;
+    }
+    k
+}
+
+// The lowest of these; n where there is none.
+fn partner_of(n: u16, groups: &[u16], u: u16) -> u16
+    requires { ⌜ Entries n (now groups) ⌝ }
+    ensures { λ r. ⌜ r ≡ partner n (at (now (groups .entry))) u ⌝ }
+{
+    let mut w: u16 = 0;
+    while w < n {
+        if is_member(entry(groups, w), w, u) {
+            return w;
+        }
+        w += 1;
+    }
+    n
+}
+
+// v's entry once in a group of two the one that leads the pair leads.
+fn rule_five(n: u16, groups: &[u16], v: u16) -> u16
+    requires { ⌜ (Entries n (now groups)) × (v < n) ⌝ }
+    ensures { λ r. ⌜ r ≡ ruleFive ltb n (at (now (groups .entry))) v ⌝ }
+{
+    let u = entry(groups, v);
+    if n <= u {
+        return u;
+    }
+    if member_count(n, groups, u) != 1 {
+        return u;
+    }
+    pair_leader(u, partner_of(n, groups, u))
+}
+
+// The list of n entries, written to the front of out.
+pub fn write_list(n: u16, groups: &[u16], out: &mut [u16])
+    requires { ⌜ (Entries n (now groups)) × (n ≤ length (now out)) ⌝ }
+    ensures { λ _. ⌜ now (out .exit) ≡ listOf n (ruleFive ltb n (at (now (groups .entry)))) ++ drop n (now (out .entry)) ⌝ }
+{
+    let mut v: u16 = 0;
+    while v < n {
+        let place = v as usize;
+        out[place] = rule_five(n, groups, v);
+        v += 1;
+    }
+}

@@ -1,0 +1,57 @@
+// Each gateway's leader by rules 1 to 4.
+use crate::marks::entry;
+use crate::marks::is_marked;
+use crate::marks::zeros;
+use crate::walks::next_on_cycle;
+ghost use mathlib.Core.Path.{_≡_};
+ghost use mathlib.Core.Bool.{cond};
+ghost use Prim.Native.Nat.{_<_};
+ghost use lib.Dec.{ltb};
+ghost use Rattle.packing.specs.Plant.{NONE};
+ghost use Rattle.stars.specs.Stars.{leaderOf};
+ghost use Rattle.stars.specs.Pre.{Table, Ruled};
+
+// u, where it is a gateway.
+fn gateway_or_none(n: u16, u: u16) -> u16
+    ensures { λ r. ⌜ r ≡ cond (ltb u n) u NONE ⌝ }
+{
+    if u < n {
+        return u;
+    }
+    65535
+}
+
+// v's leader: itself, the next on its cycle, or its holder.
+fn leader_of(n: u16, holders: &[u16], cycles: &[u16], cuts: &[u16], leading: &[u16], v: u16) -> u16
+    requires { ⌜ (Ruled n (now holders) (now cycles) (now cuts) (now leading)) × (v < n) ⌝ }
+    ensures { λ r. ⌜ r ≡ leaderOf n (now (holders .entry)) v ⌝ }
+{
+    if is_marked(leading, v) {
+        return v;
+    }
+    if is_marked(cuts, v) {
+        return next_on_cycle(n, holders, cycles, v);
+    }
+    gateway_or_none(n, entry(holders, v))
+}
+
+// The leader of each gateway.
+pub fn leaders_of(
+    n: u16,
+    holders: &[u16],
+    cycles: &[u16],
+    cuts: &[u16],
+    leading: &[u16],
+) -> [u16; 1024]
+    requires { ⌜ Ruled n (now holders) (now cycles) (now cuts) (now leading) ⌝ }
+    ensures { λ r. ⌜ Table n (leaderOf n (now (holders .entry))) r ⌝ }
+{
+    let mut groups = zeros();
+    let mut v: u16 = 0;
+    while v < n {
+        let place = v as usize;
+        groups[place] = leader_of(n, holders, cycles, cuts, leading, v);
+        v += 1;
+    }
+    groups
+}
