@@ -1,2 +1,4 @@
 -- Laws of the leader list.
+pub mod Cycles
+pub mod Leads
 pub mod Examples
