@@ -1,4 +1,5 @@
 -- Laws of the leader list.
 pub mod Cycles
 pub mod Leads
+pub mod Groups
 pub mod Examples
