@@ -120,7 +120,7 @@ module _ (n : ℕ) (hs : List ℕ) (few : n ≤ NONE) where
               (by, by-bool (onCycle n hs w) (λ t. t) (λ t. clash _ (trees-child n hs few u l .1 (w, a, by, t, sym (leads-tree n hs few w t) ∙ member-quiet w u a l (entry w mw) (other w mw))) (rw r at (b .none i))))
 
   -- who is held gets a gateway for its entry
-  leaderOf-below : (v : ℕ) → v < n → held n (at hs) v ≡ true → leaderOf n hs v < n
+  pub leaderOf-below : (v : ℕ) → v < n → held n (at hs) v ≡ true → leaderOf n hs v < n
   leaderOf-below v l h =
       by-bool (leads n hs v) (λ e. rw (entry-leads n hs v e) l)
       (λ e. by-bool (cut n hs v) (λ c. rw (entry-cut n hs v e c) (next-held n hs few v l (cut-starts v l e c .on) .0)) (λ c. let k = ltb-true (at hs v) n h in rw (entry-held n hs v e c k) k))
@@ -202,9 +202,9 @@ module _ (leadsPair : ℕ → ℕ → Bool) (n : ℕ) (g : ℕ → ℕ) where
   five-pair v u e l one = rw (e, lt-ltb u n l, one)
 
   -- every other gateway keeps its entry
-  pub five-keeps : (v : ℕ) → (memberCount n g (g v) ≡ 1 → ⊥) → ruleFive leadsPair n g v ≡ g v
+  pub five-keeps : (v : ℕ) → (g v < n → memberCount n g (g v) ≡ 1 → ⊥) → ruleFive leadsPair n g v ≡ g v
   unfolding ruleFive
-  five-keeps v h = rw (ne-eqb (memberCount n g (g v)) 1 h, and-comm (ltb (g v) n) false)
+  five-keeps v h = rw (not-test (ltb (g v) n && eqb (memberCount n g (g v)) 1) (λ t. h (ltb-true (g v) n (and-l _ _ t)) (eqb-true (memberCount n g (g v)) 1 (and-r (ltb (g v) n) _ t))))
 
   -- so that an entry stays, or becomes the partner of what it was
   five-cases : {A : Type 0} (v : ℕ) → (ruleFive leadsPair n g v ≡ g v → A) → (g v < n → memberCount n g (g v) ≡ 1 → ruleFive leadsPair n g v ≡ partner n g (g v) → A) → A
@@ -326,7 +326,7 @@ module _
             let size : memberCount n (ruleFive leadsPair n g) v ≡ memberCount n g (g v) = rw (← here) at (five-members v l k) in
             leader-is n limit adj (ruleFive leadsPair n g) v (sym here) (omega arith)
             (by-bool (eqb (memberCount n g (g v)) 1) (λ q. omega (arith, one v l, eqb-true (memberCount n g (g v)) 1 q))
-            (λ q. let same : v ≡ g v = here ∙ five-keeps leadsPair n g v (eqb-false _ 1 q) in omega (arith, ap limit same))))
+            (λ q. let same : v ≡ g v = here ∙ five-keeps leadsPair n g v (λ m. eqb-false _ 1 q) in omega (arith, ap limit same))))
             (λ t. member-is n limit adj (ruleFive leadsPair n g) v x refl below (linked k (eqb-false v x t)) (five-by leadsPair n g v x from))
 
 -- the leader list by all five rules

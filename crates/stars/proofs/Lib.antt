@@ -2,4 +2,5 @@
 pub mod Cycles
 pub mod Leads
 pub mod Groups
+pub mod Rules
 pub mod Examples
