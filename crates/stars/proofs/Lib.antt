@@ -2,5 +2,6 @@
 pub mod Cycles
 pub mod Leads
 pub mod Groups
+pub mod Runs
 pub mod Rules
 pub mod Examples
