@@ -8,11 +8,11 @@ use mathlib.Core.List.{List}
 use native.Mathlib.Nat.{zero-add, suc-add, add-comm}
 use native.Mathlib.Omega.{arith}
 use lib.Dec.{eqb, ltb}
-use borrow.Author.Tests.{eqb-true, eq-eqb, ltb-true, ltb-false, lt-ltb}
+use borrow.Author.Tests.{eqb-true, eqb-false, eq-eqb, ltb-true, ltb-false, lt-ltb}
 use Rattle.packing.specs.Count.{count, sumOver, any}
 use Rattle.packing.specs.Plant.{NONE, at}
 use Rattle.packing.specs.Holders.{held}
-use Rattle.packing.proofs.Tests.{by-bool, clash, and-l, and-r, and-i, or-cases, not-test, any-intro, any-elim}
+use Rattle.packing.proofs.Tests.{by-bool, clash, and-l, and-r, and-i, or-cases, not-test, any-intro, any-fails}
 use Rattle.packing.proofs.Sums.{count-all, count-unique, fibre, sumOver-mono, sumOver-const}
 use Rattle.stars.specs.Stars.{firstWith, holder, back, onCycle, nextOnCycle}
 
@@ -23,6 +23,14 @@ first-found zero p e = absurd (false≢true e)
 first-found (suc n) p e =
     by-bool (any n p) (λ t. rw t (let r = first-found n p t in (omega (arith, r .0), r .1)))
     (λ f. let t : p n ≡ true = ⊎-elim (λ q. clash (any n p) q f) (λ q. q) (or-cases (any n p) (p n) e) in rw (f, t) (omega arith, t))
+
+-- where there is one with p, one is the least
+pub least : (n : ℕ) (p : ℕ → Bool) → any n p ≡ true → (a : ℕ) × (a < n) × (p a ≡ true) × ((i : ℕ) → i < a → p i ≡ false)
+unfolding any
+least zero p e = absurd (false≢true e)
+least (suc n) p e =
+    by-bool (any n p) (λ t. let (a, l, q, low) = least n p t in (a, omega arith, q, low))
+    (λ f. (n, omega arith, ⊎-elim (λ q. clash (any n p) q f) (λ q. q) (or-cases (any n p) (p n) e), any-fails n p f))
 
 -- of n + 1 numbers below n two are equal
 pub pigeonhole : (n : ℕ) (f : ℕ → ℕ) → ((i : ℕ) → i ≤ n → f i < n) → ((i j : ℕ) → i < j → j ≤ n → f i ≡ f j → ⊥) → ⊥
@@ -102,10 +110,10 @@ module _ (n : ℕ) (hs : List ℕ) (few : n ≤ NONE) where
   pub round-below : (v i : ℕ) → v < n → back n hs (suc i) v ≡ v → (j : ℕ) → back n hs j v < n
   round-below v i l round j = let r = round-return n hs v i round j in back-below (r .0) (back n hs j v) (rw (r .1) l)
 
-  -- a gateway on a cycle comes back after at most n arcs
-  pub cycle-round : (v : ℕ) → onCycle n hs v ≡ true → (i : ℕ) × (i < n) × (back n hs (suc i) v ≡ v)
+  -- a gateway on a cycle comes back after at most n arcs; d + 1 is the first time
+  pub cycle-round : (v : ℕ) → onCycle n hs v ≡ true → (d : ℕ) × (d < n) × (back n hs (suc d) v ≡ v) × ((i : ℕ) → i < d → back n hs (suc i) v ≡ v → ⊥)
   unfolding onCycle
-  cycle-round v e = let (i, l, t) = any-elim n (λ i. eqb (back n hs (suc i) v) v) e in (i, l, eqb-true _ v t)
+  cycle-round v e = let (d, l, t, low) = least n (λ i. eqb (back n hs (suc i) v) v) e in (d, l, eqb-true _ v t, λ i k. eqb-false _ v (low i k))
 
   -- whoever comes back after any number of arcs is on a cycle
   pub round-cycle : (v i : ℕ) → v < n → back n hs (suc i) v ≡ v → onCycle n hs v ≡ true
@@ -121,10 +129,10 @@ module _ (n : ℕ) (hs : List ℕ) (few : n ≤ NONE) where
   -- going back along a cycle stays on it
   pub cycle-back : (v : ℕ) → onCycle n hs v ≡ true → (j : ℕ) → onCycle n hs (back n hs j v) ≡ true
   unfolding onCycle
-  cycle-back v e j = let (i, l, r) = cycle-round v e in any-intro n (λ k. eqb (back n hs (suc k) (back n hs j v)) (back n hs j v)) i l (eq-eqb _ _ (round-back n hs v i r j))
+  cycle-back v e j = let (i, l, r, _) = cycle-round v e in any-intro n (λ k. eqb (back n hs (suc k) (back n hs j v)) (back n hs j v)) i l (eq-eqb _ _ (round-back n hs v i r j))
 
   pub cycle-below : (v : ℕ) → v < n → onCycle n hs v ≡ true → (j : ℕ) → back n hs j v < n
-  cycle-below v l e = let (i, m, r) = cycle-round v e in round-below v i l r
+  cycle-below v l e = let (i, m, r, _) = cycle-round v e in round-below v i l r
 
   -- the holder of a gateway on a cycle is on it
   pub cycle-holder : (v : ℕ) → v < n → onCycle n hs v ≡ true → (at hs v < n) × (onCycle n hs (at hs v) ≡ true)
@@ -138,8 +146,8 @@ module _ (n : ℕ) (hs : List ℕ) (few : n ≤ NONE) where
   -- two on cycles with the same holder are one
   pub cycle-only : (x y : ℕ) → x < n → y < n → onCycle n hs x ≡ true → onCycle n hs y ≡ true → at hs x ≡ at hs y → x ≡ y
   cycle-only x y l m e f q =
-      let (i, _, r) = cycle-round x e in
-      let (j, _, s) = cycle-round y f in
+      let (i, _, r, _) = cycle-round x e in
+      let (j, _, s, _) = cycle-round y f in
       let there : back n hs (suc j) x ≡ y = from j ∙ s in
       sym r ∙ from i ∙ rw there at (round-back n hs x i r (suc j))
     where
@@ -150,7 +158,7 @@ module _ (n : ℕ) (hs : List ℕ) (few : n ≤ NONE) where
   pub next-held : (v : ℕ) → v < n → onCycle n hs v ≡ true → (nextOnCycle n hs v < n) × (onCycle n hs (nextOnCycle n hs v) ≡ true) × (at hs (nextOnCycle n hs v) ≡ v)
   unfolding nextOnCycle back
   next-held v l e =
-      let (i, m, r) = cycle-round v e in
+      let (i, m, r, _) = cycle-round v e in
       let below : back n hs i v < n = cycle-below v l e i in
       let held-by : at hs (back n hs i v) ≡ v = sym (holder-at n hs (back n hs i v) below) ∙ r in
       let (k, t) = first-found n next (any-intro n next (back n hs i v) below (and-i (onCycle n hs (back n hs i v)) (eqb (at hs (back n hs i v)) v) (cycle-back v e i) (eq-eqb (at hs (back n hs i v)) v held-by))) in

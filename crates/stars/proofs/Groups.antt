@@ -44,7 +44,7 @@ module _ (n : ℕ) (hs : List ℕ) (few : n ≤ NONE) where
 
   -- the walk back from the holder of a gateway on a cycle comes to the gateway
   pub cycle-behind : (u v : ℕ) → u < n → onCycle n hs u ≡ true → at hs u ≡ v → (i : ℕ) × (back n hs i v ≡ u)
-  cycle-behind u v l o e = let (i, m, r) = cycle-round n hs few u o in (i, rw (← e, ← holder-at n hs u l) (back-holder n hs i u ∙ r))
+  cycle-behind u v l o e = let (i, m, r, _) = cycle-round n hs few u o in (i, rw (← e, ← holder-at n hs u l) (back-holder n hs i u ∙ r))
 
   -- a kept arc to one that leads nobody comes from one that leads
   pub kept-leads : (v : ℕ) → v < n → at hs v < n → cut n hs v ≡ false → leads n hs v ≡ false → leads n hs (at hs v) ≡ true

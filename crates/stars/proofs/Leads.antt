@@ -19,7 +19,7 @@ any-ext zero p q h = refl
 any-ext (suc n) p q h = rw (any-ext n p q (λ i l. h i (omega arith)), h n (omega arith))
 
 -- of some numbers one is lowest
-lowest : (m : ℕ) (f : ℕ → ℕ) → (k : ℕ) × (k ≤ m) × ((i : ℕ) → i ≤ m → f k ≤ f i)
+pub lowest : (m : ℕ) (f : ℕ → ℕ) → (k : ℕ) × (k ≤ m) × ((i : ℕ) → i ≤ m → f k ≤ f i)
 lowest zero f = (zero, omega arith, λ i l. let q : i ≡ 0 = omega arith in rw q (omega arith))
 lowest (suc m) f =
     let (k, l, h) = lowest m f in
@@ -108,7 +108,7 @@ module _ (n : ℕ) (hs : List ℕ) (few : n ≤ NONE) where
       each = all-elim n (λ i. not (leadsInTrees n hs (back n hs i v)) && leb v (back n hs i v)) (and-r (onCycle n hs v) _ e)
 
       met : (j : ℕ) → (k : ℕ) × (k < n) × (back n hs j v ≡ back n hs k v)
-      met j = let (i, m, round) = cycle-round n hs few v on in let (k, l, r) = round-met n hs v i round j in (k, omega arith, r)
+      met j = let (i, m, round, _) = cycle-round n hs few v on in let (k, l, r) = round-met n hs v i round j in (k, omega arith, r)
 
   pub begins-is : {v : ℕ} → Begins n hs v → begins n hs v ≡ true
   unfolding begins
@@ -123,30 +123,33 @@ module _ (n : ℕ) (hs : List ℕ) (few : n ≤ NONE) where
   unfolding cut
   cut-begins v f = rw (f, and-comm (onCycle n hs v) false)
 
-  -- each cycle has a cut arc: into one that leads in trees or, if none does, into the lowest
-  cut-broken : (z i : ℕ) → z < n → back n hs (suc i) z ≡ z → ((k : ℕ) → not (cut n hs (back n hs k z)) ≡ true) → ⊥
-  cut-broken z i l round kept =
-      by-bool (any (suc i) lead)
-      (λ e. let (k, m, t) = any-elim (suc i) lead e in uncut k (cut-leads (back n hs k z) (cycle-back n hs few z on k) t))
-      (λ e.
-      let (k, m, low) = lowest i (λ k. back n hs k z) in
-      uncut k (cut-begins (back n hs k z) (any-fails (suc i) lead e k (omega arith)) ∙ begins-is (record {
-        on = cycle-back n hs few z on k;
-        none = λ j. let (d, b, r) = met j k in rw r (any-fails (suc i) lead e d (omega arith));
-        low = λ j. let (d, b, r) = met j k in rw r (low d b);
-      })))
-    where
-      lead : ℕ → Bool
-      lead k = leadsInTrees n hs (back n hs k z)
+  -- where none on a cycle leads in trees, one on it begins it
+  pub cycle-begins : (v i : ℕ) → onCycle n hs v ≡ true → back n hs (suc i) v ≡ v → ((j : ℕ) → leadsInTrees n hs (back n hs j v) ≡ false) → (k : ℕ) × Begins n hs (back n hs k v)
+  cycle-begins v i on round none =
+      let (k, m, low) = lowest i (λ k. back n hs k v) in (
+        k,
+        record {
+          on = cycle-back n hs few v on k;
+          none = λ j. rw (← back-add n hs j k v) (none (j + k));
+          low = λ j. let (d, b, r) = round-met n hs v i round (j + k) in rw (← back-add n hs j k v, r) (low d b);
+        },
+      )
 
+  -- each cycle has a cut arc: into one that leads in trees or, if none does, into the one that begins it
+  cut-broken : (z i : ℕ) → z < n → back n hs (suc i) z ≡ z → ((k : ℕ) → not (cut n hs (back n hs k z)) ≡ true) → ⊥
+  unfolding back
+  cut-broken z i l round kept =
+      let (k, b) = cycle-begins z i on round quiet in
+      uncut k (cut-begins (back n hs k z) (quiet k) ∙ begins-is b)
+    where
       on : onCycle n hs z ≡ true
       on = round-cycle n hs few z i l round
 
       uncut : (k : ℕ) → cut n hs (back n hs k z) ≡ true → ⊥
       uncut k e = clash _ e (not-true _ (kept k))
 
-      met : (j k : ℕ) → (d : ℕ) × (d ≤ i) × (back n hs j (back n hs k z) ≡ back n hs d z)
-      met j k = let (d, b, r) = round-met n hs z i round (j + k) in (d, b, sym (back-add n hs j k z) ∙ r)
+      quiet : (j : ℕ) → leadsInTrees n hs (back n hs j z) ≡ false
+      quiet j = not-test (leadsInTrees n hs (back n hs j z)) (λ t. uncut j (cut-leads (back n hs j z) (cycle-back n hs few z on j) t))
 
   -- who leads by rules 1 to 4: whoever has a kept arc to one that leads nobody
   pub leads-kept : (u : ℕ) → u < n → leads n hs u ≡ any n (λ w. eqb (at hs w) u && not (cut n hs w) && not (leads n hs w))

@@ -4,4 +4,5 @@ pub mod Leads
 pub mod Groups
 pub mod Runs
 pub mod Rules
+pub mod Places
 pub mod Examples

@@ -12,9 +12,9 @@ use Rattle.packing.specs.Plant.{NONE, at}
 use Rattle.packing.specs.Grouping.{memberCount}
 use Rattle.packing.specs.Holders.{held}
 use Rattle.packing.proofs.Tests.{by-bool, below-suc, clash, and-l, and-r, not-test, iff-test}
-use Rattle.stars.specs.Stars.{holder, back, onCycle, nextOnCycle, leadsInTrees, begins, cut, leads, leaderOf, pairLeader, partner, ruleFive}
-use Rattle.stars.proofs.Cycles.{holder-at, round-met, round-cycle, cycle-back, cycle-only, cycle-held, next-held, next-only}
-use Rattle.stars.proofs.Leads.{Begins, begins-means, begins-is, cut-leads, cut-begins, cut-cycle, trees-child, leads-child, leads-tree, leads-more}
+use Rattle.stars.specs.Stars.{firstWith, holder, back, onCycle, nextOnCycle, leadsInTrees, begins, cut, leads, leaderOf, pairLeader, partner, ruleFive}
+use Rattle.stars.proofs.Cycles.{round-met, round-cycle, cycle-back, cycle-held, next-only}
+use Rattle.stars.proofs.Leads.{Begins, cycle-begins, begins-means, begins-is, cut-leads, cut-begins, cut-cycle, trees-child, leads-child, leads-tree, leads-more}
 use Rattle.stars.proofs.Runs.{Follows, walk, trail, Stretch, idle, pairs}
 use Rattle.stars.proofs.Groups.{entry-leads, entry-cut, entry-held, entry-none, leaderOf-below, cut-starts, partner-only, five-pair, five-keeps}
 
