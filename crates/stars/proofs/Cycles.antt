@@ -9,7 +9,7 @@ use native.Mathlib.Nat.{zero-add, suc-add, add-comm}
 use native.Mathlib.Omega.{arith}
 use lib.Dec.{eqb, ltb}
 use borrow.Author.Tests.{eqb-true, eqb-false, eq-eqb, ltb-true, ltb-false, lt-ltb}
-use Rattle.packing.specs.Count.{count, sumOver, any}
+use Rattle.packing.specs.Count.{count, any}
 use Rattle.packing.specs.Plant.{NONE, at}
 use Rattle.packing.specs.Holders.{held}
 use Rattle.packing.proofs.Tests.{by-bool, clash, and-l, and-r, and-i, or-cases, not-test, any-intro, any-fails}
@@ -100,6 +100,17 @@ module _ (n : ℕ) (hs : List ℕ) (v i : ℕ) (round : back n hs (suc i) v ≡ 
       let (k, l, e) = round-met j in
       by-bool (ltb k i) (λ q. (suc k, ltb-true k i q, ap (holder n hs) e)) (λ q. let last : k ≡ i = omega (arith, ltb-false k i q) in (zero, omega arith, rw e (rw last round)))
 
+module _ (n : ℕ) (hs : List ℕ) where
+  -- a gateway on a cycle comes back after at most n arcs; d + 1 is the first time
+  pub cycle-round : (v : ℕ) → onCycle n hs v ≡ true → (d : ℕ) × (d < n) × (back n hs (suc d) v ≡ v) × ((i : ℕ) → i < d → back n hs (suc i) v ≡ v → ⊥)
+  unfolding onCycle
+  cycle-round v e = let (d, l, t, low) = least n (λ i. eqb (back n hs (suc i) v) v) e in (d, l, eqb-true _ v t, λ i k. eqb-false _ v (low i k))
+
+  -- going back along a cycle stays on it
+  pub cycle-back : (v : ℕ) → onCycle n hs v ≡ true → (j : ℕ) → onCycle n hs (back n hs j v) ≡ true
+  unfolding onCycle
+  cycle-back v e j = let (i, l, r, _) = cycle-round v e in any-intro n (λ k. eqb (back n hs (suc k) (back n hs j v)) (back n hs j v)) i l (eq-eqb _ _ (round-back n hs v i r j))
+
 module _ (n : ℕ) (hs : List ℕ) (few : n ≤ NONE) where
   -- what is no gateway has none behind it
   pub back-below : (i v : ℕ) → back n hs i v < n → v < n
@@ -109,11 +120,6 @@ module _ (n : ℕ) (hs : List ℕ) (few : n ≤ NONE) where
 
   pub round-below : (v i : ℕ) → v < n → back n hs (suc i) v ≡ v → (j : ℕ) → back n hs j v < n
   round-below v i l round j = let r = round-return n hs v i round j in back-below (r .0) (back n hs j v) (rw (r .1) l)
-
-  -- a gateway on a cycle comes back after at most n arcs; d + 1 is the first time
-  pub cycle-round : (v : ℕ) → onCycle n hs v ≡ true → (d : ℕ) × (d < n) × (back n hs (suc d) v ≡ v) × ((i : ℕ) → i < d → back n hs (suc i) v ≡ v → ⊥)
-  unfolding onCycle
-  cycle-round v e = let (d, l, t, low) = least n (λ i. eqb (back n hs (suc i) v) v) e in (d, l, eqb-true _ v t, λ i k. eqb-false _ v (low i k))
 
   -- whoever comes back after any number of arcs is on a cycle
   pub round-cycle : (v i : ℕ) → v < n → back n hs (suc i) v ≡ v → onCycle n hs v ≡ true
@@ -126,18 +132,13 @@ module _ (n : ℕ) (hs : List ℕ) (few : n ≤ NONE) where
           let same : back n hs (suc (k - suc j)) v ≡ v = rw r at (round-back n hs (back n hs j v) (k - suc j) (back-gap n hs j k v a q) m) in
           clash _ (any-intro n (λ d. eqb (back n hs (suc d) v) v) (k - suc j) (omega arith) (eq-eqb _ v same)) e
 
-  -- going back along a cycle stays on it
-  pub cycle-back : (v : ℕ) → onCycle n hs v ≡ true → (j : ℕ) → onCycle n hs (back n hs j v) ≡ true
-  unfolding onCycle
-  cycle-back v e j = let (i, l, r, _) = cycle-round v e in any-intro n (λ k. eqb (back n hs (suc k) (back n hs j v)) (back n hs j v)) i l (eq-eqb _ _ (round-back n hs v i r j))
-
   pub cycle-below : (v : ℕ) → v < n → onCycle n hs v ≡ true → (j : ℕ) → back n hs j v < n
-  cycle-below v l e = let (i, m, r, _) = cycle-round v e in round-below v i l r
+  cycle-below v l e = let (i, m, r, _) = cycle-round n hs v e in round-below v i l r
 
   -- the holder of a gateway on a cycle is on it
   pub cycle-holder : (v : ℕ) → v < n → onCycle n hs v ≡ true → (at hs v < n) × (onCycle n hs (at hs v) ≡ true)
   unfolding back
-  cycle-holder v l e = rw (← holder-at n hs v l) (cycle-below v l e (suc zero), cycle-back v e (suc zero))
+  cycle-holder v l e = rw (← holder-at n hs v l) (cycle-below v l e (suc zero), cycle-back n hs v e (suc zero))
 
   -- a gateway without holder is on none
   pub cycle-held : (v : ℕ) → v < n → held n (at hs) v ≡ false → onCycle n hs v ≡ false
@@ -146,8 +147,8 @@ module _ (n : ℕ) (hs : List ℕ) (few : n ≤ NONE) where
   -- two on cycles with the same holder are one
   pub cycle-only : (x y : ℕ) → x < n → y < n → onCycle n hs x ≡ true → onCycle n hs y ≡ true → at hs x ≡ at hs y → x ≡ y
   cycle-only x y l m e f q =
-      let (i, _, r, _) = cycle-round x e in
-      let (j, _, s, _) = cycle-round y f in
+      let (i, _, r, _) = cycle-round n hs x e in
+      let (j, _, s, _) = cycle-round n hs y f in
       let there : back n hs (suc j) x ≡ y = from j ∙ s in
       sym r ∙ from i ∙ rw there at (round-back n hs x i r (suc j))
     where
@@ -158,10 +159,10 @@ module _ (n : ℕ) (hs : List ℕ) (few : n ≤ NONE) where
   pub next-held : (v : ℕ) → v < n → onCycle n hs v ≡ true → (nextOnCycle n hs v < n) × (onCycle n hs (nextOnCycle n hs v) ≡ true) × (at hs (nextOnCycle n hs v) ≡ v)
   unfolding nextOnCycle back
   next-held v l e =
-      let (i, m, r, _) = cycle-round v e in
+      let (i, m, r, _) = cycle-round n hs v e in
       let below : back n hs i v < n = cycle-below v l e i in
       let held-by : at hs (back n hs i v) ≡ v = sym (holder-at n hs (back n hs i v) below) ∙ r in
-      let (k, t) = first-found n next (any-intro n next (back n hs i v) below (and-i (onCycle n hs (back n hs i v)) (eqb (at hs (back n hs i v)) v) (cycle-back v e i) (eq-eqb (at hs (back n hs i v)) v held-by))) in
+      let (k, t) = first-found n next (any-intro n next (back n hs i v) below (and-i (onCycle n hs (back n hs i v)) (eqb (at hs (back n hs i v)) v) (cycle-back n hs v e i) (eq-eqb (at hs (back n hs i v)) v held-by))) in
       (k, and-l (onCycle n hs (firstWith n next)) _ t, eqb-true (at hs (firstWith n next)) v (and-r (onCycle n hs (firstWith n next)) _ t))
     where
       next : ℕ → Bool

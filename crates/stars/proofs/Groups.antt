@@ -2,11 +2,11 @@
 use Prim.Native.Nat.{ℕ, zero, suc, _+_, _<_, _≤_}
 use mathlib.Core.Path.{_≡_, refl, sym, ap, _∙_}
 use mathlib.Core.Logic.{_⊎_, inl, inr, ⊎-elim}
-use mathlib.Core.Bool.{Bool, true, false, not, cond, _&&_, _||_, and-comm}
+use mathlib.Core.Bool.{Bool, true, false, not, _&&_, _||_}
 use mathlib.Core.List.{List}
 use native.Mathlib.Omega.{arith}
 use lib.Dec.{eqb, ltb, leb}
-use borrow.Author.Tests.{eqb-true, eqb-false, eq-eqb, ne-eqb, ltb-true, ltb-false, lt-ltb, le-ltb, leb-true, le-leb, not-true}
+use borrow.Author.Tests.{eqb-true, eqb-false, eq-eqb, ne-eqb, ltb-true, ltb-false, lt-ltb, leb-true, le-leb, not-true}
 use Rattle.packing.specs.Count.{count, any}
 use Rattle.packing.specs.Plant.{NONE, at}
 use Rattle.packing.specs.Grouping.{Grouping, memberCount, isAlone, isLeader, isMember, covered}
@@ -14,9 +14,9 @@ use Rattle.packing.specs.Holders.{held, holds, Feasible}
 use Rattle.packing.proofs.Tests.{by-bool, clash, and-l, and-r, and-i, or-l, or-r, or-cases, not-i, not-test, iff-test, any-intro, any-elim, any-fails}
 use Rattle.packing.proofs.Sums.{count-mono, count-ext, count-split, count-some, count-find, count-unique, count-one}
 use Rattle.packing.proofs.Groupings.{Sym, Loopless}
-use Rattle.stars.specs.Stars.{firstWith, holder, back, onCycle, nextOnCycle, leadsInTrees, begins, cut, leads, leaderOf, pairLeader, partner, ruleFive, leaderList}
+use Rattle.stars.specs.Stars.{firstWith, back, onCycle, nextOnCycle, leadsInTrees, cut, leads, leaderOf, pairLeader, partner, ruleFive, leaderList}
 use Rattle.stars.proofs.Cycles.{first-found, holder-at, back-holder, cycle-round, cycle-only, next-held}
-use Rattle.stars.proofs.Leads.{Begins, begins-means, cut-begins, cut-cycle, trees-child, leads-child, leads-tree, leads-more}
+use Rattle.stars.proofs.Leads.{Begins, begins-means, cut-begins, trees-child, leads-child, leads-tree, leads-more}
 
 -- the entry by rules 1 to 4, case by case
 module _ (n : ℕ) (hs : List ℕ) (v : ℕ) where
@@ -40,11 +40,11 @@ module _ (n : ℕ) (hs : List ℕ) (few : n ≤ NONE) where
   -- whose arc is cut and who leads nobody begins a cycle
   pub cut-starts : (v : ℕ) → v < n → leads n hs v ≡ false → cut n hs v ≡ true → Begins n hs v
   cut-starts v l e c =
-      begins-means n hs few (sym (cut-begins n hs few v (not-test (leadsInTrees n hs v) (λ t. clash _ (leads-more n hs few v l t) e))) ∙ c)
+      begins-means n hs (sym (cut-begins n hs v (not-test (leadsInTrees n hs v) (λ t. clash _ (leads-more n hs few v l t) e))) ∙ c)
 
   -- the walk back from the holder of a gateway on a cycle comes to the gateway
   pub cycle-behind : (u v : ℕ) → u < n → onCycle n hs u ≡ true → at hs u ≡ v → (i : ℕ) × (back n hs i v ≡ u)
-  cycle-behind u v l o e = let (i, m, r, _) = cycle-round n hs few u o in (i, rw (← e, ← holder-at n hs u l) (back-holder n hs i u ∙ r))
+  cycle-behind u v l o e = let (i, m, r, _) = cycle-round n hs u o in (i, rw (← e, ← holder-at n hs u l) (back-holder n hs i u ∙ r))
 
   -- a kept arc to one that leads nobody comes from one that leads
   pub kept-leads : (v : ℕ) → v < n → at hs v < n → cut n hs v ≡ false → leads n hs v ≡ false → leads n hs (at hs v) ≡ true
@@ -59,7 +59,7 @@ module _ (n : ℕ) (hs : List ℕ) (few : n ≤ NONE) where
       let (i, r) = cycle-behind u v k o h in
       let quiet : leadsInTrees n hs u ≡ false = rw r at (b .none i) in
       let kept : cut n hs u ≡ false = not-test (cut n hs u) (λ t.
-      let d = begins-means n hs few (sym (cut-begins n hs few u quiet) ∙ t) in
+      let d = begins-means n hs (sym (cut-begins n hs u quiet) ∙ t) in
       let same : u ≡ v = omega (arith, rw r at (b .low i), rw (holder-at n hs u k, h) at (d .low (suc zero))) in
       apart (ap (at hs) (sym same) ∙ h)) in
       by-bool (leads n hs u) (λ t. t) (λ t. clash _ (rw h at (kept-leads u k (rw h l) kept t)) e)

@@ -7,11 +7,11 @@ use mathlib.Core.List.{List}
 use native.Mathlib.Omega.{arith}
 use lib.Dec.{eqb, ltb, leb}
 use borrow.Author.Tests.{eqb-true, eq-eqb, ltb-true, ltb-false, leb-true, le-leb, not-true}
-use Rattle.packing.specs.Count.{all, any}
+use Rattle.packing.specs.Count.{any}
 use Rattle.packing.specs.Plant.{NONE, at}
-use Rattle.packing.proofs.Tests.{tests, by-bool, below-suc, clash, and-l, and-r, and-i, or-l, or-r, or-cases, or-none, and-false-l, not-i, not-i-false, not-test, iff-test, all-elim, all-intro, any-intro, any-elim, any-none, any-fails}
+use Rattle.packing.proofs.Tests.{by-bool, below-suc, clash, and-l, and-r, and-i, not-i, not-test, all-elim, all-intro, any-intro, any-elim, any-none}
 use Rattle.stars.specs.Stars.{holder, back, onCycle, leadsIn, leadsInTrees, begins, cut, leads}
-use Rattle.stars.proofs.Cycles.{pigeonhole, holder-at, back-add, back-gap, round-back, round-met, back-below, round-cycle, cycle-round, cycle-back, cycle-holder}
+use Rattle.stars.proofs.Cycles.{pigeonhole, holder-at, back-add, back-gap, round-met, back-below, round-cycle, cycle-round, cycle-back, cycle-holder}
 
 pub any-ext : (n : ℕ) (p q : ℕ → Bool) → ((i : ℕ) → i < n → p i ≡ q i) → any n p ≡ any n q
 unfolding any
@@ -96,7 +96,7 @@ pub record Begins (n : ℕ) (hs : List ℕ) (v : ℕ) : Type 0 where
   pub none : (j : ℕ) → leadsInTrees n hs (back n hs j v) ≡ false
   pub low : (j : ℕ) → v ≤ back n hs j v
 
-module _ (n : ℕ) (hs : List ℕ) (few : n ≤ NONE) where
+module _ (n : ℕ) (hs : List ℕ) where
   pub begins-means : {v : ℕ} → begins n hs v ≡ true → Begins n hs v
   unfolding begins
   begins-means {v} e = record { on = on; none = λ j. let (k, l, r) = met j in rw r (not-true _ (and-l _ _ (each k l))); low = λ j. let (k, l, r) = met j in rw r (leb-true v _ (and-r (not (leadsInTrees n hs (back n hs k v))) _ (each k l))) }
@@ -108,7 +108,7 @@ module _ (n : ℕ) (hs : List ℕ) (few : n ≤ NONE) where
       each = all-elim n (λ i. not (leadsInTrees n hs (back n hs i v)) && leb v (back n hs i v)) (and-r (onCycle n hs v) _ e)
 
       met : (j : ℕ) → (k : ℕ) × (k < n) × (back n hs j v ≡ back n hs k v)
-      met j = let (i, m, round, _) = cycle-round n hs few v on in let (k, l, r) = round-met n hs v i round j in (k, omega arith, r)
+      met j = let (i, m, round, _) = cycle-round n hs v on in let (k, l, r) = round-met n hs v i round j in (k, omega arith, r)
 
   pub begins-is : {v : ℕ} → Begins n hs v → begins n hs v ≡ true
   unfolding begins
@@ -123,24 +123,30 @@ module _ (n : ℕ) (hs : List ℕ) (few : n ≤ NONE) where
   unfolding cut
   cut-begins v f = rw (f, and-comm (onCycle n hs v) false)
 
+  -- only arcs of cycles are cut
+  pub cut-cycle : (v : ℕ) → onCycle n hs v ≡ false → cut n hs v ≡ false
+  unfolding cut begins
+  cut-cycle v e = rw e
+
   -- where none on a cycle leads in trees, one on it begins it
   pub cycle-begins : (v i : ℕ) → onCycle n hs v ≡ true → back n hs (suc i) v ≡ v → ((j : ℕ) → leadsInTrees n hs (back n hs j v) ≡ false) → (k : ℕ) × Begins n hs (back n hs k v)
   cycle-begins v i on round none =
       let (k, m, low) = lowest i (λ k. back n hs k v) in (
         k,
         record {
-          on = cycle-back n hs few v on k;
+          on = cycle-back n hs v on k;
           none = λ j. rw (← back-add n hs j k v) (none (j + k));
           low = λ j. let (d, b, r) = round-met n hs v i round (j + k) in rw (← back-add n hs j k v, r) (low d b);
         },
       )
 
+module _ (n : ℕ) (hs : List ℕ) (few : n ≤ NONE) where
   -- each cycle has a cut arc: into one that leads in trees or, if none does, into the one that begins it
   cut-broken : (z i : ℕ) → z < n → back n hs (suc i) z ≡ z → ((k : ℕ) → not (cut n hs (back n hs k z)) ≡ true) → ⊥
   unfolding back
   cut-broken z i l round kept =
-      let (k, b) = cycle-begins z i on round quiet in
-      uncut k (cut-begins (back n hs k z) (quiet k) ∙ begins-is b)
+      let (k, b) = cycle-begins n hs z i on round quiet in
+      uncut k (cut-begins n hs (back n hs k z) (quiet k) ∙ begins-is n hs b)
     where
       on : onCycle n hs z ≡ true
       on = round-cycle n hs few z i l round
@@ -149,7 +155,7 @@ module _ (n : ℕ) (hs : List ℕ) (few : n ≤ NONE) where
       uncut k e = clash _ e (not-true _ (kept k))
 
       quiet : (j : ℕ) → leadsInTrees n hs (back n hs j z) ≡ false
-      quiet j = not-test (leadsInTrees n hs (back n hs j z)) (λ t. uncut j (cut-leads (back n hs j z) (cycle-back n hs few z on j) t))
+      quiet j = not-test (leadsInTrees n hs (back n hs j z)) (λ t. uncut j (cut-leads n hs (back n hs j z) (cycle-back n hs z on j) t))
 
   -- who leads by rules 1 to 4: whoever has a kept arc to one that leads nobody
   pub leads-kept : (u : ℕ) → u < n → leads n hs u ≡ any n (λ w. eqb (at hs w) u && not (cut n hs w) && not (leads n hs w))
@@ -158,11 +164,6 @@ module _ (n : ℕ) (hs : List ℕ) (few : n ≤ NONE) where
 
   pub leads-child : (u : ℕ) → u < n → leads n hs u ≡ true ↔ Child n hs (cut n hs) (leads n hs) u
   leads-child u l = (λ e. child-found n hs (cut n hs) (leads n hs) u (sym (leads-kept u l) ∙ e), λ c. leads-kept u l ∙ child-any n hs (cut n hs) (leads n hs) u c)
-
-  -- only arcs of cycles are cut
-  pub cut-cycle : (v : ℕ) → onCycle n hs v ≡ false → cut n hs v ≡ false
-  unfolding cut begins
-  cut-cycle v e = rw e
 
   -- outside the cycles rules 3 and 4 change nothing
   pub leads-tree : (v : ℕ) → onCycle n hs v ≡ false → leads n hs v ≡ leadsInTrees n hs v
@@ -174,9 +175,9 @@ module _ (n : ℕ) (hs : List ℕ) (few : n ≤ NONE) where
       by (suc f) u e =
           any-ext n (λ w. eqb (at hs w) u && not (cut n hs w) && not (leadsIn f n hs (λ w. not (cut n hs w)) w)) (λ w. eqb (at hs w) u && not (onCycle n hs w) && not (leadsIn f n hs (λ w. not (onCycle n hs w)) w))
           (λ w k. by-bool (eqb (at hs w) u)
-          (λ t. let off : onCycle n hs w ≡ false = not-test (onCycle n hs w) (λ o. clash _ (rw (eqb-true (at hs w) u t) at (cycle-holder n hs few w k o .1)) e) in rw (by f w off, cut-cycle w off, off))
+          (λ t. let off : onCycle n hs w ≡ false = not-test (onCycle n hs w) (λ o. clash _ (rw (eqb-true (at hs w) u t) at (cycle-holder n hs few w k o .1)) e) in rw (by f w off, cut-cycle n hs w off, off))
           (λ t. rw t))
 
   -- and who leads by rule 1 leads
   pub leads-more : (v : ℕ) → v < n → leadsInTrees n hs v ≡ true → leads n hs v ≡ true
-  leads-more v l e = let (w, k, q, off, t) = trees-child n hs few v l .0 e in leads-child v l .1 (w, k, q, cut-cycle w off, leads-tree w off ∙ t)
+  leads-more v l e = let (w, k, q, off, t) = trees-child n hs few v l .0 e in leads-child v l .1 (w, k, q, cut-cycle n hs w off, leads-tree w off ∙ t)

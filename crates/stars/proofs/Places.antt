@@ -1,6 +1,6 @@
 -- Rules 3 and 4 speak of every gateway on a cycle: one that leads nobody in trees has a place in rule 3, or in a run of rule 4 if some on its cycle leads.
 use Prim.Native.Nat.{ℕ, zero, suc, _+_, _-_, _<_, _≤_}
-use mathlib.Core.Path.{_≡_, refl, sym, ap, _∙_}
+use mathlib.Core.Path.{_≡_, sym, ap, _∙_}
 use mathlib.Core.Bool.{Bool, true, false}
 use mathlib.Core.List.{List}
 use native.Mathlib.Omega.{arith}
@@ -56,11 +56,11 @@ module _
 pub rule-3-place : (n : ℕ) (hs : List ℕ) → n ≤ NONE → (v : ℕ) → v < n → onCycle n hs v ≡ true → ((j : ℕ) → leadsInTrees n hs (back n hs j v) ≡ false)
     → (length : ℕ) × (c : ℕ → ℕ) × Leaderless n hs length c × (i : ℕ) × (i < length) × (c i ≡ v)
 rule-3-place n hs few v l on none =
-    let (p, _, around, _) = cycle-round n hs few v on in
-    let (k, b) = cycle-begins n hs few v p on around none in
+    let (p, _, around, _) = cycle-round n hs v on in
+    let (k, b) = cycle-begins n hs v p on around none in
     let s : ℕ = back n hs k v in
     let below : s < n = cycle-below n hs few v l on k in
-    let (d, _, round, least) = cycle-round n hs few s (b .on) in
+    let (d, _, round, least) = cycle-round n hs s (b .on) in
     let (m, r) = round-return n hs v p around k in
     let (i, a, e) = leaderless-place n hs few s below b d round least m in
     (suc d, (λ i. back n hs (suc d - i) s), leaderless-from n hs few s below b d round least, i, a, e ∙ r)
@@ -90,7 +90,7 @@ module _
     run-around =
         record {
           below = way .below;
-          on = λ i k. cycle-back n hs few (back n hs (suc p - b) v) (cycle-back n hs few v on (suc p - b)) (a - 1 + b + 1 - i);
+          on = λ i k. cycle-back n hs (back n hs (suc p - b) v) (cycle-back n hs v on (suc p - b)) (a - 1 + b + 1 - i);
           arc = λ i k. way .arc i (omega arith);
           before = rw (run-before 0 a (omega arith)) before;
           others = λ i k m. by-bool (ltb i a) (λ t. rw (run-before i (a - i) (omega (arith, ltb-true i a t))) (between (a - i) (omega (arith, ltb-true i a t))))
@@ -99,14 +99,14 @@ module _
         }
       where
         way : Follows n hs (a - 1 + b + 1) (λ i. back n hs (a - 1 + b + 1 - i) (back n hs (suc p - b) v))
-        way = trail n hs few (back n hs (suc p - b) v) (cycle-below n hs few v l on (suc p - b)) (cycle-back n hs few v on (suc p - b)) (a - 1 + b + 1)
+        way = trail n hs few (back n hs (suc p - b) v) (cycle-below n hs few v l on (suc p - b)) (cycle-back n hs v on (suc p - b)) (a - 1 + b + 1)
 
 -- where one on its cycle leads and v does not, v has a place in a run of rule 4
 pub rule-4-place : (n : ℕ) (hs : List ℕ) → n ≤ NONE → (v : ℕ) → v < n → onCycle n hs v ≡ true → leadsInTrees n hs v ≡ false → (j : ℕ) → leadsInTrees n hs (back n hs j v) ≡ true
     → (r : ℕ) × (c : ℕ → ℕ) × Run n hs r c × (i : ℕ) × (1 ≤ i) × (i ≤ r) × (c i ≡ v)
 unfolding back
 rule-4-place n hs few v l on quiet j e =
-    let (p, _, round, _) = cycle-round n hs few v on in
+    let (p, _, round, _) = cycle-round n hs v on in
     let (k, m, q) = round-met n hs v p round j in
     around p round k m (rw q at e)
   where

@@ -1,22 +1,21 @@
 -- 01, "Reading": rules 1 to 5 as written hold of the leader list. n is at most NONE, so that NONE is no gateway.
-use Prim.Native.Nat.{ℕ, zero, suc, _+_, _*_, _-_, _<_, _≤_, min}
-use mathlib.Core.Path.{_≡_, refl, sym, ap, _∙_}
+use Prim.Native.Nat.{ℕ, suc, _+_, _*_, _-_, _<_, _≤_, min}
+use mathlib.Core.Path.{_≡_, sym, _∙_}
 use mathlib.Core.Logic.{_↔_}
-use mathlib.Core.Bool.{Bool, true, false, not, _&&_}
+use mathlib.Core.Bool.{true, false}
 use mathlib.Core.List.{List}
-use native.Mathlib.Nat.{add-zero}
 use native.Mathlib.Omega.{arith}
-use lib.Dec.{eqb, ltb}
-use borrow.Author.Tests.{eqb-true, eqb-false, ltb-true, ltb-false, lt-ltb, le-ltb, not-true}
+use lib.Dec.{ltb}
+use borrow.Author.Tests.{ltb-true, ltb-false}
 use Rattle.packing.specs.Plant.{NONE, at}
 use Rattle.packing.specs.Grouping.{memberCount}
 use Rattle.packing.specs.Holders.{held}
-use Rattle.packing.proofs.Tests.{by-bool, below-suc, clash, and-l, and-r, not-test, iff-test}
-use Rattle.stars.specs.Stars.{firstWith, holder, back, onCycle, nextOnCycle, leadsInTrees, begins, cut, leads, leaderOf, pairLeader, partner, ruleFive}
+use Rattle.packing.proofs.Tests.{by-bool, below-suc, clash, not-test}
+use Rattle.stars.specs.Stars.{back, onCycle, leadsInTrees, begins, cut, leaderOf, pairLeader, ruleFive}
 use Rattle.stars.proofs.Cycles.{round-met, round-cycle, cycle-back, cycle-held, next-only}
-use Rattle.stars.proofs.Leads.{Begins, cycle-begins, begins-means, begins-is, cut-leads, cut-begins, cut-cycle, trees-child, leads-child, leads-tree, leads-more}
-use Rattle.stars.proofs.Runs.{Follows, walk, trail, Stretch, idle, pairs}
-use Rattle.stars.proofs.Groups.{entry-leads, entry-cut, entry-held, entry-none, leaderOf-below, cut-starts, partner-only, five-pair, five-keeps}
+use Rattle.stars.proofs.Leads.{begins-means, begins-is, cut-leads, cut-begins, cut-cycle, trees-child, leads-tree, leads-more}
+use Rattle.stars.proofs.Runs.{Follows, walk, Stretch, idle, pairs}
+use Rattle.stars.proofs.Groups.{entry-leads, entry-cut, entry-held, entry-none, leaderOf-below, partner-only, five-pair, five-keeps}
 
 module _ (n : ℕ) (hs : List ℕ) (few : n ≤ NONE) where
   -- "Children are tree arcs only, not the next on the cycle." "From the deepest upwards, a gateway leads those of its children that lead nobody."
@@ -27,13 +26,13 @@ module _ (n : ℕ) (hs : List ℕ) (few : n ≤ NONE) where
   rule-1-leader u l e = entry-leads n hs u (leads-more n hs few u l e)
 
   pub rule-1-member : (w u : ℕ) → u < n → at hs w ≡ u → onCycle n hs w ≡ false → leadsInTrees n hs w ≡ false → leaderOf n hs w ≡ u
-  rule-1-member w u l e off quiet = entry-held n hs w (leads-tree n hs few w off ∙ quiet) (cut-cycle n hs few w off) (rw e l) ∙ e
+  rule-1-member w u l e off quiet = entry-held n hs w (leads-tree n hs few w off ∙ quiet) (cut-cycle n hs w off) (rw e l) ∙ e
 
   -- "In a piece that is a tree, a root that leads nobody is alone." No other gateway is.
   pub rule-2 : (v : ℕ) → v < n → leaderOf n hs v ≡ NONE ↔ ((held n (at hs) v ≡ false) × (leadsInTrees n hs v ≡ false))
   rule-2 v l = (
     λ e. (not-test (held n (at hs) v) (λ h. omega (arith, leaderOf-below n hs few v l h)), not-test (leadsInTrees n hs v) (λ t. omega (arith, rule-1-leader v l t))),
-    λ (h, quiet). let off = cycle-held n hs few v l h in entry-none n hs v (leads-tree n hs few v off ∙ quiet) (cut-cycle n hs few v off) h,
+    λ (h, quiet). let off = cycle-held n hs few v l h in entry-none n hs v (leads-tree n hs few v off ∙ quiet) (cut-cycle n hs v off) h,
   )
 
 -- A cycle none of whose gateways lead, from its lowest number: c 0, c 1, .. follow the arcs, and c 0 comes again only after all of it.
@@ -60,7 +59,7 @@ leaderless-stretch n hs few length c cycle = record { way = way; on = on; quiet 
     round = let whole : suc (length - 1) ≡ length = omega (arith, cycle .some) in rw whole (walk way 0 length length (omega arith) (omega arith) ∙ sym (cycle .closed))
 
     on : (i : ℕ) → i ≤ length → onCycle n hs (c i) ≡ true
-    on i l = rw (walk way i (length - i) length (omega arith) (omega arith)) at (cycle-back n hs few (c length) (round-cycle n hs few (c length) (length - 1) (way .below length (omega arith)) round) (length - i))
+    on i l = rw (walk way i (length - i) length (omega arith) (omega arith)) at (cycle-back n hs (c length) (round-cycle n hs few (c length) (length - 1) (way .below length (omega arith)) round) (length - i))
 
     met : (j : ℕ) → (k : ℕ) × (k ≤ length) × (back n hs j (c length) ≡ c k)
     met j = let (d, l, r) = round-met n hs (c length) (length - 1) round j in (length - d, omega arith, r ∙ walk way (length - d) d length (omega arith) (omega arith))
@@ -70,7 +69,7 @@ leaderless-stretch n hs few length c cycle = record { way = way; on = on; quiet 
 
     end : cut n hs (c length) ≡ true
     end =
-        cut-begins n hs few (c length) (quiet length (omega arith)) ∙ begins-is n hs few (record {
+        cut-begins n hs (c length) (quiet length (omega arith)) ∙ begins-is n hs (record {
           on = on length (omega arith);
           none = λ j. let (k, l, r) = met j in rw r (quiet k l);
           low = λ j. let (k, l, r) = met j in omega (arith, r, cycle .closed, up-to (λ v. c 0 ≤ v) (cycle .lowest) k l);
@@ -78,8 +77,8 @@ leaderless-stretch n hs few length c cycle = record { way = way; on = on; quiet 
 
     kept : (i : ℕ) → 0 < i → i < length → cut n hs (c i) ≡ false
     kept i a l =
-        cut-begins n hs few (c i) (cycle .none i l) ∙ not-test (begins n hs (c i)) (λ t.
-        cycle .once i a l (omega (arith, cycle .lowest i l, rw (walk way 0 i i (omega arith) (omega arith)) at (begins-means n hs few t .low i))))
+        cut-begins n hs (c i) (cycle .none i l) ∙ not-test (begins n hs (c i)) (λ t.
+        cycle .once i a l (omega (arith, cycle .lowest i l, rw (walk way 0 i i (omega arith) (omega arith)) at (begins-means n hs t .low i))))
 
 -- "A cycle none of whose gateways lead: begin at its lowest number, follow the arcs, .."
 module _ (n : ℕ) (hs : List ℕ) (few : n ≤ NONE) (length : ℕ) (c : ℕ → ℕ) (cycle : Leaderless n hs length c) where
@@ -116,7 +115,7 @@ pub record Run (n : ℕ) (hs : List ℕ) (r : ℕ) (c : ℕ → ℕ) : Type 0 wh
 -- the arc into the gateway after it is cut, and none into the others
 run-kept : (n : ℕ) (hs : List ℕ) → n ≤ NONE → (r : ℕ) (c : ℕ → ℕ) → Run n hs r c → (i : ℕ) → 0 < i → i < r + 1 → cut n hs (c i) ≡ false
 run-kept n hs few r c run i a l =
-    cut-begins n hs few (c i) (run .others i a (omega arith)) ∙ not-test (begins n hs (c i)) (λ t. clash _ (run .before) (rw (walk way 0 i i (omega arith) (omega arith)) at (begins-means n hs few t .none i)))
+    cut-begins n hs (c i) (run .others i a (omega arith)) ∙ not-test (begins n hs (c i)) (λ t. clash _ (run .before) (rw (walk way 0 i i (omega arith) (omega arith)) at (begins-means n hs t .none i)))
   where
     way : Follows n hs (r + 1) c
     way = record { below = run .below; arc = λ i l. run .arc i (omega arith) }
@@ -128,7 +127,7 @@ run-stretch n hs few r c run =
       on = run .on;
       quiet = λ i a l. run .others i a (omega arith);
       kept = λ i a. run-kept n hs few r c run i (omega arith);
-      end = cut-leads n hs few (c (r + 1)) (run .on (r + 1) (omega arith)) (run .after);
+      end = cut-leads n hs (c (r + 1)) (run .on (r + 1) (omega arith)) (run .after);
     }
 
 -- "A cycle with some that lead: each unbroken run of the others is paired from its start; .."

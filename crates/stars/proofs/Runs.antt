@@ -1,13 +1,13 @@
 -- Stretches of a cycle: what follows the arcs up to an arc that is cut is in pairs from its end.
 use Prim.Native.Nat.{ℕ, zero, suc, _+_, _*_, _-_, _<_, _≤_}
-use mathlib.Core.Path.{_≡_, refl, sym, ap, _∙_}
-use mathlib.Core.Bool.{Bool, true, false, not, _&&_}
+use mathlib.Core.Path.{_≡_, sym, ap, _∙_}
+use mathlib.Core.Bool.{true, false, not, _&&_}
 use mathlib.Core.List.{List}
 use native.Mathlib.Omega.{arith}
 use borrow.Author.Tests.{not-true}
 use Rattle.packing.specs.Plant.{NONE, at}
 use Rattle.packing.proofs.Tests.{by-bool, clash, and-l, and-r, iff-test}
-use Rattle.stars.specs.Stars.{holder, back, onCycle, leadsInTrees, cut, leads, leaderOf}
+use Rattle.stars.specs.Stars.{back, onCycle, leadsInTrees, cut, leads, leaderOf}
 use Rattle.stars.proofs.Cycles.{holder-at, cycle-below, cycle-only}
 use Rattle.stars.proofs.Leads.{trees-child, leads-child, leads-tree}
 use Rattle.stars.proofs.Groups.{entry-leads, entry-held}
