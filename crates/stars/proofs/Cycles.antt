@@ -16,21 +16,16 @@ use Rattle.packing.proofs.Tests.{by-bool, clash, and-l, and-r, and-i, or-cases,
 use Rattle.packing.proofs.Sums.{count-all, count-unique, fibre, sumOver-mono, sumOver-const}
 use Rattle.stars.specs.Stars.{firstWith, holder, back, onCycle, nextOnCycle}
 
--- where there is one with p, the first is below n and has p
-pub first-found : (n : ℕ) (p : ℕ → Bool) → any n p ≡ true → (firstWith n p < n) × (p (firstWith n p) ≡ true)
+-- where there is one with p, the first is below n, has p, and is the least
+pub first-found : (n : ℕ) (p : ℕ → Bool) → any n p ≡ true → (firstWith n p < n) × (p (firstWith n p) ≡ true) × ((i : ℕ) → i < firstWith n p → p i ≡ false)
 unfolding firstWith any
 first-found zero p e = absurd (false≢true e)
 first-found (suc n) p e =
-    by-bool (any n p) (λ t. rw t (let r = first-found n p t in (omega (arith, r .0), r .1)))
-    (λ f. let t : p n ≡ true = ⊎-elim (λ q. clash (any n p) q f) (λ q. q) (or-cases (any n p) (p n) e) in rw (f, t) (omega arith, t))
+    by-bool (any n p) (λ t. rw t (let (l, q, low) = first-found n p t in (omega arith, q, low)))
+    (λ f. let t : p n ≡ true = ⊎-elim (λ q. clash (any n p) q f) (λ q. q) (or-cases (any n p) (p n) e) in rw (f, t) (omega arith, t, any-fails n p f))
 
--- where there is one with p, one is the least
 pub least : (n : ℕ) (p : ℕ → Bool) → any n p ≡ true → (a : ℕ) × (a < n) × (p a ≡ true) × ((i : ℕ) → i < a → p i ≡ false)
-unfolding any
-least zero p e = absurd (false≢true e)
-least (suc n) p e =
-    by-bool (any n p) (λ t. let (a, l, q, low) = least n p t in (a, omega arith, q, low))
-    (λ f. (n, omega arith, ⊎-elim (λ q. clash (any n p) q f) (λ q. q) (or-cases (any n p) (p n) e), any-fails n p f))
+least n p e = let (l, q, low) = first-found n p e in (firstWith n p, l, q, low)
 
 -- of n + 1 numbers below n two are equal
 pub pigeonhole : (n : ℕ) (f : ℕ → ℕ) → ((i : ℕ) → i ≤ n → f i < n) → ((i j : ℕ) → i < j → j ≤ n → f i ≡ f j → ⊥) → ⊥
@@ -55,12 +50,13 @@ pub holder-at : (n : ℕ) (hs : List ℕ) (v : ℕ) → v < n → holder n hs v 
 unfolding holder
 holder-at n hs v l = rw (lt-ltb v n l)
 
+-- a walk back of i + j arcs is one of j arcs and then one of i
 pub back-add : (n : ℕ) (hs : List ℕ) (i j v : ℕ) → back n hs (i + j) v ≡ back n hs i (back n hs j v)
 unfolding back
 back-add n hs zero j v = rw zero-add
 back-add n hs (suc i) j v = rw (suc-add, back-add n hs i j v)
 
-pub back-swap : (n : ℕ) (hs : List ℕ) (i j v : ℕ) → back n hs i (back n hs j v) ≡ back n hs j (back n hs i v)
+back-swap : (n : ℕ) (hs : List ℕ) (i j v : ℕ) → back n hs i (back n hs j v) ≡ back n hs j (back n hs i v)
 back-swap n hs i j v = sym (back-add n hs i j v) ∙ rw add-comm (back-add n hs j i v)
 
 -- the walk back from v's holder
@@ -75,7 +71,7 @@ back-gap n hs j k v l e = sym (back-add n hs (suc (k - suc j)) j v) ∙ rw whole
     whole : suc (k - suc j) + j ≡ k
     whole = omega arith
 
--- going back i + 1 arcs from v is v again: where it is, every gateway met on the way comes back after as many arcs, and to v
+-- Where going back i + 1 arcs from v is v again, it is so from every gateway met on the way, and from each the walk comes to v.
 module _ (n : ℕ) (hs : List ℕ) (v i : ℕ) (round : back n hs (suc i) v ≡ v) where
   pub round-back : (j : ℕ) → back n hs (suc i) (back n hs j v) ≡ back n hs j v
   round-back j = back-swap n hs (suc i) j v ∙ ap (back n hs j) round
@@ -83,14 +79,11 @@ module _ (n : ℕ) (hs : List ℕ) (v i : ℕ) (round : back n hs (suc i) v ≡ 
   pub round-return : (j : ℕ) → (m : ℕ) × (back n hs m (back n hs j v) ≡ v)
   unfolding back
   round-return zero = (zero, refl)
-  round-return (suc j) = again (round-return j)
+  round-return (suc j) = let (m, e) = round-return j in by m e
     where
-      again : (m : ℕ) × (back n hs m (back n hs j v) ≡ v) → (m : ℕ) × (back n hs m (holder n hs (back n hs j v)) ≡ v)
-      again r = by (r .0) (r .1)
-        where
-          by : (m : ℕ) → back n hs m (back n hs j v) ≡ v → (k : ℕ) × (back n hs k (holder n hs (back n hs j v)) ≡ v)
-          by zero e = (i, rw e (back-holder n hs i v ∙ round))
-          by (suc m) e = (m, back-holder n hs m (back n hs j v) ∙ e)
+      by : (m : ℕ) → back n hs m (back n hs j v) ≡ v → (k : ℕ) × (back n hs k (holder n hs (back n hs j v)) ≡ v)
+      by zero e = (i, rw e (back-holder n hs i v ∙ round))
+      by (suc m) e = (m, back-holder n hs m (back n hs j v) ∙ e)
 
   -- no more than the first i + 1 are met
   pub round-met : (j : ℕ) → (k : ℕ) × (k ≤ i) × (back n hs j v ≡ back n hs k v)
@@ -162,7 +155,7 @@ module _ (n : ℕ) (hs : List ℕ) (few : n ≤ NONE) where
       let (i, m, r, _) = cycle-round n hs v e in
       let below : back n hs i v < n = cycle-below v l e i in
       let held-by : at hs (back n hs i v) ≡ v = sym (holder-at n hs (back n hs i v) below) ∙ r in
-      let (k, t) = first-found n next (any-intro n next (back n hs i v) below (and-i (onCycle n hs (back n hs i v)) (eqb (at hs (back n hs i v)) v) (cycle-back n hs v e i) (eq-eqb (at hs (back n hs i v)) v held-by))) in
+      let (k, t, _) = first-found n next (any-intro n next (back n hs i v) below (and-i (onCycle n hs (back n hs i v)) (eqb (at hs (back n hs i v)) v) (cycle-back n hs v e i) (eq-eqb (at hs (back n hs i v)) v held-by))) in
       (k, and-l (onCycle n hs (firstWith n next)) _ t, eqb-true (at hs (firstWith n next)) v (and-r (onCycle n hs (firstWith n next)) _ t))
     where
       next : ℕ → Bool

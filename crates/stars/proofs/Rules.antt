@@ -15,7 +15,8 @@ use Rattle.stars.specs.Stars.{back, onCycle, leadsInTrees, begins, cut, 
 use Rattle.stars.proofs.Cycles.{round-met, round-cycle, cycle-back, cycle-held, next-only}
 use Rattle.stars.proofs.Leads.{begins-means, begins-is, cut-leads, cut-begins, cut-cycle, trees-child, leads-tree, leads-more}
 use Rattle.stars.proofs.Runs.{Follows, walk, Stretch, idle, pairs}
-use Rattle.stars.proofs.Groups.{entry-leads, entry-cut, entry-held, entry-none, leaderOf-below, partner-only, five-pair, five-keeps}
+use Rattle.stars.proofs.Five.{partner-only, five-pair, five-keeps}
+use Rattle.stars.proofs.Groups.{entry-leads, entry-cut, entry-held, entry-none, leaderOf-below}
 
 module _ (n : ℕ) (hs : List ℕ) (few : n ≤ NONE) where
   -- "Children are tree arcs only, not the next on the cycle." "From the deepest upwards, a gateway leads those of its children that lead nobody."
