@@ -38,16 +38,16 @@ module _ (n : ℕ) (hs : List ℕ) (v : ℕ) where
 
 module _ (n : ℕ) (hs : List ℕ) (few : n ≤ NONE) where
   -- whose arc is cut and who leads nobody begins a cycle
-  pub cut-starts : (v : ℕ) → v < n → leads n hs v ≡ false → cut n hs v ≡ true → Begins n hs v
+  cut-starts : (v : ℕ) → v < n → leads n hs v ≡ false → cut n hs v ≡ true → Begins n hs v
   cut-starts v l e c =
       begins-means n hs (sym (cut-begins n hs v (not-test (leadsInTrees n hs v) (λ t. clash _ (leads-more n hs few v l t) e))) ∙ c)
 
   -- the walk back from the holder of a gateway on a cycle comes to the gateway
-  pub cycle-behind : (u v : ℕ) → u < n → onCycle n hs u ≡ true → at hs u ≡ v → (i : ℕ) × (back n hs i v ≡ u)
+  cycle-behind : (u v : ℕ) → u < n → onCycle n hs u ≡ true → at hs u ≡ v → (i : ℕ) × (back n hs i v ≡ u)
   cycle-behind u v l o e = let (i, m, r, _) = cycle-round n hs u o in (i, rw (← e, ← holder-at n hs u l) (back-holder n hs i u ∙ r))
 
   -- a kept arc to one that leads nobody comes from one that leads
-  pub kept-leads : (v : ℕ) → v < n → at hs v < n → cut n hs v ≡ false → leads n hs v ≡ false → leads n hs (at hs v) ≡ true
+  kept-leads : (v : ℕ) → v < n → at hs v < n → cut n hs v ≡ false → leads n hs v ≡ false → leads n hs (at hs v) ≡ true
   kept-leads v l k c e = leads-child n hs few (at hs v) k .1 (v, l, refl, c, e)
 
   -- the next after the first of a cycle leads, if the first leads nobody and is not held by itself

@@ -73,7 +73,7 @@ pub trees-lead : (n : ℕ) (hs : List ℕ) → n ≤ NONE → (u : ℕ) → u < 
 unfolding leadsInTrees leadsIn
 trees-lead n hs few u l = rounds n hs few (λ w. not (onCycle n hs w)) (trees-broken n hs few) u l
 
--- such a child of u, held by u and without either mark
+-- such a child of u: held by u, with neither of two marks
 abbrev pub Child : ℕ → List ℕ → (ℕ → Bool) → (ℕ → Bool) → ℕ → Type 0
 Child n hs out busy u = (w : ℕ) × (w < n) × (at hs w ≡ u) × (out w ≡ false) × (busy w ≡ false)
 
