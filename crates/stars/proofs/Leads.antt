@@ -19,7 +19,7 @@ any-ext zero p q h = refl
 any-ext (suc n) p q h = rw (any-ext n p q (λ i l. h i (omega arith)), h n (omega arith))
 
 -- of some numbers one is lowest
-pub lowest : (m : ℕ) (f : ℕ → ℕ) → (k : ℕ) × (k ≤ m) × ((i : ℕ) → i ≤ m → f k ≤ f i)
+lowest : (m : ℕ) (f : ℕ → ℕ) → (k : ℕ) × (k ≤ m) × ((i : ℕ) → i ≤ m → f k ≤ f i)
 lowest zero f = (zero, omega arith, λ i l. let q : i ≡ 0 = omega arith in rw q (omega arith))
 lowest (suc m) f =
     let (k, l, h) = lowest m f in
