@@ -1,0 +1,183 @@
+-- Rule 1 as a fixpoint: n rounds are enough, over the arcs of the trees and over the arcs that are kept.
+use Prim.Native.Nat.{ℕ, zero, suc, _+_, _-_, _<_, _≤_}
+use mathlib.Core.Path.{_≡_, refl, sym, ap, _∙_}
+use mathlib.Core.Logic.{_↔_}
+use mathlib.Core.Bool.{Bool, true, false, not, _&&_, and-comm}
+use mathlib.Core.List.{List}
+use native.Mathlib.Omega.{arith}
+use lib.Dec.{eqb, ltb, leb}
+use borrow.Author.Tests.{eqb-true, eq-eqb, ltb-true, ltb-false, leb-true, le-leb, not-true}
+use Rattle.packing.specs.Count.{any}
+use Rattle.packing.specs.Plant.{NONE, at}
+use Rattle.packing.proofs.Tests.{by-bool, below-suc, clash, and-l, and-r, and-i, not-i, not-test, all-elim, all-intro, any-intro, any-elim, any-none}
+use Rattle.stars.specs.Stars.{holder, back, onCycle, leadsIn, leadsInTrees, begins, cut, leads}
+use Rattle.stars.proofs.Cycles.{pigeonhole, holder-at, back-add, back-gap, round-met, back-below, round-cycle, cycle-round, cycle-back, cycle-holder}
+
+pub any-ext : (n : ℕ) (p q : ℕ → Bool) → ((i : ℕ) → i < n → p i ≡ q i) → any n p ≡ any n q
+unfolding any
+any-ext zero p q h = refl
+any-ext (suc n) p q h = rw (any-ext n p q (λ i l. h i (omega arith)), h n (omega arith))
+
+-- of some numbers one is lowest
+lowest : (m : ℕ) (f : ℕ → ℕ) → (k : ℕ) × (k ≤ m) × ((i : ℕ) → i ≤ m → f k ≤ f i)
+lowest zero f = (zero, omega arith, λ i l. let q : i ≡ 0 = omega arith in rw q (omega arith))
+lowest (suc m) f =
+    let (k, l, h) = lowest m f in
+    by-bool (ltb (f (suc m)) (f k))
+    (λ q. (suc m, omega arith, λ i j. below-suc i (suc m) (omega arith) (λ e. rw e (omega arith)) (λ e. omega (arith, ltb-true (f (suc m)) (f k) q, h i (omega arith)))))
+    (λ q. (k, omega arith, λ i j. below-suc i (suc m) (omega arith) (λ e. rw e (ltb-false (f (suc m)) (f k) q)) (λ e. h i (omega arith))))
+
+-- Where every cycle has an arc that is not kept, n rounds are enough.
+module _
+    (n : ℕ) (hs : List ℕ) (few : n ≤ NONE) (kept : ℕ → Bool)
+    (broken : (z i : ℕ) → z < n → back n hs (suc i) z ≡ z → ((k : ℕ) → kept (back n hs k z) ≡ true) → ⊥)
+  where
+    -- f rounds are enough for u where no f + 1 kept arcs in a row end in u
+    settled : (f u : ℕ) → u < n → ((y : ℕ) → y < n → back n hs (suc f) y ≡ u → ((k : ℕ) → k ≤ f → kept (back n hs k y) ≡ true) → ⊥)
+        → leadsIn f n hs kept u ≡ leadsIn (suc f) n hs kept u
+    unfolding leadsIn back
+    settled zero u l none =
+        sym (any-none n (λ w. eqb (at hs w) u && kept w && true) (λ w k. not-test _ (λ t.
+        none w k (holder-at n hs w k ∙ eqb-true (at hs w) u (and-l _ _ (and-l _ _ t))) (λ j z. let q : j ≡ 0 = omega arith in rw q (and-r (eqb (at hs w) u) (kept w) (and-l _ _ t))))))
+    settled (suc f) u l none =
+        any-ext n (λ w. eqb (at hs w) u && kept w && not (leadsIn f n hs kept w)) (λ w. eqb (at hs w) u && kept w && not (leadsIn (suc f) n hs kept w))
+        (λ w k. by-bool (eqb (at hs w) u && kept w)
+        (λ t. let same = settled f w k (λ y m e all-kept. none y m (ap (holder n hs) e ∙ holder-at n hs w k ∙ eqb-true (at hs w) u (and-l _ _ t)) (λ j z. below-suc j (suc f) (omega arith) (λ q. rw (q, e) (and-r (eqb (at hs w) u) (kept w) t)) (λ q. all-kept j (omega arith)))) in
+        rw (t, same))
+        (λ t. rw t))
+
+    -- going back n + 1 kept arcs would meet a gateway twice
+    rounds : (u : ℕ) → u < n → leadsIn n n hs kept u ≡ leadsIn (suc n) n hs kept u
+    rounds u l = settled n u l (λ y m e all-kept. pigeonhole n (λ k. back n hs k y) (below y e) (apart y e all-kept))
+      where
+        below : (y : ℕ) → back n hs (suc n) y ≡ u → (i : ℕ) → i ≤ n → back n hs i y < n
+        below y e i k = back-below n hs few (suc n - i) (back n hs i y) (rw (← back-add n hs (suc n - i) i y, whole, e) l)
+          where
+            whole : suc n - i + i ≡ suc n
+            whole = omega arith
+
+        apart : (y : ℕ) → back n hs (suc n) y ≡ u → ((k : ℕ) → k ≤ n → kept (back n hs k y) ≡ true) → (i j : ℕ) → i < j → j ≤ n → back n hs i y ≡ back n hs j y → ⊥
+        apart y e all-kept i j a b q =
+            let z : ℕ = back n hs i y in
+            let round = back-gap n hs i j y a q in
+            broken z (j - suc i) (below y e i (omega arith)) round
+            (λ k. let (m, c, r) = round-met n hs z (j - suc i) round k in rw (r, ← back-add n hs m i y) (all-kept (m + i) (omega arith)))
+
+-- a cycle has no arc of the trees
+trees-broken : (n : ℕ) (hs : List ℕ) (few : n ≤ NONE) (z i : ℕ) → z < n → back n hs (suc i) z ≡ z → ((k : ℕ) → not (onCycle n hs (back n hs k z)) ≡ true) → ⊥
+unfolding back
+trees-broken n hs few z i l round kept = clash _ (round-cycle n hs few z i l round) (not-true _ (kept zero))
+
+-- who leads by rule 1: whoever has a child, not the next on a cycle, that leads nobody
+pub trees-lead : (n : ℕ) (hs : List ℕ) → n ≤ NONE → (u : ℕ) → u < n → leadsInTrees n hs u ≡ any n (λ w. eqb (at hs w) u && not (onCycle n hs w) && not (leadsInTrees n hs w))
+unfolding leadsInTrees leadsIn
+trees-lead n hs few u l = rounds n hs few (λ w. not (onCycle n hs w)) (trees-broken n hs few) u l
+
+-- such a child of u: held by u, with neither of two marks
+abbrev pub Child : ℕ → List ℕ → (ℕ → Bool) → (ℕ → Bool) → ℕ → Type 0
+Child n hs out busy u = (w : ℕ) × (w < n) × (at hs w ≡ u) × (out w ≡ false) × (busy w ≡ false)
+
+module _ (n : ℕ) (hs : List ℕ) (out busy : ℕ → Bool) (u : ℕ) where
+  child-found : any n (λ w. eqb (at hs w) u && not (out w) && not (busy w)) ≡ true → Child n hs out busy u
+  child-found e =
+      let (w, l, t) = any-elim n (λ w. eqb (at hs w) u && not (out w) && not (busy w)) e in
+      let first : (eqb (at hs w) u && not (out w)) ≡ true = and-l _ _ t in
+      (w, l, eqb-true (at hs w) u (and-l _ _ first), not-true (out w) (and-r (eqb (at hs w) u) _ first), not-true (busy w) (and-r (eqb (at hs w) u && not (out w)) _ t))
+
+  child-any : Child n hs out busy u → any n (λ w. eqb (at hs w) u && not (out w) && not (busy w)) ≡ true
+  child-any (w, l, e, f, g) = any-intro n (λ w. eqb (at hs w) u && not (out w) && not (busy w)) w l (rw (eq-eqb (at hs w) u e, f, g))
+
+pub trees-child : (n : ℕ) (hs : List ℕ) → n ≤ NONE → (u : ℕ) → u < n → leadsInTrees n hs u ≡ true ↔ Child n hs (onCycle n hs) (leadsInTrees n hs) u
+trees-child n hs few u l = (λ e. child-found n hs (onCycle n hs) (leadsInTrees n hs) u (sym (trees-lead n hs few u l) ∙ e), λ c. trees-lead n hs few u l ∙ child-any n hs (onCycle n hs) (leadsInTrees n hs) u c)
+
+-- v begins a cycle: none on it leads in trees, and v is the lowest
+pub record Begins (n : ℕ) (hs : List ℕ) (v : ℕ) : Type 0 where
+  pub on : onCycle n hs v ≡ true
+  pub none : (j : ℕ) → leadsInTrees n hs (back n hs j v) ≡ false
+  pub low : (j : ℕ) → v ≤ back n hs j v
+
+module _ (n : ℕ) (hs : List ℕ) where
+  pub begins-means : {v : ℕ} → begins n hs v ≡ true → Begins n hs v
+  unfolding begins
+  begins-means {v} e = record { on = on; none = λ j. let (k, l, r) = met j in rw r (not-true _ (and-l _ _ (each k l))); low = λ j. let (k, l, r) = met j in rw r (leb-true v _ (and-r (not (leadsInTrees n hs (back n hs k v))) _ (each k l))) }
+    where
+      on : onCycle n hs v ≡ true
+      on = and-l _ _ e
+
+      each : (i : ℕ) → i < n → (not (leadsInTrees n hs (back n hs i v)) && leb v (back n hs i v)) ≡ true
+      each = all-elim n (λ i. not (leadsInTrees n hs (back n hs i v)) && leb v (back n hs i v)) (and-r (onCycle n hs v) _ e)
+
+      met : (j : ℕ) → (k : ℕ) × (k < n) × (back n hs j v ≡ back n hs k v)
+      met j = let (i, m, round, _) = cycle-round n hs v on in let (k, l, r) = round-met n hs v i round j in (k, omega arith, r)
+
+  pub begins-is : {v : ℕ} → Begins n hs v → begins n hs v ≡ true
+  unfolding begins
+  begins-is {v} b = and-i _ _ (b .on) (all-intro n _ (λ i l. and-i _ _ (not-i _ (b .none i)) (le-leb v _ (b .low i))))
+
+  -- the arc into one that leads in trees is cut on a cycle, and into another it is where that begins a cycle
+  pub cut-leads : (v : ℕ) → onCycle n hs v ≡ true → leadsInTrees n hs v ≡ true → cut n hs v ≡ true
+  unfolding cut
+  cut-leads v e f = rw (e, f)
+
+  pub cut-begins : (v : ℕ) → leadsInTrees n hs v ≡ false → cut n hs v ≡ begins n hs v
+  unfolding cut
+  cut-begins v f = rw (f, and-comm (onCycle n hs v) false)
+
+  -- only arcs of cycles are cut
+  pub cut-cycle : (v : ℕ) → onCycle n hs v ≡ false → cut n hs v ≡ false
+  unfolding cut begins
+  cut-cycle v e = rw e
+
+  -- where none on a cycle leads in trees, one on it begins it
+  pub cycle-begins : (v i : ℕ) → onCycle n hs v ≡ true → back n hs (suc i) v ≡ v → ((j : ℕ) → leadsInTrees n hs (back n hs j v) ≡ false) → (k : ℕ) × Begins n hs (back n hs k v)
+  cycle-begins v i on round none =
+      let (k, m, low) = lowest i (λ k. back n hs k v) in (
+        k,
+        record {
+          on = cycle-back n hs v on k;
+          none = λ j. rw (← back-add n hs j k v) (none (j + k));
+          low = λ j. let (d, b, r) = round-met n hs v i round (j + k) in rw (← back-add n hs j k v, r) (low d b);
+        },
+      )
+
+module _ (n : ℕ) (hs : List ℕ) (few : n ≤ NONE) where
+  -- each cycle has a cut arc: into one that leads in trees or, if none does, into the one that begins it
+  cut-broken : (z i : ℕ) → z < n → back n hs (suc i) z ≡ z → ((k : ℕ) → not (cut n hs (back n hs k z)) ≡ true) → ⊥
+  unfolding back
+  cut-broken z i l round kept =
+      let (k, b) = cycle-begins n hs z i on round quiet in
+      uncut k (cut-begins n hs (back n hs k z) (quiet k) ∙ begins-is n hs b)
+    where
+      on : onCycle n hs z ≡ true
+      on = round-cycle n hs few z i l round
+
+      uncut : (k : ℕ) → cut n hs (back n hs k z) ≡ true → ⊥
+      uncut k e = clash _ e (not-true _ (kept k))
+
+      quiet : (j : ℕ) → leadsInTrees n hs (back n hs j z) ≡ false
+      quiet j = not-test (leadsInTrees n hs (back n hs j z)) (λ t. uncut j (cut-leads n hs (back n hs j z) (cycle-back n hs z on j) t))
+
+  -- who leads by rules 1 to 4: whoever has a kept arc to one that leads nobody
+  pub leads-kept : (u : ℕ) → u < n → leads n hs u ≡ any n (λ w. eqb (at hs w) u && not (cut n hs w) && not (leads n hs w))
+  unfolding leads leadsIn
+  leads-kept u l = rounds n hs few (λ w. not (cut n hs w)) cut-broken u l
+
+  pub leads-child : (u : ℕ) → u < n → leads n hs u ≡ true ↔ Child n hs (cut n hs) (leads n hs) u
+  leads-child u l = (λ e. child-found n hs (cut n hs) (leads n hs) u (sym (leads-kept u l) ∙ e), λ c. leads-kept u l ∙ child-any n hs (cut n hs) (leads n hs) u c)
+
+  -- outside the cycles rules 3 and 4 change nothing
+  pub leads-tree : (v : ℕ) → onCycle n hs v ≡ false → leads n hs v ≡ leadsInTrees n hs v
+  unfolding leads leadsInTrees leadsIn
+  leads-tree v e = by n v e
+    where
+      by : (f u : ℕ) → onCycle n hs u ≡ false → leadsIn f n hs (λ w. not (cut n hs w)) u ≡ leadsIn f n hs (λ w. not (onCycle n hs w)) u
+      by zero u e = refl
+      by (suc f) u e =
+          any-ext n (λ w. eqb (at hs w) u && not (cut n hs w) && not (leadsIn f n hs (λ w. not (cut n hs w)) w)) (λ w. eqb (at hs w) u && not (onCycle n hs w) && not (leadsIn f n hs (λ w. not (onCycle n hs w)) w))
+          (λ w k. by-bool (eqb (at hs w) u)
+          (λ t. let off : onCycle n hs w ≡ false = not-test (onCycle n hs w) (λ o. clash _ (rw (eqb-true (at hs w) u t) at (cycle-holder n hs few w k o .1)) e) in rw (by f w off, cut-cycle n hs w off, off))
+          (λ t. rw t))
+
+  -- and who leads by rule 1 leads
+  pub leads-more : (v : ℕ) → v < n → leadsInTrees n hs v ≡ true → leads n hs v ≡ true
+  leads-more v l e = let (w, k, q, off, t) = trees-child n hs few v l .0 e in leads-child v l .1 (w, k, q, cut-cycle n hs w off, leads-tree w off ∙ t)
