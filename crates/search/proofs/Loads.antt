@@ -10,7 +10,7 @@ use lib.Dec.{eqb}
 use lib.ListN.{length, set, take, length-set}
 use lib.Seq.{take-suc-set}
 use borrow.Author.Tests.{eq-eqb, ne-eqb}
-use Rattle.packing.specs.Count.{pick, sum, count}
+use Rattle.packing.specs.Count.{listWhere, pick, sum, count}
 use Rattle.packing.specs.Plant.{at}
 use Rattle.packing.specs.Holders.{holds}
 use Rattle.packing.proofs.Sums.{count-longer}
@@ -54,7 +54,7 @@ pub record Joining (n u : ℕ) (hs queue₀ : List ℕ) (tail : ℕ) (queue : Li
 
 module _ (n u : ℕ) (hs queue₀ : List ℕ) (tail : ℕ) (j : Joinable n u hs queue₀ tail) where
   pub join-start : Joining n u hs queue₀ tail queue₀ tail 0
-  unfolding heldBy holds count sum
+  unfolding heldBy listWhere holds count sum
   join-start = record { upto = omega arith; same = refl; state = sym (append-nil (take tail queue₀)); ends = omega arith }
 
   -- there is a place for one that is held
@@ -70,7 +70,7 @@ module _ (n u : ℕ) (hs queue₀ : List ℕ) (tail : ℕ) (j : Joinable n u hs 
 
   pub join-one : {queue queue' : List ℕ} {end v : ℕ} → Joining n u hs queue₀ tail queue end v → v < n → at hs v ≡ u → queue' ≡ set queue end v
       → Joining n u hs queue₀ tail queue' (end + 1) (v + 1)
-  unfolding heldBy
+  unfolding heldBy listWhere
   join-one {queue} {queue'} {end} {v} c l e f =
       let place : end < length queue = join-place c l e in
       record {
@@ -81,7 +81,7 @@ module _ (n u : ℕ) (hs queue₀ : List ℕ) (tail : ℕ) (j : Joinable n u hs 
       }
 
   pub join-pass : {queue : List ℕ} {end v : ℕ} → Joining n u hs queue₀ tail queue end v → v < n → (at hs v ≡ u → ⊥) → Joining n u hs queue₀ tail queue end (v + 1)
-  unfolding heldBy
+  unfolding heldBy listWhere
   join-pass {queue} {end} {v} c l e =
       record {
         upto = omega arith;

@@ -11,7 +11,7 @@ use lib.Dec.{eqb, ltb}
 use lib.ListN.{length, length-append, List·getD-append}
 use lib.Seq.{getD-append-add}
 use borrow.Author.Tests.{eqb-true, eq-eqb, ltb-true, ltb-false}
-use Rattle.packing.specs.Count.{pick, sum, count}
+use Rattle.packing.specs.Count.{listWhere, pick, sum, count}
 use Rattle.packing.specs.Plant.{at}
 use Rattle.packing.specs.Holders.{holds}
 use Rattle.packing.proofs.Tests.{by-bool, below-suc, or-cases, or-l, or-r}
@@ -54,7 +54,7 @@ holds-suc v h u = rw add-one (count-suc v (λ w. eqb (h w) u))
 
 -- what u holds is as many as it holds
 pub heldBy-length : (n : ℕ) (hs : List ℕ) (u : ℕ) → length (heldBy n hs u) ≡ holds n (at hs) u
-unfolding heldBy holds count sum
+unfolding heldBy listWhere holds count sum
 heldBy-length zero hs u = refl
 heldBy-length (suc n) hs u = length-append (heldBy n hs u) _ ∙ ap (λ (k : ℕ). k + length (cond (eqb (at hs n) u) (n ∷ []) [])) (heldBy-length n hs u) ∙ last (eqb (at hs n) u)
   where
@@ -64,7 +64,7 @@ heldBy-length (suc n) hs u = length-append (heldBy n hs u) _ ∙ ap (λ (k : ℕ
 
 -- .. and it is those below n whose holder u is
 pub heldBy-in : (n : ℕ) (hs : List ℕ) (u v : ℕ) → v < n → at hs v ≡ u → memberOf (heldBy n hs u) v ≡ true
-unfolding heldBy memberOf
+unfolding heldBy listWhere memberOf
 heldBy-in zero hs u v h e = absurd (not-suc-le-zero h)
 heldBy-in (suc n) hs u v h e =
     let two = member-append (heldBy n hs u) (cond (eqb (at hs n) u) (n ∷ []) []) v in
@@ -72,7 +72,7 @@ heldBy-in (suc n) hs u v h e =
     (λ q. two ∙ or-l (memberOf (heldBy n hs u) v) _ (heldBy-in n hs u v q e))
 
 pub heldBy-out : (n : ℕ) (hs : List ℕ) (u v : ℕ) → memberOf (heldBy n hs u) v ≡ true → (v < n) × (at hs v ≡ u)
-unfolding heldBy memberOf
+unfolding heldBy listWhere memberOf
 heldBy-out zero hs u v e = absurd (false≢true e)
 heldBy-out (suc n) hs u v e =
     ⊎-elim (λ q. let r = heldBy-out n hs u v q in (omega (arith, r .0), r .1)) (λ q. last (eqb (at hs n) u) refl q)

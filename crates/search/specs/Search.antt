@@ -4,13 +4,13 @@ use mathlib.Core.Bool.{Bool, not, cond}
 use mathlib.Core.List.{List, [], _∷_, _++_}
 use lib.Dec.{eqb, ltb}
 use lib.ListN.{length, getD, set, replicate}
+use Rattle.packing.specs.Count.{listWhere}
 use Rattle.packing.specs.Plant.{NONE, at, neighbours}
 use Rattle.packing.specs.Holders.{holds}
 
 -- the gateways below n that u holds, ascending
 unfoldable pub heldBy : ℕ → List ℕ → ℕ → List ℕ
-heldBy zero hs u = []
-heldBy (suc n) hs u = heldBy n hs u ++ cond (eqb (at hs n) u) (n ∷ []) []
+heldBy n hs u = listWhere n (λ v. eqb (at hs v) u)
 
 -- where a search is: at a gateway u with a place free, looked at from x; or with a queue of all that joined so far. Either way with the gateway that each was seen from.
 pub data Search : Type 0 where

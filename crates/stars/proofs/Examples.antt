@@ -5,7 +5,8 @@ use mathlib.Core.List.{List, [], _∷_}
 use Rattle.packing.specs.Count.{sum, count, all, any}
 use Rattle.packing.specs.Plant.{NONE}
 use Rattle.packing.specs.Grouping.{memberCount}
-use Rattle.stars.specs.Stars.{firstWith, holder, back, onCycle, nextOnCycle, leadsIn, leadsInTrees, begins, cut, leads, leaderOf, pairLeader, partner, ruleFive, leaderList, listOf}
+use Rattle.packing.specs.Count.{listOf}
+use Rattle.stars.specs.Stars.{firstWith, holder, back, onCycle, nextOnCycle, leadsIn, leadsInTrees, begins, cut, leads, leaderOf, pairLeader, partner, ruleFive, leaderList}
 
 -- the listing's plant
 listing : listOf 5 (leaderList 5 (2 ∷ 2 ∷ 1 ∷ 0 ∷ 0 ∷ [])) ≡ 0 ∷ 1 ∷ 1 ∷ 0 ∷ 0 ∷ []

@@ -6,7 +6,7 @@ use native.Mathlib.Numerals.{add-one}
 use native.Mathlib.Omega.{arith}
 use lib.ListN.{length, getD, set, drop, length-append, length-set}
 use lib.Seq.{drop-cons, set-at, append-snoc}
-use Rattle.stars.specs.Stars.{listOf}
+use Rattle.packing.specs.Count.{listOf}
 use Rattle.stars.proofs.Loops.{last}
 
 pub listOf-length : (n : ℕ) (f : ℕ → ℕ) → length (listOf n f) ≡ n

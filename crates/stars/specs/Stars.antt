@@ -3,7 +3,7 @@
 -- certain cycle gateways are cut: a run then ends in a leaf. proofs/Rules.antt states each rule as 01 writes it.
 use Prim.Native.Nat.{ℕ, zero, suc}
 use mathlib.Core.Bool.{Bool, false, not, cond, _&&_, _||_}
-use mathlib.Core.List.{List, [], _∷_, _++_}
+use mathlib.Core.List.{List}
 use lib.Dec.{eqb, ltb, leb}
 use Rattle.packing.specs.Count.{count, all, any}
 use Rattle.packing.specs.Plant.{NONE, at}
@@ -73,8 +73,3 @@ ruleFive leadsPair n g v = cond (ltb (g v) n && eqb (memberCount n g (g v)) 1) (
 -- the leader list by all five rules, one entry for each gateway
 unfoldable pub leaderList : ℕ → List ℕ → ℕ → ℕ
 leaderList n hs = ruleFive ltb n (leaderOf n hs)
-
--- the list of f's values below n
-unfoldable pub listOf : ℕ → (ℕ → ℕ) → List ℕ
-listOf zero f = []
-listOf (suc n) f = listOf n f ++ (f n ∷ [])

@@ -9,7 +9,8 @@ mod walks;
 ghost use mathlib.Core.Path.{_≡_};
 ghost use mathlib.Core.List.{_++_};
 ghost use lib.ListN.{drop};
-ghost use Rattle.stars.specs.Stars.{leaderList, listOf};
+ghost use Rattle.packing.specs.Count.{listOf};
+ghost use Rattle.stars.specs.Stars.{leaderList};
 ghost use Rattle.stars.specs.Pre.{Lent};
 
 // Writes the leader list to the first n places of out. Each step fills one array: the cycles, who leads by rule 1, the cut arcs, who leads by rules 1 to 4, and their leaders.

@@ -9,7 +9,8 @@ ghost use lib.Dec.{eqb, ltb};
 ghost use lib.ListN.{length, drop};
 ghost use Rattle.packing.specs.Plant.{at};
 ghost use Rattle.packing.specs.Grouping.{memberCount};
-ghost use Rattle.stars.specs.Stars.{pairLeader, partner, ruleFive, listOf};
+ghost use Rattle.packing.specs.Count.{listOf};
+ghost use Rattle.stars.specs.Stars.{pairLeader, partner, ruleFive};
 ghost use Rattle.stars.specs.Pre.{Entries};
 
 // Of the pair a and b, whether a leads.

@@ -1,0 +1,2 @@
+-- 01, "Reading": the choke set.
+pub mod ChokeSet

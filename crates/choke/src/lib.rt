@@ -1,0 +1,1 @@
+// The choke set (01, "Reading"), on plain lists and numbers.
