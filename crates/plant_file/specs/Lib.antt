@@ -1,0 +1,2 @@
+-- What the bytes of a plant file say.
+pub mod PlantFile

@@ -1,0 +1,1 @@
+// The plant file (01, "The plant file and the listing").

@@ -1,0 +1,2 @@
+-- The listing's text.
+pub mod Text
