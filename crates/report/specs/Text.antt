@@ -9,7 +9,7 @@ use Rattle.packing.specs.Plant.{NONE, at}
 -- a number in decimal digits; five digits are enough for 16 bits
 unfoldable pub digitsIn : ℕ → ℕ → List ℕ
 digitsIn zero x = []
-digitsIn (suc places) x = cond (ltb x 10) (48 + x ∷ []) (digitsIn places (x / 10) ++ (48 + x % 10 ∷ []))
+digitsIn (suc places) x = cond (ltb x 10) ((48 + x) ∷ []) (digitsIn places (x / 10) ++ ((48 + x % 10) ∷ []))
 
 unfoldable pub digits : ℕ → List ℕ
 digits x = digitsIn 5 x
