@@ -6,14 +6,15 @@ use mathlib.Core.List.{List}
 use native.Mathlib.Omega.{arith}
 use lib.Dec.{eqb, ltb, leb}
 use lib.ListN.{length, set, replicate}
-use Rattle.packing.specs.Plant.{NONE, linked}
+use Rattle.packing.specs.Plant.{NONE, at, common, firstLinks, linked}
 use borrow.Author.Tests.{ltb-false, leb-false, eqb-true, eqb-false, not-false}
 use Rattle.packing.proofs.Tests.{or-false-l, or-false-r}
+use Rattle.search.specs.Search.{placedHolders}
 use Rattle.planner.specs.declared.Small.{Small}
 use Rattle.planner.specs.declared.Answer.{Answer}
 use Rattle.planner.specs.Refusals.{refuse, openRefusal, linkConditions, orderConditions}
 use Rattle.planner.specs.Lists.{upTo, written, repeatsOrOutside}
-use Rattle.planner.specs.Calls.{byNumber, answer, opened, openAnswer, openOrder, openHolders, linkRefusal, linkAnswer, linkLinks, orderRefusal, orderAnswer, orderOrder}
+use Rattle.planner.specs.Calls.{byNumber, answer, opened, openAnswer, openOrder, openHolders, linkRefusal, linkAnswer, linkLinks, orderRefusal, orderAnswer, orderOrder, placeRefusal, placeAnswer, placeHolders}
 
 -- no refusal: the condition does not hold, and no later one
 pub refuse-none : (b : Bool) (e later : ℕ) → 0 < e → refuse b e later ≡ 0 → (b ≡ false) × (later ≡ 0)
@@ -128,3 +129,14 @@ module _ (s : Small) (ls os hs : List ℕ) where
         → (_≡_ {A = Answer} (record { refusal = 0; small = s }) (orderAnswer s ls os hs numbers)) × (os' ≡ orderOrder s ls os hs numbers)
     unfolding orderAnswer orderOrder
     order-accepted g z long h = (accepted-answer _ _ g z, accepted _ _ g z (h ∙ ap (λ (i : ℕ). written i numbers os) long))
+
+  pub place-refused : {e : ℕ} → e ≡ placeRefusal s ls os hs → (e ≡ 0 → ⊥)
+      → (_≡_ {A = Answer} (record { refusal = e; small = s }) (placeAnswer s ls os hs)) × (hs ≡ placeHolders s ls os hs)
+  unfolding placeAnswer placeHolders
+  place-refused g h = (refused-answer _ _ g h, refused _ _ g h)
+
+  pub place-accepted : {e : ℕ} {hs' : List ℕ} → e ≡ placeRefusal s ls os hs → e ≡ 0
+      → hs' ≡ placedHolders (s .n) (common (s .t)) (firstLinks (s .m) ls) hs (at os (s .k))
+      → (_≡_ {A = Answer} (record { refusal = 0; small = record { n = s .n; t = s .t; m = s .m; k = s .k + 1 } }) (placeAnswer s ls os hs)) × (hs' ≡ placeHolders s ls os hs)
+  unfolding placeAnswer placeHolders
+  place-accepted g z h = (accepted-answer _ _ g z, accepted _ _ g z h)

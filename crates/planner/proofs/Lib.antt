@@ -1,5 +1,6 @@
 -- Laws of the calls, by subject.
 pub mod Fronts
 pub mod Answers
+pub mod Next
 pub mod Orders
 pub mod Lookup

@@ -3,12 +3,13 @@ use Prim.Native.Nat.{ℕ, zero, suc, _+_, _*_}
 use mathlib.Core.Bool.{Bool, not}
 use mathlib.Core.List.{List}
 use lib.ListN.{length, set, replicate}
-use Rattle.packing.specs.Plant.{NONE, firstLinks}
+use Rattle.packing.specs.Plant.{NONE, at, common, firstLinks}
 use Rattle.sound.specs.Sound.{isSound}
+use Rattle.search.specs.Search.{placedHolders}
 use Rattle.planner.specs.declared.Small.{Small}
 use Rattle.planner.specs.declared.Answer.{Answer}
 use Rattle.planner.specs.Lists.{upTo, written}
-use Rattle.planner.specs.Refusals.{refuse, openRefusal, linkConditions, orderConditions}
+use Rattle.planner.specs.Refusals.{refuse, openRefusal, linkConditions, orderConditions, placeConditions}
 
 -- by a refusal number: what an accepted call gives, or what it leaves when refused
 module _ {A : Type 0} where
@@ -58,3 +59,13 @@ orderAnswer s ls os hs numbers = answer (orderRefusal s ls os hs numbers) s s
 
 unfoldable pub orderOrder : Small → List ℕ → List ℕ → List ℕ → List ℕ → List ℕ
 orderOrder s ls os hs numbers = byNumber (orderRefusal s ls os hs numbers) (written (s .n) numbers os) os
+
+-- Place: "the next in the order is kept or left; k rises by one"
+unfoldable pub placeRefusal : Small → List ℕ → List ℕ → List ℕ → ℕ
+placeRefusal s ls os hs = refuse (not (soundRecord s ls os hs)) 26 (placeConditions (s .n) (s .k))
+
+unfoldable pub placeAnswer : Small → List ℕ → List ℕ → List ℕ → Answer
+placeAnswer s ls os hs = answer (placeRefusal s ls os hs) (record { n = s .n; t = s .t; m = s .m; k = s .k + 1 }) s
+
+unfoldable pub placeHolders : Small → List ℕ → List ℕ → List ℕ → List ℕ
+placeHolders s ls os hs = byNumber (placeRefusal s ls os hs) (placedHolders (s .n) (common (s .t)) (firstLinks (s .m) ls) hs (at os (s .k))) hs

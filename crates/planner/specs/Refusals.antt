@@ -35,3 +35,7 @@ orderConditions n k numbers =
     refuse (ltb 0 k) 22
     (refuse (not (eqb (length numbers) n)) 5
     (refuse (repeatsOrOutside n numbers) 6 0))
+
+-- place, after 26: 24
+unfoldable pub placeConditions : ℕ → ℕ → ℕ
+placeConditions n k = refuse (eqb k n) 24 0

@@ -4,7 +4,7 @@ pub mod links;
 mod refusals;
 
 ghost use mathlib.Core.Path.{_≡_};
-ghost use Rattle.planner.specs.Calls.{openAnswer, openOrder, openHolders, linkAnswer, linkLinks, orderAnswer, orderOrder};
+ghost use Rattle.planner.specs.Calls.{openAnswer, openOrder, openHolders, linkAnswer, linkLinks, orderAnswer, orderOrder, placeAnswer, placeHolders};
 
 // 01's small part: n gateways, limit T, m links, k placed.
 pub struct Small {
@@ -102,6 +102,35 @@ impl Small {
         Answer {
             refusal: 0,
             small: self,
+        }
+    }
+
+    // The next in the order is kept or left.
+    pub fn place(self, links: &[u16], order: &[u16], holders: &mut [u16]) -> Answer
+        ensures answer { λ r. ⌜ r ≡ placeAnswer self (now (links .entry)) (now (order .entry)) (now (holders .entry)) ⌝ }
+        ensures holders { λ _. ⌜ now (holders .exit) ≡ placeHolders self (now (links .entry)) (now (order .entry)) (now (holders .entry)) ⌝ }
+    {
+        let n = self.n;
+        let t = self.t;
+        let m = self.m;
+        let k = self.k;
+        if !sound::is_sound(n, t, m, k, links, order, holders) {
+            return Answer {
+                refusal: 26,
+                small: self,
+            };
+        }
+        if k == n {
+            return Answer {
+                refusal: 24,
+                small: self,
+            };
+        }
+        let end = 2 * (m as usize);
+        search::place(n, t, order[k as usize], &links[..end], holders);
+        Answer {
+            refusal: 0,
+            small: Small { n, t, m, k: k + 1 },
         }
     }
 }

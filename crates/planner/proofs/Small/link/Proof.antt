@@ -3,8 +3,8 @@ use native.Mathlib.Omega.{arith}
 use mathlib.Core.Path.{sym, _∙_}
 use borrow.Author.Tests.{not-true, not-false}
 use lib.ListN.{length-set}
-use Rattle.sound.proofs.Meaning.{sound-means}
 use Rattle.planner.specs.Calls.{linkRefusal}
+use Rattle.planner.proofs.Next.{checked}
 use Rattle.planner.proofs.Answers.{unsound-number, sound-number, link-fits, link-refused, link-accepted}
 use borrow.Author.Needs.{needs}
 use Rattle.planner.proofs.Small.link.Statement.{statement}
@@ -21,7 +21,7 @@ unfolding linkRefusal
 returns c = link-refused _ _ _ _ _ _ (unsound-number _ (c .before .is-sound .ensures) (not-true _ (c .if1 .taken))) (λ z. omega arith)
 
 of-link-requires : tie.Need-of-link-requires
-of-link-requires c κs = sound-means _ _ _ _ _ _ _ (sym (c .before .before .is-sound .ensures) ∙ not-false _ (c .before .if1 .left)) .links-long
+of-link-requires c κs = checked _ _ _ _ _ _ _ (c .before .before .is-sound .ensures) (c .before .if1 .left) .links-long
 
 same-length-2 : tie.Need-same-length-2
 same-length-2 c = search needs
@@ -53,7 +53,7 @@ slice-write-links-2 : tie.Need-slice-write-links-2
 slice-write-links-2 c = simp length-set (omega (arith, link-fits _ _ _ _ _ _ _ (c .before .of-link .ensures) (c .if2 .left) .6))
 
 add-t23 : tie.Need-add-t23
-add-t23 c = let sound = sound-means _ _ _ _ _ _ _ (sym (c .before .before .before .before .is-sound .ensures) ∙ not-false _ (c .before .before .before .if1 .left)) in omega (arith, sound .few-links)
+add-t23 c = let sound = checked _ _ _ _ _ _ _ (c .before .before .before .before .is-sound .ensures) (c .before .before .before .if1 .left) in omega (arith, sound .few-links)
 
 same-length-3 : tie.Need-same-length-3
 same-length-3 c = search needs

@@ -2,8 +2,8 @@
 use native.Mathlib.Omega.{arith}
 use mathlib.Core.Path.{sym, _∙_, ap}
 use borrow.Author.Tests.{not-true, not-false}
-use Rattle.sound.proofs.Meaning.{sound-means}
 use Rattle.planner.specs.Calls.{orderRefusal}
+use Rattle.planner.proofs.Next.{checked}
 use Rattle.planner.proofs.Answers.{unsound-number, sound-number, order-fits, order-refused, order-accepted}
 use borrow.Author.Needs.{needs}
 use Rattle.planner.proofs.Small.order.Statement.{statement}
@@ -20,7 +20,7 @@ unfolding orderRefusal
 returns c = order-refused _ _ _ _ _ (unsound-number _ (c .before .is-sound .ensures) (not-true _ (c .if1 .taken))) (λ z. omega arith)
 
 of-order-requires : tie.Need-of-order-requires
-of-order-requires c κs = sound-means _ _ _ _ _ _ _ (sym (c .before .is-sound .ensures) ∙ not-false _ (c .if1 .left)) .few
+of-order-requires c κs = checked _ _ _ _ _ _ _ (c .before .is-sound .ensures) (c .if1 .left) .few
 
 same-length-2 : tie.Need-same-length-2
 same-length-2 c = search needs
@@ -32,7 +32,7 @@ returns-2 c = let test = c .before .before in
 
 with-list-requires : tie.Need-with-list-requires
 with-list-requires c κs = let test = c .before .before .before in
-    let sound = sound-means _ _ _ _ _ _ _ (sym (test .before .is-sound .ensures) ∙ not-false _ (test .if1 .left)) in
+    let sound = checked _ _ _ _ _ _ _ (test .before .is-sound .ensures) (test .if1 .left) in
     omega (arith, sound .order-long, order-fits _ _ _ (c .before .before .of-order .ensures) (c .before .if2 .left) .1)
 
 same-length-3 : tie.Need-same-length-3

@@ -1,0 +1,89 @@
+-- `place` meets its contract.
+use native.Mathlib.Omega.{arith}
+use mathlib.Core.Path.{sym, _∙_, refl}
+use borrow.Author.Tests.{not-true, not-false}
+use lib.Seq.{length-take-le}
+use Rattle.packing.specs.Plant.{firstLinks}
+use Rattle.planner.specs.Calls.{placeRefusal}
+use Rattle.planner.proofs.Answers.{unsound-number, sound-number, place-refused, place-accepted}
+use Rattle.planner.proofs.Next.{checked, next-placeable, place-full, place-next}
+use borrow.Author.Needs.{needs}
+use Rattle.planner.proofs.Small.place.Statement.{statement}
+use Rattle.planner.proofs.Small.place.Tie as tie
+use Rattle.planner.proofs.Small.place.Reads as reads
+use Rattle.planner.proofs.Small.place.Lts as lts
+use Rattle.search.proofs.place.Reads as place-reads
+use Rattle.sound.proofs.is_sound.Reads as is-sound-reads
+
+is-sound-requires : tie.Need-is-sound-requires
+is-sound-requires c κs = search needs
+
+same-length : tie.Need-same-length
+same-length c = search needs
+
+returns : tie.Need-returns
+unfolding placeRefusal
+returns c = place-refused _ _ _ _ (unsound-number _ (c .before .is-sound .ensures) (not-true _ (c .if1 .taken))) (λ z. omega arith)
+
+same-length-2 : tie.Need-same-length-2
+same-length-2 c = search needs
+
+returns-2 : tie.Need-returns-2
+unfolding placeRefusal
+returns-2 c = place-refused _ _ _ _ (sound-number (c .before .before .is-sound .ensures) (not-false _ (c .before .if1 .left)) (place-full _ _ (c .if2 .taken))) (λ z. omega arith)
+
+cast-end : tie.Need-cast-end
+cast-end c = search needs
+
+mul-end : tie.Need-mul-end
+mul-end c = search needs
+
+cast-place : tie.Need-cast-place
+cast-place c = search needs
+
+mul-place : tie.Need-mul-place
+mul-place c = search needs
+
+shared-slice-read-place : tie.Need-shared-slice-read-place
+shared-slice-read-place c = let test = c .before in
+    let sound = checked _ _ _ _ _ _ _ (test .before .before .is-sound .ensures) (test .before .if1 .left) in omega (arith, sound .placed, sound .order-long, test .if2 .left)
+
+slice-aggregate-place : tie.Need-slice-aggregate-place
+slice-aggregate-place c = let test = c .before .before in
+    sym (length-take-le _ _ (checked _ _ _ _ _ _ _ (test .before .before .is-sound .ensures) (test .before .if1 .left) .links-long))
+
+place-requires : tie.Need-place-requires
+place-requires c κs = let test = c .before .before .before in
+    next-placeable _ _ _ _ _ _ _ (checked _ _ _ _ _ _ _ (test .before .before .is-sound .ensures) (test .before .if1 .left)) (test .if2 .left)
+
+add-t18 : tie.Need-add-t18
+add-t18 c = let test = c .before .before .before .before .before .before in
+    let sound = checked _ _ _ _ _ _ _ (test .before .before .is-sound .ensures) (test .before .if1 .left) in omega (arith, sound .placed, sound .few, test .if2 .left)
+
+same-length-3 : tie.Need-same-length-3
+same-length-3 c = search needs
+
+returns-3 : tie.Need-returns-3
+unfolding placeRefusal firstLinks
+returns-3 c = let test = c .before .before .before .before .before .before in
+    place-accepted _ _ _ _ (sound-number (test .before .before .is-sound .ensures) (not-false _ (test .before .if1 .left)) (place-next _ _ (test .if2 .left))) refl (c .before .before .place .ensures)
+
+pub place-spec : {M : Type 1} → statement M
+place-spec =
+    tie.close
+    (tie.spec
+    is-sound-requires
+    same-length
+    returns
+    same-length-2
+    returns-2
+    cast-end
+    mul-end
+    cast-place
+    mul-place
+    shared-slice-read-place
+    slice-aggregate-place
+    place-requires
+    add-t18
+    same-length-3
+    returns-3)
