@@ -2,6 +2,7 @@
 pub mod Tests
 pub mod Sums
 pub mod Flat
+pub mod Lists
 pub mod Tight
 pub mod Hall
 pub mod Pairs

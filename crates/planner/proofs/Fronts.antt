@@ -6,6 +6,8 @@ use native.Mathlib.Numerals.{add-one}
 use native.Mathlib.Omega.{arith}
 use lib.ListN.{length, getD, set, take, drop, replicate, length-append, length-drop, length-replicate, replicate-append-replicate}
 use lib.Seq.{drop-cons, set-at, take-suc, take-length, length-take-le, append-snoc}
+use Rattle.packing.specs.Count.{listOf}
+use Rattle.packing.proofs.Lists.{listOf-length}
 use Rattle.planner.specs.Lists.{upTo, written}
 
 -- the first i entries are the front's, and the rest is as it was
@@ -43,14 +45,9 @@ module _ (n : ℕ) (front : ℕ → List ℕ) (entry : ℕ → ℕ) (g : Growing
       last : Fronted n front lent list i → n ≤ i → i ≡ n
       last d k = omega arith
 
-length-upTo : (i : ℕ) → length (upTo i) ≡ i
-unfolding upTo
-length-upTo zero = refl
-length-upTo (suc i) = omega (arith, length-append (upTo i) (i ∷ []), length-upTo i)
-
 pub upTo-grows : (n : ℕ) → Growing n upTo (λ i. i)
-unfolding upTo
-upTo-grows n = record { start = refl; more = λ i l. rw add-one; long = λ i l. length-upTo i }
+unfolding upTo listOf
+upTo-grows n = record { start = refl; more = λ i l. rw add-one; long = λ i l. listOf-length i (λ j. j) }
 
 pub replicate-grows : (n v : ℕ) → Growing n (λ i. replicate i v) (λ i. v)
 replicate-grows n v = record { start = refl; more = λ i l. sym (replicate-append-replicate i 1 v); long = λ i l. length-replicate i v }

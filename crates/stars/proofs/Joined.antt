@@ -12,7 +12,7 @@ use Rattle.stars.specs.Pre.{Table, Marks, Ruled, marked}
 use Rattle.stars.proofs.Tables.{read-mark, mark}
 use Rattle.stars.proofs.Passes.{leadsIn-ext}
 use Rattle.stars.proofs.RuleFive.{five-ext}
-use Rattle.stars.proofs.Listing.{listOf-ext}
+use Rattle.packing.proofs.Lists.{listOf-ext}
 
 -- who leads over the arcs that an array does not stop, for the test that the array holds
 kept-marks : (n : ℕ) (hs : List ℕ) (p : ℕ → Bool) {ss ls : List ℕ} → Marks n p ss → Marks n (leadsIn n n hs (λ w. not (marked ss w))) ls → Marks n (leadsIn n n hs (λ w. not (p w))) ls

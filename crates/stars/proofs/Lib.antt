@@ -13,5 +13,4 @@ pub mod Backs
 pub mod Begins
 pub mod Passes
 pub mod RuleFive
-pub mod Listing
 pub mod Joined

@@ -4,7 +4,7 @@ use Prim.Native.Nat.{_-_}
 use lib.Dec.{ltb}
 use Rattle.packing.specs.Plant.{at}
 use Rattle.stars.specs.Stars.{ruleFive}
-use Rattle.stars.proofs.Listing.{Listed, list-start, list-turn, list-end}
+use Rattle.packing.proofs.Lists.{Listed, list-start, list-turn, list-end}
 use Rattle.stars.proofs.pairs.write_list.Statement.{statement}
 use Rattle.stars.proofs.pairs.write_list.Tie as tie
 
