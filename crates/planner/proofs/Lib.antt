@@ -2,5 +2,6 @@
 pub mod Fronts
 pub mod Answers
 pub mod Next
+pub mod Made
 pub mod Orders
 pub mod Lookup

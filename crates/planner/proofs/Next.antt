@@ -22,11 +22,12 @@ none-unheld n hs v few e = le-ltb (at hs v) n (omega arith)
 
 pub next-placeable : (n t m k : ℕ) (ls os hs : List ℕ) → Sound n t m k ls os hs → (k ≡ n → ⊥) → Placeable n hs (at os k)
 next-placeable n t m k ls os hs s more =
-    record
-      { few = s .few
-      ; holders = s .holders-long
-      ; inside = s .order .below k (omega (arith, s .placed))
-      ; free = none-unheld n hs (at os k) (s .few) (s .free k (omega arith) (omega (arith, s .placed))) }
+    record {
+      few = s .few;
+      holders = s .holders-long;
+      inside = s .order .below k (omega (arith, s .placed));
+      free = none-unheld n hs (at os k) (s .few) (s .free k (omega arith) (omega (arith, s .placed)));
+    }
 
 pub place-full : (n k : ℕ) → k ≡ n → 24 ≡ placeConditions n k
 unfolding placeConditions

@@ -5,11 +5,14 @@ use mathlib.Core.List.{List}
 use lib.ListN.{length, set, replicate}
 use Rattle.packing.specs.Plant.{NONE, at, common, firstLinks}
 use Rattle.sound.specs.Sound.{isSound}
+use Rattle.packing.specs.Count.{listOf}
 use Rattle.search.specs.Search.{placedHolders}
+use Rattle.stars.specs.Stars.{leaderList}
+use Rattle.choke.specs.ChokeSet.{chokeByte}
 use Rattle.planner.specs.declared.Small.{Small}
 use Rattle.planner.specs.declared.Answer.{Answer}
 use Rattle.planner.specs.Lists.{upTo, written}
-use Rattle.planner.specs.Refusals.{refuse, openRefusal, linkConditions, orderConditions, placeConditions}
+use Rattle.planner.specs.Refusals.{refuse, openRefusal, linkConditions, orderConditions, placeConditions, readConditions}
 
 -- by a refusal number: what an accepted call gives, or what it leaves when refused
 module _ {A : Type 0} where
@@ -69,3 +72,19 @@ placeAnswer s ls os hs = answer (placeRefusal s ls os hs) (record { n = s .n; t 
 
 unfoldable pub placeHolders : Small → List ℕ → List ℕ → List ℕ → List ℕ
 placeHolders s ls os hs = byNumber (placeRefusal s ls os hs) (placedHolders (s .n) (common (s .t)) (firstLinks (s .m) ls) hs (at os (s .k))) hs
+
+-- Read: "after the last placing; leaders and choke set". leaders and choke are the lists lent for them.
+unfoldable pub readRefusal : Small → List ℕ → List ℕ → List ℕ → List ℕ → List ℕ → ℕ
+readRefusal s ls os hs leaders choke =
+    refuse (not (soundRecord s ls os hs)) 26 (readConditions (s .n) (s .k) (length leaders) (length choke))
+
+unfoldable pub readAnswer : Small → List ℕ → List ℕ → List ℕ → List ℕ → List ℕ → Answer
+readAnswer s ls os hs leaders choke = answer (readRefusal s ls os hs leaders choke) s s
+
+unfoldable pub readLeaders : Small → List ℕ → List ℕ → List ℕ → List ℕ → List ℕ → List ℕ
+readLeaders s ls os hs leaders choke =
+    byNumber (readRefusal s ls os hs leaders choke) (written (s .n) (listOf (s .n) (leaderList (s .n) hs)) leaders) leaders
+
+unfoldable pub readChoke : Small → List ℕ → List ℕ → List ℕ → List ℕ → List ℕ → List ℕ
+readChoke s ls os hs leaders choke =
+    byNumber (readRefusal s ls os hs leaders choke) (written (s .n) (listOf (s .n) (chokeByte (s .n) (firstLinks (s .m) ls) hs)) choke) choke

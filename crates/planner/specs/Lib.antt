@@ -2,3 +2,6 @@
 pub mod Lists
 pub mod Refusals
 pub mod Calls
+pub mod Told
+pub mod Run
+pub mod Claims
