@@ -12,7 +12,7 @@ use Rattle.packing.proofs.Tests.{or-false-l, or-false-r}
 use Rattle.search.specs.Search.{placedHolders}
 use Rattle.planner.specs.declared.Small.{Small}
 use Rattle.planner.specs.declared.Answer.{Answer}
-use Rattle.planner.specs.Refusals.{refuse, openRefusal, linkConditions, orderConditions}
+use Rattle.planner.specs.Refusals.{refuse, openRefusal, linkConditions, orderConditions, placeConditions, readConditions}
 use Rattle.planner.specs.Lists.{upTo, written, repeatsOrOutside}
 use Rattle.planner.specs.Calls.{byNumber, answer, opened, openAnswer, openOrder, openHolders, linkRefusal, linkAnswer, linkLinks, orderRefusal, orderAnswer, orderOrder, placeRefusal, placeAnswer, placeHolders}
 
@@ -105,6 +105,18 @@ order-fits n k numbers g z =
     let f5 = refuse-none (not (eqb (length numbers) n)) 5 _ (omega arith) (f22 .1) in
     let f6 = refuse-none (repeatsOrOutside n numbers) 6 0 (omega arith) (f5 .1) in
     (omega (arith, ltb-false 0 k (f22 .0)), eqb-true (length numbers) n (not-false (eqb (length numbers) n) (f5 .0)), f6 .0)
+
+-- what no refusal of place and of read says
+pub place-fits : (n k : ℕ) → placeConditions n k ≡ 0 → k ≡ n → ⊥
+unfolding placeConditions
+place-fits n k z = eqb-false k n (refuse-none (eqb k n) 24 0 (omega arith) z .0)
+
+pub read-fits : (n k leaders choke : ℕ) → readConditions n k leaders choke ≡ 0 → (n ≤ k) × (n ≤ leaders) × (n ≤ choke)
+unfolding readConditions
+read-fits n k leaders choke z =
+    let f25 = refuse-none (ltb k n) 25 _ (omega arith) z in
+    let f10 = refuse-none (ltb leaders n || ltb choke n) 10 0 (omega arith) (f25 .1) in
+    (ltb-false k n (f25 .0), ltb-false leaders n (or-false-l _ _ (f10 .0)), ltb-false choke n (or-false-r (ltb leaders n) _ (f10 .0)))
 
 module _ (s : Small) (ls os hs : List ℕ) where
   module _ (a b : ℕ) where

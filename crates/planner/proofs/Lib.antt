@@ -3,5 +3,6 @@ pub mod Fronts
 pub mod Answers
 pub mod Next
 pub mod Made
+pub mod Agree
 pub mod Orders
 pub mod Lookup
