@@ -2,3 +2,5 @@
 pub mod Listing
 pub mod Left
 pub mod Seen
+pub mod Choke
+pub mod Examples
