@@ -1,7 +1,6 @@
 -- Worked examples of the choke bytes.
-use Prim.Native.Nat.{ℕ}
 use mathlib.Core.Path.{_≡_, refl}
-use mathlib.Core.List.{List, [], _∷_}
+use mathlib.Core.List.{[], _∷_}
 use Rattle.packing.specs.Count.{sum, count, listOf, listWhere}
 use Rattle.packing.specs.Plant.{common, neighbours}
 use Rattle.packing.specs.Holders.{holds}

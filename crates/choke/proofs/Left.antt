@@ -3,7 +3,7 @@ use Prim.Native.Nat.{ℕ, zero, suc, _+_, _<_, _≤_}
 use mathlib.Core.Path.{_≡_, refl, sym, ap, _∙_}
 use mathlib.Core.Logic.{⊎-elim}
 use mathlib.Core.Bool.{Bool, true, false, not, cond, false≢true}
-use mathlib.Core.List.{List, [], _∷_, _++_, append-nil}
+use mathlib.Core.List.{List, [], _∷_, append-nil}
 use native.Mathlib.Nat.{not-suc-le-zero, le-antisymm}
 use native.Mathlib.Numerals.{add-one}
 use native.Mathlib.Omega.{arith}
@@ -14,8 +14,8 @@ use borrow.Author.Tests.{eqb-true, eq-eqb, lt-ltb, le-ltb}
 use Rattle.packing.specs.Count.{pick, sum, count, listWhere}
 use Rattle.packing.specs.Plant.{at}
 use Rattle.packing.specs.Holders.{held}
-use Rattle.packing.proofs.Tests.{below-suc, or-cases, or-l, or-r, not-i-false, not-i}
-use Rattle.packing.proofs.Sums.{count-suc, count-bound, count-split, count-all}
+use Rattle.packing.proofs.Tests.{below-suc, or-cases, or-l, or-r}
+use Rattle.packing.proofs.Sums.{count-split, count-all}
 use Rattle.packing.proofs.Links.{memberOf}
 use Rattle.search.proofs.Queue.{member-at, member-append}
 use Rattle.search.specs.Pre.{Startable}
@@ -80,7 +80,7 @@ module _ (n : ℕ) (hs queue₀ : List ℕ) (r : Room n hs queue₀) where
   queue-start = record { upto = omega arith; same = refl; state = refl; ends = omega arith }
 
   -- there is a place for one more
-  pub queue-place : {queue : List ℕ} {end v : ℕ} → Queueing n hs queue₀ queue end v → v < n → end < length queue
+  queue-place : {queue : List ℕ} {end v : ℕ} → Queueing n hs queue₀ queue end v → v < n → end < length queue
   queue-place q l = omega (arith, q .same, q .ends, r .places)
 
   pub queue-one : {queue queue' : List ℕ} {end v : ℕ} → Queueing n hs queue₀ queue end v → v < n → n ≤ at hs v → queue' ≡ set queue end v → Queueing n hs queue₀ queue' (end + 1) (v + 1)
@@ -90,7 +90,7 @@ module _ (n : ℕ) (hs queue₀ : List ℕ) (r : Room n hs queue₀) where
       record {
         upto = omega arith;
         same = rw (f, length-set) (q .same);
-        state = rw (f, add-one, add-one, take-suc-set queue end v place, q .state, le-ltb (at hs v) n e);
+        state = rw (f, add-one end, add-one v, take-suc-set queue end v place, q .state, le-ltb (at hs v) n e);
         ends = omega (arith, q .ends);
       }
 

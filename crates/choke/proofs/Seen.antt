@@ -1,8 +1,8 @@
 -- From the lists that the walk works in to the choke bytes.
 use Prim.Native.Nat.{ℕ, zero, suc, _≤_}
-use mathlib.Core.Path.{_≡_, refl, sym, ap, _∙_}
+use mathlib.Core.Path.{_≡_, refl, ap, _∙_}
 use mathlib.Core.Bool.{Bool, not}
-use mathlib.Core.List.{List, [], _∷_, _++_}
+use mathlib.Core.List.{List, _∷_, _++_}
 use native.Mathlib.Omega.{arith}
 use lib.Dec.{eqb}
 use lib.ListN.{length, take, drop, replicate, length-replicate}
@@ -13,8 +13,8 @@ use Rattle.search.specs.Search.{Search, seen, walk}
 use Rattle.search.specs.declared.Walked.{Walked}
 use Rattle.search.specs.declared.Walked.the-variants.{Found, RanOut}
 use Rattle.search.specs.Pre.{outcome, Is, Walkable}
-use Rattle.choke.specs.ChokeSet.{withoutHolder, chokeWalk, seenIn, inChoke, chokeByte}
-use Rattle.choke.specs.Pre.{Lent, Room, Queued, Workable, seenByte}
+use Rattle.choke.specs.ChokeSet.{chokeWalk, seenIn, inChoke, chokeByte}
+use Rattle.choke.specs.Pre.{Lent, Queued, Workable, seenByte}
 use Rattle.choke.proofs.Listing.{listOf-ext}
 use Rattle.choke.proofs.Left.{left-startable}
 
@@ -55,14 +55,14 @@ module _ {n : ℕ} {hs queue from out queue' : List ℕ} {tail : ℕ} (w : Worka
   pub set-places : {m : ℕ} → m ≡ length from → m ≤ length out
   set-places same = omega (arith, marks-long same, w .lent .places)
 
-  -- the bytes of those seen are the choke bytes
-  pub set-written : (ls : List ℕ) {r : Walked} {queue'' from' new : List ℕ} → Is r queue'' from' (walk n (common 0) ls hs (take tail queue')) → length from' ≡ length from
+  -- the bytes of those seen in a walk with a limit of 0 are the choke bytes
+  pub set-written : (t : ℕ) (ls : List ℕ) {r : Walked} {queue'' from' new : List ℕ} → Is r queue'' from' (walk n (common t) ls hs (take tail queue')) → t ≡ 0 → length from' ≡ length from
       → new ≡ listOf (length from') (seenByte from') ++ drop (length from') out → new ≡ listOf n (chokeByte n ls hs) ++ drop n out
   unfolding chokeByte inChoke chokeWalk seenByte
-  set-written ls {r} {queue''} {from'} d same e =
+  set-written t ls {r} {queue''} {from'} d none same e =
       (rw (marks-long same) at e)
       ∙ ap (λ (l : List ℕ). l ++ drop n out)
-      (listOf-ext n (seenByte from') (chokeByte n ls hs) (λ v l. ap (λ (b : Bool). pick b 1) (walked-seen r queue'' from' (rw (q .state) at (d .state)) v)))
+      (listOf-ext n (seenByte from') (chokeByte n ls hs) (λ v l. ap (λ (b : Bool). pick b 1) (walked-seen r queue'' from' (rw (q .state, none) at (d .state)) v)))
 
 -- the first n of a list of equal entries
 take-replicate : (n m a : ℕ) → n ≤ m → take n (replicate m a) ≡ replicate n a
@@ -71,8 +71,5 @@ take-replicate (suc n) zero a h = absurd (omega arith)
 take-replicate (suc n) (suc m) a h = ap {B = List ℕ} (λ l. a ∷ l) (take-replicate n m a (omega arith))
 
 -- the arrays to work in
-pub marks-front : (n : ℕ) → n ≤ 1024 → n ≡ length (take n (replicate 1024 NONE))
-marks-front n few = sym (rw (take-replicate n 1024 NONE few) (length-replicate n NONE))
-
 pub lent-workable : {n : ℕ} {hs out : List ℕ} → Lent n hs out → Workable n hs (replicate 1024 0) (take n (replicate 1024 NONE)) out
 lent-workable {n} l = record { lent = l; queued = rw length-replicate (l .few); unseen = take-replicate n 1024 NONE (l .few) }

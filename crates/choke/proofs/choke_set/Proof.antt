@@ -1,6 +1,7 @@
 -- `choke_set` meets its contract.
-use Rattle.choke.proofs.Seen.{marks-front, lent-workable}
 use borrow.Author.Needs.{needs}
+use Rattle.search.proofs.Turns.{place-marks}
+use Rattle.choke.proofs.Seen.{lent-workable}
 use Rattle.choke.proofs.choke_set.Statement.{statement}
 use Rattle.choke.proofs.choke_set.Tie as tie
 
@@ -11,7 +12,7 @@ array-borrow-prefix-from : tie.Need-array-borrow-prefix-from
 array-borrow-prefix-from c = search needs
 
 slice-aggregate-write-set-2 : tie.Need-slice-aggregate-write-set-2
-slice-aggregate-write-set-2 c = marks-front _ (c .before .before .before .before .before .pre .few)
+slice-aggregate-write-set-2 c = place-marks _ (c .before .before .before .before .before .pre .few)
 
 write-set-requires : tie.Need-write-set-requires
 write-set-requires c κs = lent-workable (c .before .before .before .before .before .before .pre)

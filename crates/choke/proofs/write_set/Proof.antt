@@ -1,6 +1,7 @@
 -- `write_set` meets its contract: the laws of Seen.
-use Rattle.choke.proofs.Seen.{set-walkable, set-places, set-written}
+use mathlib.Core.Path.{refl}
 use borrow.Author.Needs.{needs}
+use Rattle.choke.proofs.Seen.{set-walkable, set-places, set-written}
 use Rattle.choke.proofs.write_set.Statement.{statement}
 use Rattle.choke.proofs.write_set.Tie as tie
 
@@ -31,7 +32,7 @@ returns : tie.Need-returns
 returns c = let walked = c .before .before .before .before .before .before .before .before .before in
     let called = walked .before .before .before .before .before in
     let start = called .before .before .before .before .before .before .before in
-    set-written (start .pre) (called .queue-left .ensures) _ (walked .walk .ensures) (walked .walk .kept .1 .1 .1 .1 .1 .1 .0) (c .before .before .write-seen .ensures)
+    set-written (start .pre) (called .queue-left .ensures) _ _ (walked .walk .ensures) refl (walked .walk .kept .1 .1 .1 .1 .1 .1 .0) (c .before .before .write-seen .ensures)
 
 pub write-set-spec : {M : Type 1} → statement M
 write-set-spec =

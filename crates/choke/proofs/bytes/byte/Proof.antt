@@ -1,5 +1,5 @@
-use Rattle.choke.proofs.Seen.{byte-none, byte-some}
 -- `byte` meets its contract.
+use Rattle.choke.proofs.Seen.{byte-none, byte-some}
 use Rattle.choke.proofs.bytes.byte.Statement.{statement}
 use Rattle.choke.proofs.bytes.byte.Tie as tie
 

@@ -1,9 +1,9 @@
 -- `queue_left` meets its contract: the laws of Left.
+use Prim.Native.Nat.{_-_}
 use borrow.Author.Needs.{needs}
 use mathlib.Core.Path.{refl}
-use Prim.Native.Nat.{_-_}
 use mathlib.Core.Logic.{⊎-elim}
-use Rattle.choke.proofs.Left.{Queueing, queue-start, queue-place, queue-one, queue-pass, queue-end}
+use Rattle.choke.proofs.Left.{Queueing, queue-start, queue-one, queue-pass, queue-end}
 use Rattle.choke.proofs.start.queue_left.Statement.{statement}
 use Rattle.choke.proofs.start.queue_left.Tie as tie
 
