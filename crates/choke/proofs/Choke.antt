@@ -5,19 +5,17 @@ use mathlib.Core.Path.{_≡_, sym, ap, _∙_}
 use mathlib.Core.Bool.{Bool, true, false, not}
 use mathlib.Core.List.{List}
 use native.Mathlib.Omega.{arith}
-use borrow.Author.Tests.{not-true}
 use Rattle.packing.specs.Count.{count}
 use Rattle.packing.specs.Plant.{at, common, linked}
 use Rattle.packing.specs.Holders.{held, Feasible}
 use Rattle.packing.specs.Choke.{ChokeDifference}
-use Rattle.packing.proofs.Tests.{not-i}
 use Rattle.packing.proofs.Links.{memberOf, linked-sym}
 use Rattle.packing.proofs.Tight.{Tight}
 use Rattle.packing.proofs.Barrier.{barrier-difference}
 use Rattle.search.specs.Search.{Search, found, more, seen}
 use Rattle.search.proofs.Reach.{Exhausted, walk-exhausted, walk-runs-out}
 use Rattle.choke.specs.ChokeSet.{withoutHolder, chokeWalk, seenIn, inChoke}
-use Rattle.choke.proofs.Left.{listWhere-in, listWhere-out, left-startable}
+use Rattle.choke.proofs.Left.{left-in, left-out, left-startable}
 
 -- all that a walk whose queue ran out had queued
 unfoldable pub queuedIn : Search → ℕ → Bool
@@ -60,21 +58,13 @@ module _ (n : ℕ) (ls hs : List ℕ) where
     unfolding chokeWalk
     exhausted e = walk-exhausted (left-startable n hs few) e
 
-    starts : (v : ℕ) → v < n → held n (at hs) v ≡ false → memberOf (withoutHolder n hs) v ≡ true
-    unfolding withoutHolder
-    starts v l e = listWhere-in n (λ w. not (held n (at hs) w)) v l (not-i (held n (at hs) v) e)
-
-    begins : (v : ℕ) → memberOf (withoutHolder n hs) v ≡ true → (v < n) × (held n (at hs) v ≡ false)
-    unfolding withoutHolder
-    begins v m = let r = listWhere-out n (λ w. not (held n (at hs) w)) v m in (r .0, not-true (held n (at hs) v) (r .1))
-
     -- The walk's pair is closed, ..
     pub choke-closed : Closed n ls hs (reached n ls hs) (inChoke n ls hs)
     choke-closed =
         let (queue, from, e) = choke-runs-out few in
         let w = exhausted e in
         record {
-          left = λ v l f. reached-queue e v ∙ w .starts v (starts v l f);
+          left = λ v l f. reached-queue e v ∙ w .starts v (left-in n hs v l f);
           closed = λ x u l k r a. choke-seen e u ∙ w .closed x u k (sym (reached-queue e x) ∙ r) a;
           owned = λ v l h s. reached-queue e v ∙ w .owned v l h (sym (choke-seen e (at hs v)) ∙ s);
         }
@@ -84,7 +74,7 @@ module _ (n : ℕ) (ls hs : List ℕ) where
         → ((x : ℕ) → x < n → reached n ls hs x ≡ true → R x ≡ true) × ((u : ℕ) → u < n → inChoke n ls hs u ≡ true → S u ≡ true)
     choke-least R S c =
         let (queue, from, e) = choke-runs-out few in
-        let both = exhausted e .least R S (λ x m. let b = begins x m in c .left x (b .0) (b .1)) (c .closed) (c .owned) in
+        let both = exhausted e .least R S (λ x m. let b = left-out n hs x m in c .left x (b .0) (b .1)) (c .closed) (c .owned) in
         ((λ x l r. both .0 x (sym (reached-queue e x) ∙ r)), λ u l s. both .1 u l (sym (choke-seen e u) ∙ s))
 
     -- what the walk queued are gateways

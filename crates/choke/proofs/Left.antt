@@ -10,11 +10,11 @@ use native.Mathlib.Omega.{arith}
 use lib.Dec.{eqb}
 use lib.ListN.{length, set, take, length-append, length-set}
 use lib.Seq.{take-suc-set}
-use borrow.Author.Tests.{eqb-true, eq-eqb, lt-ltb, le-ltb}
+use borrow.Author.Tests.{eqb-true, eq-eqb, lt-ltb, le-ltb, not-true}
 use Rattle.packing.specs.Count.{pick, sum, count, listWhere}
 use Rattle.packing.specs.Plant.{at}
 use Rattle.packing.specs.Holders.{held}
-use Rattle.packing.proofs.Tests.{below-suc, or-cases, or-l, or-r}
+use Rattle.packing.proofs.Tests.{below-suc, or-cases, or-l, or-r, not-i}
 use Rattle.packing.proofs.Sums.{count-split, count-all}
 use Rattle.packing.proofs.Links.{memberOf}
 use Rattle.search.proofs.Queue.{member-at, member-append}
@@ -51,13 +51,22 @@ listWhere-out (suc n) p v e =
     last true f q = let here : n ≡ v = eqb-true n v (⊎-elim (λ r. r) (λ r. absurd (false≢true r)) (or-cases (eqb n v) false q)) in (omega arith, rw (← here) f)
     last false f q = absurd (false≢true q)
 
+-- who is without holder
+pub left-in : (n : ℕ) (hs : List ℕ) (v : ℕ) → v < n → held n (at hs) v ≡ false → memberOf (withoutHolder n hs) v ≡ true
+unfolding withoutHolder
+left-in n hs v l e = listWhere-in n (λ w. not (held n (at hs) w)) v l (not-i (held n (at hs) v) e)
+
+pub left-out : (n : ℕ) (hs : List ℕ) (v : ℕ) → memberOf (withoutHolder n hs) v ≡ true → (v < n) × (held n (at hs) v ≡ false)
+unfolding withoutHolder
+left-out n hs v m = let r = listWhere-out n (λ w. not (held n (at hs) w)) v m in (r .0, not-true (held n (at hs) v) (r .1))
+
 -- the gateways without holder may start a search: they and those held are n
 pub left-startable : (n : ℕ) (hs : List ℕ) → n ≤ 1024 → Startable n hs (withoutHolder n hs)
 unfolding withoutHolder
 left-startable n hs few =
     record {
       few = few;
-      below = λ i l. listWhere-out n (λ v. not (held n (at hs) v)) _ (member-at (listWhere n (λ v. not (held n (at hs) v))) i l) .0;
+      below = λ i l. left-out n hs (at (withoutHolder n hs) i) (member-at (withoutHolder n hs) i l) .0;
       room =
           omega (
             arith,
