@@ -1,2 +1,3 @@
 -- 01, "Reading": the choke set.
 pub mod ChokeSet
+pub mod Pre

@@ -1,0 +1,6 @@
+-- Laws of the choke set: of the lists and the loops that write them, and of the set itself.
+pub mod Listing
+pub mod Left
+pub mod Seen
+pub mod Choke
+pub mod Examples
