@@ -15,7 +15,7 @@ use Rattle.search.specs.declared.Walked.the-variants.{Found, RanOut}
 use Rattle.search.specs.Pre.{outcome, Is, Walkable}
 use Rattle.choke.specs.ChokeSet.{chokeWalk, seenIn, inChoke, chokeByte}
 use Rattle.choke.specs.Pre.{Lent, Queued, Workable, seenByte}
-use Rattle.choke.proofs.Listing.{listOf-ext}
+use Rattle.packing.proofs.Lists.{listOf-ext}
 use Rattle.choke.proofs.Left.{left-startable}
 
 -- a byte of one that is not seen, and of one that is

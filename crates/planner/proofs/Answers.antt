@@ -9,12 +9,15 @@ use lib.ListN.{length, set, replicate}
 use Rattle.packing.specs.Plant.{NONE, at, common, firstLinks, linked}
 use borrow.Author.Tests.{ltb-false, leb-false, eqb-true, eqb-false, not-false}
 use Rattle.packing.proofs.Tests.{or-false-l, or-false-r}
+use Rattle.packing.specs.Count.{listOf}
 use Rattle.search.specs.Search.{placedHolders}
+use Rattle.stars.specs.Stars.{leaderList}
+use Rattle.choke.specs.ChokeSet.{chokeByte}
 use Rattle.planner.specs.declared.Small.{Small}
 use Rattle.planner.specs.declared.Answer.{Answer}
 use Rattle.planner.specs.Refusals.{refuse, openRefusal, linkConditions, orderConditions, placeConditions, readConditions}
 use Rattle.planner.specs.Lists.{upTo, written, repeatsOrOutside}
-use Rattle.planner.specs.Calls.{byNumber, answer, opened, openAnswer, openOrder, openHolders, linkRefusal, linkAnswer, linkLinks, orderRefusal, orderAnswer, orderOrder, placeRefusal, placeAnswer, placeHolders}
+use Rattle.planner.specs.Calls.{byNumber, answer, opened, openAnswer, openOrder, openHolders, linkRefusal, linkAnswer, linkLinks, orderRefusal, orderAnswer, orderOrder, placeRefusal, placeAnswer, placeHolders, readRefusal, readAnswer, readLeaders, readChoke}
 
 -- no refusal: the condition does not hold, and no later one
 pub refuse-none : (b : Bool) (e later : ℕ) → 0 < e → refuse b e later ≡ 0 → (b ≡ false) × (later ≡ 0)
@@ -152,3 +155,15 @@ module _ (s : Small) (ls os hs : List ℕ) where
       → (_≡_ {A = Answer} (record { refusal = 0; small = record { n = s .n; t = s .t; m = s .m; k = s .k + 1 } }) (placeAnswer s ls os hs)) × (hs' ≡ placeHolders s ls os hs)
   unfolding placeAnswer placeHolders
   place-accepted g z h = (accepted-answer _ _ g z, accepted _ _ g z h)
+
+  module _ (leaders choke : List ℕ) where
+    pub read-refused : {e : ℕ} → e ≡ readRefusal s ls os hs leaders choke → (e ≡ 0 → ⊥)
+        → (_≡_ {A = Answer} (record { refusal = e; small = s }) (readAnswer s ls os hs leaders choke)) × ((leaders ≡ readLeaders s ls os hs leaders choke) × (choke ≡ readChoke s ls os hs leaders choke))
+    unfolding readAnswer readLeaders readChoke
+    read-refused g h = (refused-answer _ _ g h, (refused _ _ g h, refused _ _ g h))
+
+    pub read-accepted : {e : ℕ} {leaders' choke' : List ℕ} → e ≡ readRefusal s ls os hs leaders choke → e ≡ 0
+        → leaders' ≡ written (s .n) (listOf (s .n) (leaderList (s .n) hs)) leaders → choke' ≡ written (s .n) (listOf (s .n) (chokeByte (s .n) (firstLinks (s .m) ls) hs)) choke
+        → (_≡_ {A = Answer} (record { refusal = 0; small = s }) (readAnswer s ls os hs leaders choke)) × ((leaders' ≡ readLeaders s ls os hs leaders choke) × (choke' ≡ readChoke s ls os hs leaders choke))
+    unfolding readAnswer readLeaders readChoke
+    read-accepted g z p q = (accepted-answer _ _ g z, (accepted _ _ g z p, accepted _ _ g z q))

@@ -4,7 +4,7 @@ pub mod links;
 mod refusals;
 
 ghost use mathlib.Core.Path.{_≡_};
-ghost use Rattle.planner.specs.Calls.{openAnswer, openOrder, openHolders, linkAnswer, linkLinks, orderAnswer, orderOrder, placeAnswer, placeHolders};
+ghost use Rattle.planner.specs.Calls.{openAnswer, openOrder, openHolders, linkAnswer, linkLinks, orderAnswer, orderOrder, placeAnswer, placeHolders, readAnswer, readLeaders, readChoke};
 
 // 01's small part: n gateways, limit T, m links, k placed.
 pub struct Small {
@@ -131,6 +131,34 @@ impl Small {
         Answer {
             refusal: 0,
             small: Small { n, t, m, k: k + 1 },
+        }
+    }
+
+    // Writes the leader list and the choke bytes of a fully placed record.
+    pub fn read(self, links: &[u16], order: &[u16], holders: &[u16], leaders: &mut [u16], choke: &mut [u8]) -> Answer
+        ensures answer { λ r. ⌜ r ≡ readAnswer self (now (links .entry)) (now (order .entry)) (now (holders .entry)) (now (leaders .entry)) (now (choke .entry)) ⌝ }
+        ensures leaders { λ _. ⌜ now (leaders .exit) ≡ readLeaders self (now (links .entry)) (now (order .entry)) (now (holders .entry)) (now (leaders .entry)) (now (choke .entry)) ⌝ }
+        ensures choke { λ _. ⌜ now (choke .exit) ≡ readChoke self (now (links .entry)) (now (order .entry)) (now (holders .entry)) (now (leaders .entry)) (now (choke .entry)) ⌝ }
+    {
+        let n = self.n;
+        let m = self.m;
+        let k = self.k;
+        if !sound::is_sound(n, self.t, m, k, links, order, holders) {
+            return Answer {
+                refusal: 26,
+                small: self,
+            };
+        }
+        let refusal = refusals::of_read(n, k, leaders, choke);
+        if refusal != 0 {
+            return Answer { refusal, small: self };
+        }
+        let end = 2 * (m as usize);
+        stars::leaders(n, holders, leaders);
+        choke::choke_set(n, &links[..end], holders, choke);
+        Answer {
+            refusal: 0,
+            small: self,
         }
     }
 }

@@ -4,7 +4,7 @@ ghost use mathlib.Core.Path.{_≡_};
 ghost use Prim.Native.Nat.{_≤_, _*_};
 ghost use lib.ListN.{length};
 ghost use Rattle.packing.specs.Plant.{firstLinks};
-ghost use Rattle.planner.specs.Refusals.{openRefusal, linkConditions, orderConditions};
+ghost use Rattle.planner.specs.Refusals.{openRefusal, linkConditions, orderConditions, readConditions};
 
 pub fn of_open(n: u16, t: u8, order: &[u16], holders: &[u16]) -> u32
     ensures { λ r. ⌜ r ≡ openRefusal n t (now (order .entry)) (now (holders .entry)) ⌝ }
@@ -70,6 +70,22 @@ pub fn of_order(n: u16, k: u16, numbers: &[u16]) -> u32
     }
     if !sound::is_order(n, numbers) {
         return 6;
+    }
+    0
+}
+
+// After 26.
+pub fn of_read(n: u16, k: u16, leaders: &[u16], choke: &[u8]) -> u32
+    ensures { λ r. ⌜ r ≡ readConditions n k (length (now (leaders .entry))) (length (now (choke .entry))) ⌝ }
+{
+    if k < n {
+        return 25;
+    }
+    if leaders.len() < n as usize {
+        return 10;
+    }
+    if choke.len() < n as usize {
+        return 10;
     }
     0
 }

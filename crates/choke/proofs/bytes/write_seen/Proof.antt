@@ -4,7 +4,7 @@ use borrow.Author.Needs.{needs}
 use lib.ListN.{length}
 use Rattle.choke.specs.Pre.{seenByte}
 use Rattle.choke.proofs.Seen.{byte-seen}
-use Rattle.choke.proofs.Listing.{Listed, list-start, list-turn, list-end}
+use Rattle.packing.proofs.Lists.{Listed, list-start, list-turn, list-end}
 use Rattle.choke.proofs.bytes.write_seen.Statement.{statement}
 use Rattle.choke.proofs.bytes.write_seen.Tie as tie
 

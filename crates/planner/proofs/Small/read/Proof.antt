@@ -1,0 +1,88 @@
+-- `read` meets its contract.
+use native.Mathlib.Omega.{arith}
+use mathlib.Core.Path.{sym, _∙_}
+use borrow.Author.Tests.{not-true, not-false}
+use lib.Seq.{length-take-le}
+use Rattle.packing.specs.Plant.{firstLinks}
+use Rattle.planner.specs.Lists.{written}
+use Rattle.planner.specs.Calls.{readRefusal}
+use Rattle.planner.proofs.Answers.{unsound-number, sound-number, read-fits, read-refused, read-accepted}
+use Rattle.planner.proofs.Next.{checked}
+use borrow.Author.Needs.{needs}
+use Rattle.planner.proofs.Small.read.Statement.{statement}
+use Rattle.planner.proofs.Small.read.Tie as tie
+
+is-sound-requires : tie.Need-is-sound-requires
+is-sound-requires c κs = search needs
+
+returns : tie.Need-returns
+unfolding readRefusal
+returns c = read-refused _ _ _ _ _ _ (unsound-number _ (c .before .is-sound .ensures) (not-true _ (c .if1 .taken))) (λ z. omega arith)
+
+of-read-requires : tie.Need-of-read-requires
+of-read-requires c κs = search needs
+
+same-length : tie.Need-same-length
+same-length c = search needs
+
+same-length-2 : tie.Need-same-length-2
+same-length-2 c = search needs
+
+returns-2 : tie.Need-returns-2
+unfolding readRefusal
+returns-2 c = let test = c .before .before .before .before in
+    read-refused _ _ _ _ _ _ (sound-number (test .before .is-sound .ensures) (not-false _ (test .if1 .left)) (c .before .of-read .ensures)) (c .if2 .taken)
+
+cast-end : tie.Need-cast-end
+cast-end c = search needs
+
+mul-end : tie.Need-mul-end
+mul-end c = search needs
+
+leaders-requires : tie.Need-leaders-requires
+leaders-requires c κs = let asked = c .before .before in
+    let test = asked .before .before .before in
+    let sound = checked _ _ _ _ _ _ _ (test .before .is-sound .ensures) (test .if1 .left) in
+    record { few = sound .few; held = sound .holders-long; room = read-fits _ _ _ _ (sym (asked .of-read .ensures) ∙ c .before .if2 .left) .1 }
+
+slice-aggregate-choke-set : tie.Need-slice-aggregate-choke-set
+slice-aggregate-choke-set c = let test = c .before .before .before .before .before .before .before .before .before in
+    sym (length-take-le _ _ (checked _ _ _ _ _ _ _ (test .before .is-sound .ensures) (test .if1 .left) .links-long))
+
+choke-set-requires : tie.Need-choke-set-requires
+choke-set-requires c κs = let asked = c .before .before .before .before .before .before .before in
+    let test = asked .before .before .before in
+    let sound = checked _ _ _ _ _ _ _ (test .before .is-sound .ensures) (test .if1 .left) in
+    record { few = sound .few; holders = sound .holders-long; places = read-fits _ _ _ _ (sym (asked .of-read .ensures) ∙ c .before .before .before .before .before .before .if2 .left) .2 }
+
+same-length-3 : tie.Need-same-length-3
+same-length-3 c = search needs
+
+same-length-4 : tie.Need-same-length-4
+same-length-4 c = search needs
+
+returns-3 : tie.Need-returns-3
+unfolding readRefusal firstLinks written
+returns-3 c = let led = c .before .before .before .before .before .before .before in
+    let asked = led .before .before .before in
+    let test = asked .before .before .before in
+    read-accepted _ _ _ _ _ _ (sound-number (test .before .is-sound .ensures) (not-false _ (test .if1 .left)) (asked .of-read .ensures)) (led .before .before .if2 .left) (led .leaders .ensures) (c .before .before .choke-set .ensures)
+
+pub read-spec : {M : Type 1} → statement M
+read-spec =
+    tie.close
+    (tie.spec
+    is-sound-requires
+    returns
+    of-read-requires
+    same-length
+    same-length-2
+    returns-2
+    cast-end
+    mul-end
+    leaders-requires
+    slice-aggregate-choke-set
+    choke-set-requires
+    same-length-3
+    same-length-4
+    returns-3)
