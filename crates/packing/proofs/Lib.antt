@@ -7,6 +7,7 @@ pub mod Tight
 pub mod Hall
 pub mod Pairs
 pub mod Groupings
+pub mod Below
 pub mod Prefixes
 pub mod Barrier
 pub mod Links

@@ -4,5 +4,6 @@ pub mod Answers
 pub mod Next
 pub mod Made
 pub mod Agree
+pub mod Optimal
 pub mod Orders
 pub mod Lookup

@@ -73,3 +73,11 @@ LeftExactly =
     → toldBy n t ls calls .placed < n
     → (held n (at (step (madeBy n t ls os hs calls) place .holders)) (at (toldBy n t ls calls .order) (toldBy n t ls calls .placed)) ≡ false)
     ↔ ((g : ℕ → ℕ) → GroupingTold (toldBy n t ls calls) g → CoversKept (toldBy n t ls calls) (madeBy n t ls os hs calls) (toldBy n t ls calls .placed) (covered g) → ⊥)
+
+-- .. and the same for feasible holders (000, Definition 2) in place of groupings.
+unfoldable pub LeftExactlyByHolders : Type 0
+LeftExactlyByHolders =
+    (n t : ℕ) (ls os hs : List ℕ) → openRefusal n t os hs ≡ 0 → (calls : List Call)
+    → toldBy n t ls calls .placed < n
+    → (held n (at (step (madeBy n t ls os hs calls) place .holders)) (at (toldBy n t ls calls .order) (toldBy n t ls calls .placed)) ≡ false)
+    ↔ ((h : ℕ → ℕ) → Feasible n (common t) (linked (toldBy n t ls calls .links)) h → CoversKept (toldBy n t ls calls) (madeBy n t ls os hs calls) (toldBy n t ls calls .placed) (held n h) → ⊥)

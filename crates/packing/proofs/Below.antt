@@ -1,0 +1,36 @@
+-- Groupings and choke differences look at nothing from n on.
+use Prim.Native.Nat.{ℕ, _+_, _<_}
+use mathlib.Core.Path.{_≡_, refl, sym, ap, _∙_}
+use mathlib.Core.Bool.{Bool, true, false, not, _&&_, _||_}
+use lib.Dec.{eqb, ltb, leb}
+use borrow.Author.Tests.{ltb-true}
+use Rattle.packing.specs.Count.{pick, sum, count, sumOver, all}
+use Rattle.packing.specs.Grouping.{Grouping, memberCount, isAlone, isLeader, isMember}
+use Rattle.packing.specs.Choke.{stranded, ChokeDifference}
+use Rattle.packing.proofs.Tests.{by-bool, all-ext}
+use Rattle.packing.proofs.Sums.{count-ext, sum-ext}
+
+module _ (n : ℕ) (limit : ℕ → ℕ) (adj : ℕ → ℕ → Bool) where
+  pub grouping-below : (g h : ℕ → ℕ) → ((v : ℕ) → v < n → g v ≡ h v) → Grouping n limit adj g → Grouping n limit adj h
+  unfolding Grouping memberCount
+  grouping-below g h same group v l =
+      sym entries ∙ group v l
+    where
+      members : count n (λ w. eqb (g w) v && not (eqb w v)) ≡ count n (λ w. eqb (h w) v && not (eqb w v))
+      members = count-ext n (λ w. eqb (g w) v && not (eqb w v)) (λ w. eqb (h w) v && not (eqb w v)) (λ w k. rw (same w k))
+      member : (u : ℕ) → (ltb u n && adj v u && eqb (g u) u) ≡ (ltb u n && adj v u && eqb (h u) u)
+      member u = by-bool (ltb u n) (λ e. rw (e, same u (ltb-true u n e))) (λ e. rw e)
+      entries : (isAlone g v || isLeader n limit g v || isMember n adj g v) ≡ (isAlone h v || isLeader n limit h v || isMember n adj h v)
+      entries = rw (same v l, members) (ap (λ (b : Bool). isAlone h v || isLeader n limit h v || b) (member (h v)))
+
+  pub difference-below : (s r : ℕ → Bool) (d e : ℕ) → ((v : ℕ) → v < n → s v ≡ r v) → d ≡ e → ChokeDifference n limit adj s d → ChokeDifference n limit adj r e
+  unfolding ChokeDifference stranded sumOver
+  difference-below s r d e same q diff =
+      sym counts ∙ diff ∙ rw q (ap (λ (k : ℕ). e + k) sums)
+    where
+      inner : (v : ℕ) → all n (λ u. not (adj v u) || s u) ≡ all n (λ u. not (adj v u) || r u)
+      inner v = all-ext n (λ u. not (adj v u) || s u) (λ u. not (adj v u) || r u) (λ u l. rw (same u l))
+      counts : count n (λ v. not (s v) && all n (λ u. not (adj v u) || s u)) ≡ count n (λ v. not (r v) && all n (λ u. not (adj v u) || r u))
+      counts = count-ext n (λ v. not (s v) && all n (λ u. not (adj v u) || s u)) (λ v. not (r v) && all n (λ u. not (adj v u) || r u)) (λ v l. rw (same v l, inner v))
+      sums : sum n (λ i. pick (s i) (limit i)) ≡ sum n (λ i. pick (r i) (limit i))
+      sums = sum-ext n (λ i. pick (s i) (limit i)) (λ i. pick (r i) (limit i)) (λ i l. rw (same i l))
