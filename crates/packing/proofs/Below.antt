@@ -18,8 +18,10 @@ module _ (n : ℕ) (limit : ℕ → ℕ) (adj : ℕ → ℕ → Bool) where
     where
       members : count n (λ w. eqb (g w) v && not (eqb w v)) ≡ count n (λ w. eqb (h w) v && not (eqb w v))
       members = count-ext n (λ w. eqb (g w) v && not (eqb w v)) (λ w. eqb (h w) v && not (eqb w v)) (λ w k. rw (same w k))
+
       member : (u : ℕ) → (ltb u n && adj v u && eqb (g u) u) ≡ (ltb u n && adj v u && eqb (h u) u)
       member u = by-bool (ltb u n) (λ e. rw (e, same u (ltb-true u n e))) (λ e. rw e)
+
       entries : (isAlone g v || isLeader n limit g v || isMember n adj g v) ≡ (isAlone h v || isLeader n limit h v || isMember n adj h v)
       entries = rw (same v l, members) (ap (λ (b : Bool). isAlone h v || isLeader n limit h v || b) (member (h v)))
 
@@ -30,7 +32,9 @@ module _ (n : ℕ) (limit : ℕ → ℕ) (adj : ℕ → ℕ → Bool) where
     where
       inner : (v : ℕ) → all n (λ u. not (adj v u) || s u) ≡ all n (λ u. not (adj v u) || r u)
       inner v = all-ext n (λ u. not (adj v u) || s u) (λ u. not (adj v u) || r u) (λ u l. rw (same u l))
+
       counts : count n (λ v. not (s v) && all n (λ u. not (adj v u) || s u)) ≡ count n (λ v. not (r v) && all n (λ u. not (adj v u) || r u))
       counts = count-ext n (λ v. not (s v) && all n (λ u. not (adj v u) || s u)) (λ v. not (r v) && all n (λ u. not (adj v u) || r u)) (λ v l. rw (same v l, inner v))
+
       sums : sum n (λ i. pick (s i) (limit i)) ≡ sum n (λ i. pick (r i) (limit i))
       sums = sum-ext n (λ i. pick (s i) (limit i)) (λ i. pick (r i) (limit i)) (λ i l. rw (same i l))

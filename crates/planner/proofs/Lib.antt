@@ -5,5 +5,7 @@ pub mod Next
 pub mod Made
 pub mod Agree
 pub mod Optimal
+pub mod Demands
+pub mod LeftNext
 pub mod Orders
 pub mod Lookup

@@ -61,9 +61,12 @@ module _ {n t m k : ℕ} {ls os hs : List ℕ} (made : Made n t m k ls os hs) wh
   unfolding countFirst
   most-covered g group j l =
       let s = made .sound in
-      omega (arith, most-held g group j l
-      , count-mono j (λ i. held n (at hs) (at os i)) (λ i. covered (leaderList n hs) (at os i))
-        (λ i p. leaders-cover s (at os i) (s .order .below i (omega (arith, s .placed)))))
+      omega (
+        arith,
+        most-held g group j l,
+        count-mono j (λ i. held n (at hs) (at os i)) (λ i. covered (leaderList n hs) (at os i))
+            (λ i p. leaders-cover s (at os i) (s .order .below i (omega (arith, s .placed)))),
+      )
 
   module _ (full : k ≡ n) where
     -- "In a fully placed record made by accepted calls, no other is" covered

@@ -30,9 +30,9 @@ leadersRead s leaders choke = at (readLeaders (s .small) (s .links) (s .order) (
 abbrev pub chokeRead : State → List ℕ → List ℕ → ℕ → Bool
 chokeRead s leaders choke v = eqb (at (readChoke (s .small) (s .links) (s .order) (s .holders) leaders choke) v) 1
 
--- A grouping of the plant that the calls tell.
-abbrev pub GroupingTold : Told → (ℕ → ℕ) → Type 0
-GroupingTold p g = Grouping (p .n) (common (p .t)) (linked (p .links)) g
+-- a grouping of the plant told: n and T as open was handed them, and the links told
+abbrev pub GroupingTold : ℕ → ℕ → Told → (ℕ → ℕ) → Type 0
+GroupingTold n t p g = Grouping n (common t) (linked (p .links)) g
 
 -- 01, "Demand 3": the record refuses just the calls that what was told refuses, with the same numbers.
 unfoldable pub SameNumbers : Type 0
@@ -46,8 +46,8 @@ DemandThree =
     (n t : ℕ) (ls os hs : List ℕ) → openRefusal n t os hs ≡ 0 → (calls : List Call)
     → toldBy n t ls calls .placed ≡ n
     → (leaders choke : List ℕ) → refuses (toldBy n t ls calls) (read leaders choke) ≡ 0
-    → GroupingTold (toldBy n t ls calls) (leadersRead (madeBy n t ls os hs calls) leaders choke)
-    × ((other : ℕ → ℕ) → GroupingTold (toldBy n t ls calls) other → (k : ℕ) → k ≤ n
+    → GroupingTold n t (toldBy n t ls calls) (leadersRead (madeBy n t ls os hs calls) leaders choke)
+    × ((other : ℕ → ℕ) → GroupingTold n t (toldBy n t ls calls) other → (k : ℕ) → k ≤ n
     → coveredFirst k (at (toldBy n t ls calls .order)) other ≤ coveredFirst k (at (toldBy n t ls calls .order)) (leadersRead (madeBy n t ls os hs calls) leaders choke))
 
 -- 00, demand 2, with 01's "Every held gateway is covered. In a fully placed record made by accepted calls, no other is."
@@ -56,14 +56,14 @@ DemandTwo =
     (n t : ℕ) (ls os hs : List ℕ) → openRefusal n t os hs ≡ 0 → (calls : List Call)
     → toldBy n t ls calls .placed ≡ n
     → (leaders choke : List ℕ) → refuses (toldBy n t ls calls) (read leaders choke) ≡ 0
-    → GroupingTold (toldBy n t ls calls) (leadersRead (madeBy n t ls os hs calls) leaders choke)
+    → GroupingTold n t (toldBy n t ls calls) (leadersRead (madeBy n t ls os hs calls) leaders choke)
     × ((v : ℕ) → v < n → covered (leadersRead (madeBy n t ls os hs calls) leaders choke) v ≡ held n (at (madeBy n t ls os hs calls .holders)) v)
     × ChokeDifference n (common t) (linked (toldBy n t ls calls .links)) (chokeRead (madeBy n t ls os hs calls) leaders choke)
     (count n (λ v. not (covered (leadersRead (madeBy n t ls os hs calls) leaders choke) v)))
 
 -- the gateway at place k of the order and all that are held among those before it
-abbrev pub CoversKept : Told → State → ℕ → (ℕ → Bool) → Type 0
-CoversKept p s k cover = (cover (at (p .order) k) ≡ true) × ((i : ℕ) → i < k → held (p .n) (at (s .holders)) (at (p .order) i) ≡ true → cover (at (p .order) i) ≡ true)
+abbrev pub CoversKept : ℕ → Told → State → ℕ → (ℕ → Bool) → Type 0
+CoversKept n p s k cover = (cover (at (p .order) k) ≡ true) × ((i : ℕ) → i < k → held n (at (s .holders)) (at (p .order) i) ≡ true → cover (at (p .order) i) ≡ true)
 
 -- 01, "Placing": "v is left exactly if no T-star packing covers v and all kept before it (for a record made by accepted calls)."
 -- v is the next in the order told; the record before its placing is s, and kept before it are those held in s.
@@ -72,7 +72,7 @@ LeftExactly =
     (n t : ℕ) (ls os hs : List ℕ) → openRefusal n t os hs ≡ 0 → (calls : List Call)
     → toldBy n t ls calls .placed < n
     → (held n (at (step (madeBy n t ls os hs calls) place .holders)) (at (toldBy n t ls calls .order) (toldBy n t ls calls .placed)) ≡ false)
-    ↔ ((g : ℕ → ℕ) → GroupingTold (toldBy n t ls calls) g → CoversKept (toldBy n t ls calls) (madeBy n t ls os hs calls) (toldBy n t ls calls .placed) (covered g) → ⊥)
+    ↔ ((g : ℕ → ℕ) → GroupingTold n t (toldBy n t ls calls) g → CoversKept n (toldBy n t ls calls) (madeBy n t ls os hs calls) (toldBy n t ls calls .placed) (covered g) → ⊥)
 
 -- .. and the same for feasible holders (000, Definition 2) in place of groupings.
 unfoldable pub LeftExactlyByHolders : Type 0
@@ -80,4 +80,4 @@ LeftExactlyByHolders =
     (n t : ℕ) (ls os hs : List ℕ) → openRefusal n t os hs ≡ 0 → (calls : List Call)
     → toldBy n t ls calls .placed < n
     → (held n (at (step (madeBy n t ls os hs calls) place .holders)) (at (toldBy n t ls calls .order) (toldBy n t ls calls .placed)) ≡ false)
-    ↔ ((h : ℕ → ℕ) → Feasible n (common t) (linked (toldBy n t ls calls .links)) h → CoversKept (toldBy n t ls calls) (madeBy n t ls os hs calls) (toldBy n t ls calls .placed) (held n h) → ⊥)
+    ↔ ((h : ℕ → ℕ) → Feasible n (common t) (linked (toldBy n t ls calls .links)) h → CoversKept n (toldBy n t ls calls) (madeBy n t ls os hs calls) (toldBy n t ls calls .placed) (held n h) → ⊥)

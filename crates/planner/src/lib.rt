@@ -135,7 +135,14 @@ impl Small {
     }
 
     // Writes the leader list and the choke bytes of a fully placed record.
-    pub fn read(self, links: &[u16], order: &[u16], holders: &[u16], leaders: &mut [u16], choke: &mut [u8]) -> Answer
+    pub fn read(
+        self,
+        links: &[u16],
+        order: &[u16],
+        holders: &[u16],
+        leaders: &mut [u16],
+        choke: &mut [u8],
+    ) -> Answer
         ensures answer { λ r. ⌜ r ≡ readAnswer self (now (links .entry)) (now (order .entry)) (now (holders .entry)) (now (leaders .entry)) (now (choke .entry)) ⌝ }
         ensures leaders { λ _. ⌜ now (leaders .exit) ≡ readLeaders self (now (links .entry)) (now (order .entry)) (now (holders .entry)) (now (leaders .entry)) (now (choke .entry)) ⌝ }
         ensures choke { λ _. ⌜ now (choke .exit) ≡ readChoke self (now (links .entry)) (now (order .entry)) (now (holders .entry)) (now (leaders .entry)) (now (choke .entry)) ⌝ }
@@ -151,7 +158,10 @@ impl Small {
         }
         let refusal = refusals::of_read(n, k, leaders, choke);
         if refusal != 0 {
-            return Answer { refusal, small: self };
+            return Answer {
+                refusal,
+                small: self,
+            };
         }
         let end = 2 * (m as usize);
         stars::leaders(n, holders, leaders);
