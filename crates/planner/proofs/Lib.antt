@@ -7,5 +7,6 @@ pub mod Agree
 pub mod Optimal
 pub mod Demands
 pub mod LeftNext
+pub mod Table
 pub mod Orders
 pub mod Lookup

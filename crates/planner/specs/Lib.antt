@@ -5,3 +5,4 @@ pub mod Calls
 pub mod Told
 pub mod Run
 pub mod Claims
+pub mod Cases

@@ -1,0 +1,61 @@
+-- The table of the cases marked P: the checker computes that every row holds, and what a row that holds means.
+use Prim.Native.Nat.{ℕ, zero, suc, _<_}
+use mathlib.Core.Path.{_≡_, refl, ap, _∙_}
+use mathlib.Core.Bool.{Bool, true, false, _&&_, false≢true}
+use mathlib.Core.List.{List, [], _∷_}
+use native.Mathlib.Nat.{not-suc-le-zero, le-of-suc-le-suc}
+use lib.ListN.{length, getD, replicate}
+use lib.Dec.{eqb}
+use borrow.Author.Tests.{eqb-true}
+use Rattle.packing.specs.Count.{sum, count, sumOver, all, any, listOf, listWhere}
+use Rattle.packing.specs.Plant.{common, firstLinks, linked, neighbours}
+use Rattle.packing.specs.Grouping.{memberCount}
+use Rattle.packing.specs.Holders.{holds as heldCount}
+use Rattle.packing.specs.Choke.{stranded}
+use Rattle.packing.proofs.Tests.{and-l, and-r}
+use Rattle.sound.specs.Sound.{numbersSound, listsLong, endsSound, onceEach, holdersLinked, holdersWithin, onlyPlacedHeld, isSound}
+use Rattle.search.specs.Search.{heldBy, look, visit, turn, turns, walk, shift, settled, placedHolders}
+use Rattle.stars.specs.Stars.{firstWith, holder, back, onCycle, nextOnCycle, leadsIn, leadsInTrees, begins, cut, leads, leaderOf, pairLeader, partner, ruleFive, leaderList}
+use Rattle.choke.specs.ChokeSet.{withoutHolder, chokeWalk, seenIn, inChoke, chokeByte}
+use Rattle.planner.specs.Lists.{upTo, written, repeatsOrOutside}
+use Rattle.planner.specs.Refusals.{openRefusal, linkConditions, orderConditions, placeConditions, readConditions}
+use Rattle.planner.specs.Calls.{openAnswer, openOrder, openHolders, linkRefusal, linkAnswer, linkLinks, orderRefusal, orderAnswer, orderOrder, placeRefusal, placeAnswer, placeHolders, readRefusal, readAnswer, readLeaders, readChoke}
+use Rattle.planner.specs.Run.{afterOpen, answers, step, run}
+use Rattle.planner.specs.Cases.{Plant, Row, reads, holds, gives, differs, linkCalls, placeCalls, after, leadersOf, chokeOf, sameList, rowHolds, empty, one, two, path, star, starBack, star4, listed, ring, table, rowsHold, Means}
+use Rattle.planner.specs.Claims.{chokeRead}
+
+-- the whole table, computed
+pub table-holds : rowsHold table ≡ true
+unfolding sum count sumOver all any listOf listWhere common firstLinks linked neighbours memberCount heldCount stranded numbersSound listsLong endsSound onceEach holdersLinked holdersWithin onlyPlacedHeld isSound heldBy look visit turn turns walk shift settled placedHolders firstWith holder back onCycle nextOnCycle leadsIn leadsInTrees begins cut leads leaderOf pairLeader partner ruleFive leaderList withoutHolder chokeWalk seenIn inChoke chokeByte upTo written repeatsOrOutside openRefusal linkConditions orderConditions placeConditions readConditions openAnswer openOrder openHolders linkRefusal linkAnswer linkLinks orderRefusal orderAnswer orderOrder placeRefusal placeAnswer placeHolders readRefusal readAnswer readLeaders readChoke afterOpen answers step run linkCalls placeCalls after leadersOf chokeOf sameList rowHolds empty one two path star starBack star4 listed ring table rowsHold
+table-holds = refl
+
+same-list : (l r : List ℕ) → sameList l r ≡ true → l ≡ r
+unfolding sameList
+same-list [] [] e = refl
+same-list [] (y ∷ ys) e = absurd (false≢true e)
+same-list (x ∷ xs) [] e = absurd (false≢true e)
+same-list (x ∷ xs) (y ∷ ys) e =
+    ap (λ (z : ℕ). z ∷ xs) (eqb-true x y (and-l (eqb x y) (sameList xs ys) e)) ∙ ap (λ (l : List ℕ). y ∷ l) (same-list xs ys (and-r (eqb x y) (sameList xs ys) e))
+
+row-means : (r : Row) → rowHolds r ≡ true → Means r
+unfolding rowHolds
+row-means (reads p leaders choke) e =
+    (same-list (leadersOf p) leaders (and-l (sameList (leadersOf p) leaders) (sameList (chokeOf p) choke) e)
+    , same-list (chokeOf p) choke (and-r (sameList (leadersOf p) leaders) (sameList (chokeOf p) choke) e))
+row-means (holds p k holders) e = same-list (after p k .holders) holders e
+row-means (gives p k c e) f = eqb-true (answers (after p k) c) e f
+row-means (differs p without limits) e =
+    let s = chokeRead (after p (p .n)) (replicate (p .n) 0) (replicate (p .n) 0) in
+    let a = count (p .n) (stranded (p .n) (linked (p .links)) s) in
+    let b = sumOver (p .n) s (common (p .t)) in
+    (eqb-true a without (and-l (eqb a without) (eqb b limits) e), eqb-true b limits (and-r (eqb a without) (eqb b limits) e))
+
+rows-mean : (rows : List Row) → rowsHold rows ≡ true → (i : ℕ) → i < length rows → (d : Row) → Means (getD rows i d)
+unfolding rowsHold
+rows-mean [] e i l d = absurd (not-suc-le-zero l)
+rows-mean (r ∷ rows) e zero l d = row-means r (and-l (rowHolds r) (rowsHold rows) e)
+rows-mean (r ∷ rows) e (suc i) l d = rows-mean rows (and-r (rowHolds r) (rowsHold rows) e) i (le-of-suc-le-suc l) d
+
+-- each row of the table means what it says
+pub case : (i : ℕ) → i < length table → (d : Row) → Means (getD table i d)
+case = rows-mean table table-holds

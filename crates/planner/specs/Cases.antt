@@ -1,0 +1,120 @@
+-- 01, "At the edges": the cases marked P, in one table over the definitions. proofs/Table.antt has the checker compute it, and says what each row means.
+use Prim.Native.Nat.{ℕ, zero, suc}
+use mathlib.Core.Path.{_≡_}
+use mathlib.Core.Bool.{Bool, true, false, _&&_}
+use mathlib.Core.List.{List, [], _∷_, _++_}
+use lib.Dec.{eqb}
+use lib.ListN.{length, replicate}
+use Rattle.packing.specs.Count.{count, sumOver}
+use Rattle.packing.specs.Plant.{NONE, common, linked}
+use Rattle.packing.specs.Choke.{stranded}
+use Rattle.planner.specs.Lists.{upTo}
+use Rattle.planner.specs.Calls.{readLeaders, readChoke}
+use Rattle.planner.specs.Told.{Call, link, order, place, read}
+use Rattle.planner.specs.Run.{State, answers}
+use Rattle.planner.specs.Claims.{madeBy, chokeRead}
+
+-- a plant: n, T, its links two numbers each, its order
+pub record Plant : Type 0 where
+  pub n : ℕ
+  pub t : ℕ
+  pub links : List ℕ
+  pub order : List ℕ
+
+-- the calls that fill it and place some: each link, the order, the placings
+unfoldable pub linkCalls : List ℕ → List Call
+linkCalls [] = []
+linkCalls (a ∷ []) = []
+linkCalls (a ∷ b ∷ rest) = link a b ∷ linkCalls rest
+
+unfoldable pub placeCalls : ℕ → List Call
+placeCalls zero = []
+placeCalls (suc k) = place ∷ placeCalls k
+
+-- the record after an open with lists of just the length needed, and these calls
+unfoldable pub after : Plant → ℕ → State
+after p k = madeBy (p .n) (p .t) (replicate (length (p .links)) 0) (replicate (p .n) 0) (replicate (p .n) 0) (linkCalls (p .links) ++ (order (p .order) ∷ placeCalls k))
+
+-- a read of the fully placed record, into lists of just the length needed
+unfoldable pub leadersOf : Plant → List ℕ
+leadersOf p = let s = after p (p .n) in readLeaders (s .small) (s .links) (s .order) (s .holders) (replicate (p .n) 0) (replicate (p .n) 0)
+
+unfoldable pub chokeOf : Plant → List ℕ
+chokeOf p = let s = after p (p .n) in readChoke (s .small) (s .links) (s .order) (s .holders) (replicate (p .n) 0) (replicate (p .n) 0)
+
+unfoldable pub sameList : List ℕ → List ℕ → Bool
+sameList [] [] = true
+sameList [] (y ∷ ys) = false
+sameList (x ∷ xs) [] = false
+sameList (x ∷ xs) (y ∷ ys) = eqb x y && sameList xs ys
+
+-- what a row says of a plant: what read writes; the holders after some placings; the number that a call then gives; the two numbers of the choke difference
+pub data Row : Type 0 where
+  reads : Plant → List ℕ → List ℕ → Row
+  holds : Plant → ℕ → List ℕ → Row
+  gives : Plant → ℕ → Call → ℕ → Row
+  differs : Plant → ℕ → ℕ → Row
+
+unfoldable pub rowHolds : Row → Bool
+rowHolds (reads p leaders choke) = sameList (leadersOf p) leaders && sameList (chokeOf p) choke
+rowHolds (holds p k holders) = sameList (after p k .holders) holders
+rowHolds (gives p k c e) = eqb (answers (after p k) c) e
+rowHolds (differs p without limits) =
+    let s = chokeRead (after p (p .n)) (replicate (p .n) 0) (replicate (p .n) 0) in
+    eqb (count (p .n) (stranded (p .n) (linked (p .links)) s)) without && eqb (sumOver (p .n) s (common (p .t))) limits
+
+-- the plants, with open's order where none is named
+unfoldable pub empty : Plant
+empty = record { n = 0; t = 2; links = []; order = [] }
+
+unfoldable pub one : Plant
+one = record { n = 1; t = 2; links = []; order = upTo 1 }
+
+unfoldable pub two : Plant
+two = record { n = 2; t = 2; links = []; order = upTo 2 }
+
+unfoldable pub path : Plant
+path = record { n = 3; t = 2; links = 0 ∷ 1 ∷ 1 ∷ 2 ∷ []; order = upTo 3 }
+
+unfoldable pub star : Plant
+star = record { n = 5; t = 3; links = 0 ∷ 1 ∷ 0 ∷ 2 ∷ 0 ∷ 3 ∷ 0 ∷ 4 ∷ []; order = upTo 5 }
+
+unfoldable pub starBack : Plant
+starBack = record { n = 5; t = 3; links = 0 ∷ 1 ∷ 0 ∷ 2 ∷ 0 ∷ 3 ∷ 0 ∷ 4 ∷ []; order = 4 ∷ 3 ∷ 2 ∷ 1 ∷ 0 ∷ [] }
+
+unfoldable pub star4 : Plant
+star4 = record { n = 5; t = 4; links = 0 ∷ 1 ∷ 0 ∷ 2 ∷ 0 ∷ 3 ∷ 0 ∷ 4 ∷ []; order = upTo 5 }
+
+unfoldable pub listed : Plant
+listed = record { n = 5; t = 2; links = 0 ∷ 2 ∷ 0 ∷ 3 ∷ 0 ∷ 4 ∷ 1 ∷ 2 ∷ []; order = 2 ∷ 3 ∷ 4 ∷ 0 ∷ 1 ∷ [] }
+
+unfoldable pub ring : Plant
+ring = record { n = 5; t = 2; links = 0 ∷ 1 ∷ 1 ∷ 2 ∷ 2 ∷ 3 ∷ 3 ∷ 4 ∷ 4 ∷ 0 ∷ []; order = upTo 5 }
+
+-- The table. In the order of 01's list:
+unfoldable pub table : List Row
+table =
+    reads empty [] [] ∷ gives empty 0 place 24 ∷ gives empty 0 (read [] []) 0
+    ∷ reads one (NONE ∷ []) (0 ∷ [])
+    ∷ reads two (NONE ∷ NONE ∷ []) (0 ∷ 0 ∷ []) ∷ differs two 2 0
+    ∷ reads path (1 ∷ 1 ∷ 1 ∷ []) (0 ∷ 0 ∷ 0 ∷ [])
+    ∷ reads star (0 ∷ 0 ∷ 0 ∷ 0 ∷ NONE ∷ []) (1 ∷ 0 ∷ 0 ∷ 0 ∷ 0 ∷ []) ∷ differs star 4 3
+    ∷ reads starBack (0 ∷ NONE ∷ 0 ∷ 0 ∷ 0 ∷ []) (1 ∷ 0 ∷ 0 ∷ 0 ∷ 0 ∷ [])
+    ∷ reads star4 (0 ∷ 0 ∷ 0 ∷ 0 ∷ 0 ∷ []) (0 ∷ 0 ∷ 0 ∷ 0 ∷ 0 ∷ [])
+    ∷ holds listed 2 (NONE ∷ NONE ∷ 0 ∷ 0 ∷ NONE ∷ []) ∷ holds listed 3 (NONE ∷ NONE ∷ 1 ∷ 0 ∷ 0 ∷ []) ∷ reads listed (0 ∷ 1 ∷ 1 ∷ 0 ∷ 0 ∷ []) (0 ∷ 0 ∷ 0 ∷ 0 ∷ 0 ∷ [])
+    ∷ reads ring (1 ∷ 1 ∷ 1 ∷ 3 ∷ 3 ∷ []) (0 ∷ 0 ∷ 0 ∷ 0 ∷ 0 ∷ [])
+    ∷ []
+
+-- every row holds
+unfoldable pub rowsHold : List Row → Bool
+rowsHold [] = true
+rowsHold (r ∷ rows) = rowHolds r && rowsHold rows
+
+-- what a row means
+abbrev pub Means : Row → Type 0
+Means (reads p leaders choke) = (leadersOf p ≡ leaders) × (chokeOf p ≡ choke)
+Means (holds p k holders) = after p k .holders ≡ holders
+Means (gives p k c e) = answers (after p k) c ≡ e
+Means (differs p without limits) =
+    (count (p .n) (stranded (p .n) (linked (p .links)) (chokeRead (after p (p .n)) (replicate (p .n) 0) (replicate (p .n) 0))) ≡ without)
+    × (sumOver (p .n) (chokeRead (after p (p .n)) (replicate (p .n) 0) (replicate (p .n) 0)) (common (p .t)) ≡ limits)
