@@ -1,5 +1,6 @@
-// The largest plant: 1,024 gateways, 8,192 links, each made by a call of link.
+// The largest plant: 1,024 gateways, 8,192 links, each made by a call of link, placed to the end and read.
 use crate::lines;
+use crate::lists;
 use planner::Answer;
 use planner::Small;
 
@@ -21,18 +22,75 @@ fn fill(s: Small, links: &mut [u16], order: &[u16], holders: &[u16]) -> Small {
     now
 }
 
-pub fn run() {
-    let mut links = [9u16; 16400];
-    let mut order = [0u16; 1024];
-    let mut holders = [0u16; 1024];
-    let opened = Small::open(1024, 16, &links, &mut order, &mut holders);
-    let s = fill(opened.small, &mut links, &order, &holders);
+fn place_all(s: Small, links: &[u16], order: &[u16], holders: &mut [u16]) -> Small {
+    let mut now = s;
+    let mut i: u16 = 0;
+    while i < 1024 {
+        let r = now.place(links, order, holders);
+        now = r.small;
+        i += 1;
+    }
+    now
+}
+
+// How many of a leader list's first n entries are not 65535.
+fn covered(leaders: &[u16]) -> u64 {
+    let mut count: u64 = 0;
+    let mut i: usize = 0;
+    while i < leaders.len() {
+        if leaders[i] != 65535 {
+            count += 1;
+        }
+        i += 1;
+    }
+    count
+}
+
+fn one_more_link(s: Small, links: &mut [u16], order: &[u16], holders: &[u16]) {
     lines::text(b"8192 links:");
     lines::small(s);
-    lines::list(&links[16382..16386]);
+    lines::list(lists::between(links, 16382, 16386));
+    let r = s.link(links, order, holders, 0, 512);
+    lines::answer(b"\none more link", r);
+    lines::list(lists::between(links, 16382, 16386));
     lines::text(b"\n");
-    let one_more = s.link(&mut links, &order, &holders, 0, 512);
-    lines::answer(b"one more link", one_more);
-    lines::list(&links[16382..16386]);
+}
+
+fn one_more_placing(s: Small, links: &[u16], order: &[u16], holders: &mut [u16]) {
+    lines::text(b"1024 placed:");
+    lines::small(s);
+    let r = s.place(links, order, holders);
+    lines::answer(b"\none more placing", r);
     lines::text(b"\n");
+}
+
+fn show_read(s: Small, links: &[u16], order: &[u16], holders: &[u16]) {
+    let mut leaders = lists::large(65535);
+    let mut choke = [9u8; 1024];
+    let r = s.read(links, order, holders, &mut leaders, &mut choke);
+    lines::answer(b"read", r);
+    lines::text(b" | covered");
+    lines::number(covered(&leaders));
+    lines::list(lists::between(&leaders, 1022, 1026));
+    lines::text(b"\n");
+}
+
+fn prepare(links: &mut [u16], order: &mut [u16], holders: &mut [u16]) -> Small {
+    let opened = Small::open(1024, 2, links, order, holders);
+    fill(opened.small, links, order, holders)
+}
+
+fn whole(links: &mut [u16], order: &mut [u16], holders: &mut [u16]) {
+    let s = prepare(links, order, holders);
+    one_more_link(s, links, order, holders);
+    let placed = place_all(s, links, order, holders);
+    one_more_placing(placed, links, order, holders);
+    show_read(placed, links, order, holders);
+}
+
+pub fn run() {
+    let mut links = lists::large_links(9);
+    let mut order = lists::large(9);
+    let mut holders = lists::large(9);
+    whole(&mut links, &mut order, &mut holders);
 }

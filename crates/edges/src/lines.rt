@@ -40,6 +40,19 @@ pub fn list(l: &[u16]) {
     }
 }
 
+fn wide_byte(x: u8) -> u64 {
+    x as u64
+}
+
+pub fn bytes(l: &[u8]) {
+    text(b" |");
+    let mut i: usize = 0;
+    while i < l.len() {
+        number(wide_byte(l[i]));
+        i += 1;
+    }
+}
+
 pub fn kept(same: bool) {
     if same {
         text(b" | kept\n");

@@ -26,6 +26,25 @@ pub fn front(list: &[u16], len: usize) -> &[u16] {
     list
 }
 
+// The entries from place a up to place e, or none where the list has fewer.
+pub fn between(list: &[u16], a: usize, e: usize) -> &[u16] {
+    if a <= e {
+        if e <= list.len() {
+            return &list[a..e];
+        }
+    }
+    &list[..0]
+}
+
+// Large lists, each entry x.
+pub fn large(x: u16) -> [u16; 1100] {
+    [x; 1100]
+}
+
+pub fn large_links(x: u16) -> [u16; 16400] {
+    [x; 16400]
+}
+
 pub fn front_mut(list: &mut [u16], len: usize) -> &mut [u16] {
     if len <= list.len() {
         return &mut list[..len];

@@ -6,12 +6,16 @@ mod linking;
 mod lists;
 mod opening;
 mod ordering;
+mod placing;
+mod reading;
 mod soundness;
 
 fn main() {
     opening::run();
     linking::run();
     ordering::run();
+    placing::run();
+    reading::run();
     soundness::run();
     full::run();
 }

@@ -22,8 +22,8 @@ fn case(label: &[u8], n: u16, t: u8, order_len: usize, holders_len: usize) {
 }
 
 fn large(label: &[u8], n: u16, len: usize) {
-    let mut order = [7u16; 1100];
-    let mut holders = [7u16; 1100];
+    let mut order = lists::large(7);
+    let mut holders = lists::large(7);
     let links = [7u16; 4];
     let a = Small::open(
         n,
@@ -33,8 +33,8 @@ fn large(label: &[u8], n: u16, len: usize) {
         lists::front_mut(&mut holders, len),
     );
     lines::answer(label, a);
-    lines::list(&order[1022..1026]);
-    lines::list(&holders[1022..1026]);
+    lines::list(lists::between(&order, 1022, 1026));
+    lines::list(lists::between(&holders, 1022, 1026));
     lines::text(b"\n");
 }
 

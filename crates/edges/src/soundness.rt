@@ -54,8 +54,8 @@ fn contents(label: &[u8], k: u16, last: [u16; 2], order: [u16; 4], holders: [u16
 
 fn gateways(label: &[u8], n: u16) {
     let mut links = [7u16; 2];
-    let mut order = [7u16; 1025];
-    let holders = [65535u16; 1025];
+    let mut order = lists::large(7);
+    let holders = lists::large(65535);
     lists::count_up(&mut order);
     probe(
         label,
@@ -72,7 +72,7 @@ fn gateways(label: &[u8], n: u16) {
 }
 
 fn many_links(label: &[u8], m: u16) {
-    let mut links = [0u16; 16386];
+    let mut links = lists::large_links(0);
     let order = [0u16, 1, 2, 3];
     let holders = [65535u16; 4];
     lists::repeat_link(&mut links);

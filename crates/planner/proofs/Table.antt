@@ -39,9 +39,10 @@ same-list (x ∷ xs) (y ∷ ys) e =
 
 row-means : (r : Row) → rowHolds r ≡ true → Means r
 unfolding rowHolds
-row-means (reads p leaders choke) e =
-    (same-list (leadersOf p) leaders (and-l (sameList (leadersOf p) leaders) (sameList (chokeOf p) choke) e)
-    , same-list (chokeOf p) choke (and-r (sameList (leadersOf p) leaders) (sameList (chokeOf p) choke) e))
+row-means (reads p leaders choke) e = (
+  same-list (leadersOf p) leaders (and-l (sameList (leadersOf p) leaders) (sameList (chokeOf p) choke) e),
+  same-list (chokeOf p) choke (and-r (sameList (leadersOf p) leaders) (sameList (chokeOf p) choke) e),
+)
 row-means (holds p k holders) e = same-list (after p k .holders) holders e
 row-means (gives p k c e) f = eqb-true (answers (after p k) c) e f
 row-means (differs p without limits) e =
