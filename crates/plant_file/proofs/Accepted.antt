@@ -77,8 +77,10 @@ ends-fit n before a b z =
 -- where no link is refused, none is from link i on
 onward-fits : (n : ℕ) (l : List ℕ) → linksRefusal n [] l ≡ 0 → (i : ℕ) → 2 * i ≤ length l → onward n l i ≡ 0
 onward-fits n l z zero h = z
-onward-fits n l z (suc i) h =
-    rw add-one at (first-none _ _ (sym (onward-at n l i (omega arith)) ∙ onward-fits n l z i (omega arith)) .1)
+onward-fits n l z (suc i) h = rw (← add-one i) (next (omega arith) (onward-fits n l z i (omega arith)))
+  where
+    next : 2 * i + 1 < length l → onward n l i ≡ 0 → onward n l (i + 1) ≡ 0
+    next k e = first-none (endsRefusal n (take (2 * i) l) (at l (2 * i)) (at l (2 * i + 1))) (onward n l (i + 1)) (sym (onward-at n l i k) ∙ e) .1
 
 -- link i of a list that is not refused
 pub link-fits : (n : ℕ) (l : List ℕ) → linksRefusal n [] l ≡ 0 → (i : ℕ) → 2 * i + 1 < length l → LinkFits n (take (2 * i) l) (at l (2 * i)) (at l (2 * i + 1))
