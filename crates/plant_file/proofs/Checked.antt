@@ -1,5 +1,5 @@
 -- The loop that checks each link against the links before it.
-use Prim.Native.Nat.{ℕ, zero, suc, _+_, _*_, _<_, _≤_}
+use Prim.Native.Nat.{ℕ, suc, _+_, _*_, _<_, _≤_}
 use mathlib.Core.Path.{_≡_, refl, sym, ap, _∙_}
 use mathlib.Core.List.{List, [], _∷_, _++_, append-assoc}
 use native.Mathlib.Omega.{arith}
@@ -8,7 +8,7 @@ use lib.Seq.{take-suc}
 use Rattle.packing.specs.Plant.{at}
 use Rattle.packing.proofs.Flat.{pair-at, pair-end}
 use Rattle.plant_file.specs.declared.walk.Step.{Step}
-use Rattle.plant_file.specs.declared.walk.Step.the-variants.{Link, End}
+use Rattle.plant_file.specs.declared.walk.Step.the-variants.{Link}
 use Rattle.plant_file.specs.PlantFile.{fileN, fileM, fileLinks, firstOf, endsRefusal, linksRefusal}
 use Rattle.plant_file.specs.Walk.{linkAt}
 use Rattle.plant_file.specs.Pre.{stepRefusal}

@@ -1,6 +1,6 @@
 -- The loops that write the links and the order of a file into the front of a lent list.
 use Prim.Native.Nat.{ℕ, _+_, _*_, _<_, _≤_}
-use mathlib.Core.Path.{_≡_, refl, sym, ap, _∙_}
+use mathlib.Core.Path.{_≡_, sym, ap, _∙_}
 use mathlib.Core.Bool.{Bool}
 use mathlib.Core.List.{List}
 use native.Mathlib.Omega.{arith}
@@ -10,7 +10,6 @@ use Rattle.packing.specs.Count.{listOf}
 use Rattle.sound.specs.Sound.{onceEach}
 use Rattle.planner.specs.Lists.{written}
 use Rattle.planner.proofs.Fronts.{Fronted, fronted-start, fronted-turn, fronted-end}
-use Rattle.plant_file.specs.declared.walk.Step.{Step}
 use Rattle.plant_file.specs.PlantFile.{number, fileN, fileM, fileLinks, fileOrder}
 use Rattle.plant_file.specs.Walk.{linkAt}
 use Rattle.plant_file.specs.Pre.{withEnds}

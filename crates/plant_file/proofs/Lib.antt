@@ -7,3 +7,4 @@ pub mod Checked
 pub mod Filled
 pub mod Parts
 pub mod Accepted
+pub mod Examples

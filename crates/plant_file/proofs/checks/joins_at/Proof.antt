@@ -1,7 +1,6 @@
 -- `joins_at` meets its contract.
-use mathlib.Core.Path.{sym, ap, _∙_}
+use mathlib.Core.Path.{sym, _∙_}
 use Rattle.packing.specs.Plant.{linked}
-use Rattle.plant_file.specs.Pre.{endsOf}
 use borrow.Author.Needs.{needs}
 use Rattle.plant_file.proofs.checks.joins_at.Statement.{statement}
 use Rattle.plant_file.proofs.checks.joins_at.Tie as tie

@@ -1,6 +1,5 @@
 -- `with_link` meets its contract.
-use mathlib.Core.Path.{sym, ap, _∙_}
-use Rattle.plant_file.specs.Pre.{withEnds}
+use mathlib.Core.Path.{sym, _∙_}
 use borrow.Author.Needs.{needs}
 use Rattle.plant_file.proofs.fill.with_link.Statement.{statement}
 use Rattle.plant_file.proofs.fill.with_link.Tie as tie
