@@ -1,2 +1,5 @@
 -- What the bytes of a plant file say.
 pub mod PlantFile
+pub mod Walk
+pub mod Load
+pub mod Pre

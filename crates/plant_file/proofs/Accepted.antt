@@ -1,0 +1,93 @@
+-- What no refusal of a file says.
+use Prim.Native.Nat.{ℕ, zero, suc, _+_, _*_, _<_, _≤_}
+use mathlib.Core.Path.{_≡_, sym, _∙_}
+use mathlib.Core.Bool.{true, false, not, _||_}
+use mathlib.Core.List.{List, []}
+use native.Mathlib.Numerals.{add-one}
+use native.Mathlib.Omega.{arith}
+use lib.Dec.{eqb, ltb, leb}
+use lib.ListN.{length, take}
+use borrow.Author.Tests.{ltb-false, leb-false, eqb-true, eqb-false, not-false}
+use Rattle.packing.specs.Plant.{at, linked}
+use Rattle.packing.proofs.Tests.{or-false-l, or-false-r}
+use Rattle.packing.proofs.Prefixes.{IsOrder}
+use Rattle.planner.specs.Lists.{repeatsOrOutside}
+use Rattle.planner.proofs.Answers.{refuse-none}
+use Rattle.planner.proofs.Orders.{order-right}
+use Rattle.plant_file.specs.PlantFile.{number, fileN, fileT, fileM, fileLinks, fileOrder, beginsPLT, endsRefusal, linksRefusal, fileRefusal}
+use Rattle.plant_file.proofs.Steps.{links-long}
+use Rattle.plant_file.proofs.Checked.{onward, onward-at}
+use Rattle.plant_file.proofs.Parts.{first-none}
+
+pub record FileFits (file : List ℕ) : Type 0 where
+  pub begins : beginsPLT file ≡ true
+  pub version : number file 3 ≡ 1
+  pub few : fileN file ≤ 1024
+  pub least : 2 ≤ fileT file
+  pub most : fileT file ≤ 16
+  pub links-few : fileM file ≤ 8192
+  pub long : length file ≡ 10 + 4 * fileM file + 2 * fileN file
+  pub links : linksRefusal (fileN file) [] (fileLinks file) ≡ 0
+  pub order : IsOrder (fileN file) (at (fileOrder file))
+
+pub file-fits : (file : List ℕ) → fileRefusal file ≡ 0 → FileFits file
+unfolding fileRefusal
+file-fits file z =
+    let short = refuse-none (ltb (length file) 10) 9 _ (omega arith) z in
+    let begins = refuse-none (not (beginsPLT file)) 7 _ (omega arith) (short .1) in
+    let version = refuse-none (not (eqb (number file 3) 1)) 8 _ (omega arith) (begins .1) in
+    let n = refuse-none (ltb 1024 (fileN file)) 1 _ (omega arith) (version .1) in
+    let t = refuse-none (ltb (fileT file) 2 || ltb 16 (fileT file)) 2 _ (omega arith) (n .1) in
+    let m = refuse-none (ltb 8192 (fileM file)) 12 _ (omega arith) (t .1) in
+    let long = refuse-none (not (eqb (length file) (10 + 4 * fileM file + 2 * fileN file))) 9 _ (omega arith) (m .1) in
+    let links = first-none (linksRefusal (fileN file) [] (fileLinks file)) _ (long .1) in
+    let order = refuse-none (repeatsOrOutside (fileN file) (fileOrder file)) 6 0 (omega arith) (links .1) in
+    record {
+      begins = not-false (beginsPLT file) (begins .0);
+      version = eqb-true (number file 3) 1 (not-false (eqb (number file 3) 1) (version .0));
+      few = ltb-false 1024 (fileN file) (n .0);
+      least = ltb-false (fileT file) 2 (or-false-l _ _ (t .0));
+      most = ltb-false 16 (fileT file) (or-false-r (ltb (fileT file) 2) _ (t .0));
+      links-few = ltb-false 8192 (fileM file) (m .0);
+      long = eqb-true (length file) _ (not-false (eqb (length file) (10 + 4 * fileM file + 2 * fileN file)) (long .0));
+      links = links .0;
+      order = order-right (fileN file) (fileOrder file) (order .0);
+    }
+
+-- a link a-b that is not refused after the links before it
+pub record LinkFits (n : ℕ) (before : List ℕ) (a b : ℕ) : Type 0 where
+  pub first : a < n
+  pub second : b < n
+  pub differ : a ≡ b → ⊥
+  pub new : linked before a b ≡ false
+
+pub ends-fit : (n : ℕ) (before : List ℕ) (a b : ℕ) → endsRefusal n before a b ≡ 0 → LinkFits n before a b
+unfolding endsRefusal
+ends-fit n before a b z =
+    let outside = refuse-none (leb n a || leb n b) 3 _ (omega arith) z in
+    let same = refuse-none (eqb a b) 4 _ (omega arith) (outside .1) in
+    let there = refuse-none (linked before a b) 20 0 (omega arith) (same .1) in
+    record {
+      first = leb-false n a (or-false-l _ _ (outside .0));
+      second = leb-false n b (or-false-r (leb n a) _ (outside .0));
+      differ = eqb-false a b (same .0);
+      new = there .0;
+    }
+
+-- where no link is refused, none is from link i on
+onward-fits : (n : ℕ) (l : List ℕ) → linksRefusal n [] l ≡ 0 → (i : ℕ) → 2 * i ≤ length l → onward n l i ≡ 0
+onward-fits n l z zero h = z
+onward-fits n l z (suc i) h = rw (← add-one i) (next (omega arith) (onward-fits n l z i (omega arith)))
+  where
+    next : 2 * i + 1 < length l → onward n l i ≡ 0 → onward n l (i + 1) ≡ 0
+    next k e = first-none (endsRefusal n (take (2 * i) l) (at l (2 * i)) (at l (2 * i + 1))) (onward n l (i + 1)) (sym (onward-at n l i k) ∙ e) .1
+
+-- link i of a list that is not refused
+pub link-fits : (n : ℕ) (l : List ℕ) → linksRefusal n [] l ≡ 0 → (i : ℕ) → 2 * i + 1 < length l → LinkFits n (take (2 * i) l) (at l (2 * i)) (at l (2 * i + 1))
+link-fits n l z i h =
+    ends-fit n _ _ _ (first-none (endsRefusal n (take (2 * i) l) (at l (2 * i)) (at l (2 * i + 1))) _ (sym (onward-at n l i h) ∙ onward-fits n l z i (omega arith)) .0)
+
+-- every link of an accepted file
+pub file-link-fits : (file : List ℕ) → fileRefusal file ≡ 0 → (i : ℕ) → i < fileM file
+    → LinkFits (fileN file) (take (2 * i) (fileLinks file)) (at (fileLinks file) (2 * i)) (at (fileLinks file) (2 * i + 1))
+file-link-fits file z i h = link-fits (fileN file) (fileLinks file) (file-fits file z .links) i (omega (arith, links-long file))

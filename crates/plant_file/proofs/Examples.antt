@@ -1,0 +1,36 @@
+-- The definitions computed: 01's example plant as a file, and the same with a link again the other way round.
+use Prim.Native.Nat.{ℕ}
+use mathlib.Core.Path.{_≡_, refl}
+use mathlib.Core.List.{List, [], _∷_, _++_}
+use Rattle.packing.specs.Count.{listOf, any}
+use Rattle.packing.specs.Plant.{linked}
+use Rattle.planner.specs.Lists.{repeatsOrOutside}
+use Rattle.plant_file.specs.PlantFile.{number, fileN, fileT, fileM, fileLinks, fileOrder, beginsPLT, endsRefusal, linksRefusal, fileRefusal}
+
+-- n = 5, T = 2 and m links, before the links
+header : ℕ → List ℕ
+header m = 80 ∷ 76 ∷ 84 ∷ 1 ∷ 0 ∷ 5 ∷ 0 ∷ 2 ∷ m ∷ 0 ∷ []
+
+-- links 0-2, 0-3, 0-4, 1-2
+links : List ℕ
+links = 0 ∷ 0 ∷ 2 ∷ 0 ∷ 0 ∷ 0 ∷ 3 ∷ 0 ∷ 0 ∷ 0 ∷ 4 ∷ 0 ∷ 1 ∷ 0 ∷ 2 ∷ 0 ∷ []
+
+-- order 2, 3, 4, 0, 1
+order : List ℕ
+order = 2 ∷ 0 ∷ 3 ∷ 0 ∷ 4 ∷ 0 ∷ 0 ∷ 0 ∷ 1 ∷ 0 ∷ []
+
+accepted : fileRefusal (header 4 ++ links ++ order) ≡ 0
+unfolding header links order listOf any linked repeatsOrOutside number fileN fileT fileM fileLinks fileOrder beginsPLT endsRefusal linksRefusal fileRefusal
+accepted = refl
+
+its-links : fileLinks (header 4 ++ links ++ order) ≡ 0 ∷ 2 ∷ 0 ∷ 3 ∷ 0 ∷ 4 ∷ 1 ∷ 2 ∷ []
+unfolding header links order listOf number fileM fileLinks
+its-links = refl
+
+its-order : fileOrder (header 4 ++ links ++ order) ≡ 2 ∷ 3 ∷ 4 ∷ 0 ∷ 1 ∷ []
+unfolding header links order listOf number fileN fileM fileOrder
+its-order = refl
+
+again : fileRefusal (header 5 ++ links ++ (2 ∷ 0 ∷ 1 ∷ 0 ∷ []) ++ order) ≡ 20
+unfolding header links order listOf any linked repeatsOrOutside number fileN fileT fileM fileLinks fileOrder beginsPLT endsRefusal linksRefusal fileRefusal
+again = refl

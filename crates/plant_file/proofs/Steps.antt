@@ -1,0 +1,52 @@
+-- The links by index: what the code reads there, and that it is what the list of links holds.
+use Prim.Native.Nat.{ℕ, _+_, _*_, _<_, _≤_}
+use mathlib.Core.Path.{_≡_}
+use mathlib.Core.List.{List, _∷_}
+use native.Mathlib.Omega.{arith}
+use lib.ListN.{length}
+use borrow.Author.Tests.{lt-ltb, le-ltb}
+use Rattle.packing.specs.Plant.{at}
+use Rattle.plant_file.specs.declared.walk.Step.{Step}
+use Rattle.plant_file.specs.declared.walk.Step.the-variants.{Link, End}
+use Rattle.plant_file.specs.PlantFile.{number, fileN, fileM, fileLinks, fileOrder}
+use Rattle.plant_file.specs.Walk.{linkAt}
+use Rattle.plant_file.proofs.Listed.{listed-length, listed-at}
+
+-- the numbers of the links, and those of the order, as the file has them
+abbrev pub linkNumber : List ℕ → ℕ → ℕ
+linkNumber file i = number file (10 + 2 * i)
+
+abbrev pub orderNumber : List ℕ → ℕ → ℕ
+orderNumber file i = number file (10 + 4 * fileM file + 2 * i)
+
+pub links-long : (file : List ℕ) → length (fileLinks file) ≡ 2 * fileM file
+unfolding fileLinks
+links-long file = listed-length (2 * fileM file) (linkNumber file)
+
+pub order-long : (file : List ℕ) → length (fileOrder file) ≡ fileN file
+unfolding fileOrder
+order-long file = listed-length (fileN file) (orderNumber file)
+
+module _ (file : List ℕ) (i : ℕ) where
+  pub step-here : {m a b : ℕ} → m ≡ fileM file → i < m → a ≡ number file (10 + 4 * i) → b ≡ number file (12 + 4 * i) → Link a b ≡ linkAt file i
+  unfolding linkAt
+  step-here e l p q = rw (lt-ltb i (fileM file) (omega arith), p, q)
+
+  pub step-past : {m : ℕ} → m ≡ fileM file → m ≤ i → End ≡ linkAt file i
+  unfolding linkAt
+  step-past e l = rw (le-ltb i (fileM file) (omega arith))
+
+  -- link i is the numbers at 2i and 2i + 1 of the list of links
+  pub step-is : i < fileM file → linkAt file i ≡ Link (linkNumber file (2 * i)) (linkNumber file (2 * i + 1))
+  unfolding linkAt
+  step-is l = rw (lt-ltb i (fileM file) l, low, high)
+    where
+      low : 10 + 2 * (2 * i) ≡ 10 + 4 * i
+      low = omega arith
+
+      high : 10 + 2 * (2 * i + 1) ≡ 12 + 4 * i
+      high = omega arith
+
+  pub step-at : i < fileM file → linkAt file i ≡ Link (at (fileLinks file) (2 * i)) (at (fileLinks file) (2 * i + 1))
+  unfolding fileLinks
+  step-at l = rw (listed-at (2 * fileM file) (linkNumber file) (2 * i) (omega arith), listed-at (2 * fileM file) (linkNumber file) (2 * i + 1) (omega arith)) (step-is l)

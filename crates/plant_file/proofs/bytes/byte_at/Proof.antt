@@ -1,0 +1,17 @@
+-- `byte_at` meets its contract.
+use Rattle.plant_file.proofs.Numbers.{byte-past}
+use borrow.Author.Needs.{needs}
+use Rattle.plant_file.proofs.bytes.byte_at.Statement.{statement}
+use Rattle.plant_file.proofs.bytes.byte_at.Tie as tie
+
+shared-slice-read-result : tie.Need-shared-slice-read-result
+shared-slice-read-result c = search needs
+
+returns : tie.Need-returns
+returns c = search needs
+
+returns-2 : tie.Need-returns-2
+returns-2 c = byte-past (c .before .args .file .now) (c .before .args .i) (c .if1 .left)
+
+pub byte-at-spec : {M : Type 1} → statement M
+byte-at-spec = tie.close (tie.spec shared-slice-read-result returns returns-2)

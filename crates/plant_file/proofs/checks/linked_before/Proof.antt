@@ -1,0 +1,50 @@
+-- `linked_before` meets its contract: the laws of Before.
+use borrow.Author.Needs.{needs}
+use Prim.Native.Nat.{_*_, _-_}
+use Rattle.planner.proofs.Lookup.{Looked}
+use Rattle.plant_file.proofs.Before.{earlier, before-start, before-found, before-turn, before-end}
+use Rattle.plant_file.proofs.checks.linked_before.Statement.{statement}
+use Rattle.plant_file.proofs.checks.linked_before.Tie as tie
+
+abbrev Inv-loop : tie.InvT-loop
+Inv-loop file i a b j₀ j = Looked (earlier file i) a b (2 * j)
+
+abbrev μ-loop : tie.MeasureT-loop
+μ-loop file i a b j₀ j = i - j
+
+loop-holds : tie.Need-loop-holds Inv-loop μ-loop
+loop-holds c = before-start _ _ _ _ (c .before .pre)
+
+joins-at-requires : tie.Need-joins-at-requires Inv-loop μ-loop
+joins-at-requires c κs = search needs
+
+returns : tie.Need-returns Inv-loop μ-loop
+returns c = let turn = c .before .before in
+    before-found _ _ _ _ (turn .before .before .before .pre) (turn .before .loop .inv) (turn .loop-test .taken) (c .before .joins-at .ensures) (c .if1 .taken)
+
+add-j : tie.Need-add-j Inv-loop μ-loop
+add-j c = search needs
+
+loop-less : tie.Need-loop-less Inv-loop μ-loop
+loop-less c = search needs
+
+loop-again : tie.Need-loop-again Inv-loop μ-loop
+loop-again c = let turn = c .before .before in
+    before-turn _ _ _ _ (turn .before .before .before .pre) (turn .before .loop .inv) (turn .loop-test .taken) (c .before .joins-at .ensures) (c .if1 .left)
+
+returns-2 : tie.Need-returns-2 Inv-loop μ-loop
+returns-2 c = before-end _ _ _ _ (c .before .before .before .pre) (c .before .loop .inv) (c .loop-test .left)
+
+pub linked-before-spec : {M : Type 1} → statement M
+linked-before-spec =
+    tie.close
+    (tie.spec
+    Inv-loop
+    μ-loop
+    loop-holds
+    joins-at-requires
+    returns
+    add-j
+    loop-less
+    loop-again
+    returns-2)

@@ -1,0 +1,57 @@
+-- `with_links` meets its contract: the laws of Filled.
+use native.Mathlib.Omega.{arith}
+use borrow.Author.Needs.{needs}
+use Prim.Native.Nat.{_-_}
+use Rattle.plant_file.proofs.Filled.{LinksIn, links-start, links-turn, links-end}
+use Rattle.plant_file.proofs.fill.with_links.Statement.{statement}
+use Rattle.plant_file.proofs.fill.with_links.Tie as tie
+
+abbrev Inv-loop : tie.InvT-loop
+Inv-loop file links₀ m i₀ links i = LinksIn file links₀ links i
+
+abbrev μ-loop : tie.MeasureT-loop
+μ-loop file links₀ m i₀ links i = m - i
+
+link-count-requires : tie.Need-link-count-requires Inv-loop μ-loop
+link-count-requires c κs = search needs
+
+cast-m : tie.Need-cast-m Inv-loop μ-loop
+cast-m c = search needs
+
+loop-holds : tie.Need-loop-holds Inv-loop μ-loop
+loop-holds c = links-start _ _
+
+with-link-requires : tie.Need-with-link-requires Inv-loop μ-loop
+with-link-requires c κs = search needs
+
+add-i : tie.Need-add-i Inv-loop μ-loop
+add-i c = search needs
+
+loop-less : tie.Need-loop-less Inv-loop μ-loop
+loop-less c = search needs
+
+loop-again : tie.Need-loop-again Inv-loop μ-loop
+loop-again c = let turn = c .before .before .before .before in
+    links-turn _ _ (turn .before .before .before .before .before .pre) (turn .before .loop .inv) (omega arith) (c .before .before .with-link .ensures)
+
+same-length : tie.Need-same-length Inv-loop μ-loop
+same-length c = search needs
+
+returns : tie.Need-returns Inv-loop μ-loop
+returns c = links-end _ _ (c .before .loop .inv) (omega arith)
+
+pub with-links-spec : {M : Type 1} → statement M
+with-links-spec =
+    tie.close
+    (tie.spec
+    Inv-loop
+    μ-loop
+    link-count-requires
+    cast-m
+    loop-holds
+    with-link-requires
+    add-i
+    loop-less
+    loop-again
+    same-length
+    returns)

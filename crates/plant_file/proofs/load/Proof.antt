@@ -1,0 +1,46 @@
+-- `load` meets its contract: the laws of Parts.
+use Rattle.plant_file.proofs.Parts.{load-room, load-refused, load-accepted}
+use borrow.Author.Needs.{needs}
+use Rattle.plant_file.proofs.load.Statement.{statement}
+use Rattle.plant_file.proofs.load.Tie as tie
+
+of-load-requires : tie.Need-of-load-requires
+of-load-requires c κs = search needs
+
+same-length : tie.Need-same-length
+same-length c = search needs
+
+same-length-2 : tie.Need-same-length-2
+same-length-2 c = search needs
+
+returns : tie.Need-returns
+returns c = load-refused _ _ _ (c .before .of-load .ensures) (c .if1 .taken)
+
+with-links-requires : tie.Need-with-links-requires
+with-links-requires c κs = load-room _ _ _ (c .before .before .of-load .ensures) (c .before .if1 .left) .1
+
+with-order-requires : tie.Need-with-order-requires
+with-order-requires c κs = load-room _ _ _ (c .before .before .before .before .before .before .of-load .ensures) (c .before .before .before .before .before .if1 .left) .2
+
+same-length-3 : tie.Need-same-length-3
+same-length-3 c = search needs
+
+same-length-4 : tie.Need-same-length-4
+same-length-4 c = search needs
+
+returns-2 : tie.Need-returns-2
+returns-2 c = load-accepted _ _ _ (c .before .before .before .before .before .before .before .before .before .of-load .ensures) (c .before .before .before .before .before .before .before .before .if1 .left) (c .before .before .before .before .before .before .with-links .ensures) (c .before .before .with-order .ensures)
+
+pub load-spec : {M : Type 1} → statement M
+load-spec =
+    tie.close
+    (tie.spec
+    of-load-requires
+    same-length
+    same-length-2
+    returns
+    with-links-requires
+    with-order-requires
+    same-length-3
+    same-length-4
+    returns-2)

@@ -1,0 +1,39 @@
+-- `refusal` meets its contract: the laws of Parts.
+use borrow.Author.Tests.{not-true, not-false}
+use Rattle.plant_file.proofs.Parts.{header-few, file-header, file-links, file-disorder, file-fine}
+use borrow.Author.Needs.{needs}
+use Rattle.plant_file.proofs.refusal.Statement.{statement}
+use Rattle.plant_file.proofs.refusal.Tie as tie
+
+of-header-requires : tie.Need-of-header-requires
+of-header-requires c κs = search needs
+
+returns : tie.Need-returns
+returns c = file-header _ (c .before .of-header .ensures) (c .if1 .taken)
+
+of-links-requires : tie.Need-of-links-requires
+of-links-requires c κs = search needs
+
+returns-2 : tie.Need-returns-2
+returns-2 c = file-links _ (c .before .before .before .of-header .ensures) (c .before .before .if1 .left) (c .before .of-links .ensures) (c .if2 .taken)
+
+is-order-requires : tie.Need-is-order-requires
+is-order-requires c κs = header-few _ (c .before .before .before .of-header .ensures) (c .before .before .if1 .left)
+
+returns-3 : tie.Need-returns-3
+returns-3 c = file-disorder _ (c .before .before .before .before .before .of-header .ensures) (c .before .before .before .before .if1 .left) (c .before .before .before .of-links .ensures) (c .before .before .if2 .left) (c .before .is-order .ensures) (not-true _ (c .if3 .taken))
+
+returns-4 : tie.Need-returns-4
+returns-4 c = file-fine _ (c .before .before .before .before .before .of-header .ensures) (c .before .before .before .before .if1 .left) (c .before .before .before .of-links .ensures) (c .before .before .if2 .left) (c .before .is-order .ensures) (not-false _ (c .if3 .left))
+
+pub refusal-spec : {M : Type 1} → statement M
+refusal-spec =
+    tie.close
+    (tie.spec
+    of-header-requires
+    returns
+    of-links-requires
+    returns-2
+    is-order-requires
+    returns-3
+    returns-4)

@@ -1,0 +1,50 @@
+-- `link_at` meets its contract: the laws of Steps.
+use Rattle.plant_file.proofs.Steps.{step-here, step-past}
+use borrow.Author.Needs.{needs}
+use Rattle.plant_file.proofs.walk.link_at.Statement.{statement}
+use Rattle.plant_file.proofs.walk.link_at.Tie as tie
+
+link-count-requires : tie.Need-link-count-requires
+link-count-requires c κs = search needs
+
+cast-if1 : tie.Need-cast-if1
+cast-if1 c = search needs
+
+mul-number-at : tie.Need-mul-number-at
+mul-number-at c = search needs
+
+add-number-at : tie.Need-add-number-at
+add-number-at c = search needs
+
+number-at-requires : tie.Need-number-at-requires
+number-at-requires c κs = search needs
+
+mul-number-at-2 : tie.Need-mul-number-at-2
+mul-number-at-2 c = search needs
+
+add-number-at-2 : tie.Need-add-number-at-2
+add-number-at-2 c = search needs
+
+number-at-requires-2 : tie.Need-number-at-requires-2
+number-at-requires-2 c κs = search needs
+
+returns : tie.Need-returns
+returns c = step-here _ _ (c .before .before .before .link-count .ensures) (c .before .before .if1 .taken) (c .before .number-at .ensures) (c .number-at2 .ensures)
+
+returns-2 : tie.Need-returns-2
+returns-2 c = step-past _ _ (c .before .link-count .ensures) (c .if1 .left)
+
+pub link-at-spec : {M : Type 1} → statement M
+link-at-spec =
+    tie.close
+    (tie.spec
+    link-count-requires
+    cast-if1
+    mul-number-at
+    add-number-at
+    number-at-requires
+    mul-number-at-2
+    add-number-at-2
+    number-at-requires-2
+    returns
+    returns-2)

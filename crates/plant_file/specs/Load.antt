@@ -1,0 +1,25 @@
+-- What load gives: its answer, and the two lent lists after it.
+use Prim.Native.Nat.{ℕ, _*_}
+use mathlib.Core.Bool.{_||_}
+use mathlib.Core.List.{List}
+use lib.Dec.{ltb}
+use lib.ListN.{length}
+use Rattle.planner.specs.Lists.{written}
+use Rattle.planner.specs.Refusals.{refuse}
+use Rattle.planner.specs.Calls.{byNumber}
+use Rattle.plant_file.specs.PlantFile.{fileN, fileM, fileLinks, fileOrder, firstOf, fileRefusal}
+
+-- the file's refusal, "then 10": a lent list too short for the 2m numbers of the links, or for the n of the order
+unfoldable pub loadRefusal : List ℕ → ℕ → ℕ → ℕ
+loadRefusal file linksLen orderLen =
+    firstOf (fileRefusal file) (refuse (ltb linksLen (2 * fileM file) || ltb orderLen (fileN file)) 10 0)
+
+-- the links in the first 2m places; all as it was on refusal
+unfoldable pub loadLinks : List ℕ → List ℕ → List ℕ → List ℕ
+loadLinks file links order =
+    byNumber (loadRefusal file (length links) (length order)) (written (2 * fileM file) (fileLinks file) links) links
+
+-- the order in the first n places; all as it was on refusal
+unfoldable pub loadOrder : List ℕ → List ℕ → List ℕ → List ℕ
+loadOrder file links order =
+    byNumber (loadRefusal file (length links) (length order)) (written (fileN file) (fileOrder file) order) order

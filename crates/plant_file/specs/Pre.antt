@@ -1,0 +1,39 @@
+-- What the contracts of private functions cite. A reader of the public ones needs none of it.
+use Prim.Native.Nat.{ℕ, _+_, _*_}
+use mathlib.Core.Bool.{not, _||_}
+use mathlib.Core.List.{List, [], _∷_}
+use lib.Dec.{eqb, ltb}
+use lib.ListN.{length, set}
+use Rattle.planner.specs.Refusals.{refuse}
+use Rattle.plant_file.specs.declared.walk.Step.{Step}
+use Rattle.plant_file.specs.declared.walk.Step.the-variants.{Link, End}
+use Rattle.plant_file.specs.PlantFile.{number, fileN, fileT, fileM, beginsPLT, endsRefusal}
+
+-- a link as a list of links
+abbrev pub endsOf : Step → List ℕ
+endsOf (Link a b) = a ∷ b ∷ []
+endsOf End = []
+
+-- 3, 4, 20 for a link after the links before it
+abbrev pub stepRefusal : ℕ → List ℕ → Step → ℕ
+stepRefusal n earlier (Link a b) = endsRefusal n earlier a b
+stepRefusal n earlier End = 0
+
+-- a list with a link's two ends from a place on
+abbrev pub withEnds : Step → ℕ → List ℕ → List ℕ
+withEnds (Link a b) i l = set (set l i a) (i + 1) b
+withEnds End i l = l
+
+-- the conditions of a file that speak of its header and length alone, in their turn
+unfoldable pub sizesRefusal : List ℕ → ℕ
+sizesRefusal file =
+    refuse (ltb 1024 (fileN file)) 1
+    (refuse (ltb (fileT file) 2 || ltb 16 (fileT file)) 2
+    (refuse (ltb 8192 (fileM file)) 12
+    (refuse (not (eqb (length file) (10 + 4 * fileM file + 2 * fileN file))) 9 0)))
+
+unfoldable pub headerRefusal : List ℕ → ℕ
+headerRefusal file =
+    refuse (ltb (length file) 10) 9
+    (refuse (not (beginsPLT file)) 7
+    (refuse (not (eqb (number file 3) 1)) 8 (sizesRefusal file)))

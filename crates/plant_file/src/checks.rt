@@ -1,0 +1,163 @@
+// The refusals of a file, in 01's turn; 0 where no condition holds.
+use crate::bytes::byte_at;
+use crate::bytes::number_at;
+use crate::walk::Step;
+use planner::links::is_linked;
+ghost use mathlib.Core.Path.{_≡_};
+ghost use mathlib.Core.List.{[]};
+ghost use Prim.Native.Nat.{_*_, _<_, _≤_};
+ghost use lib.ListN.{take, length};
+ghost use Rattle.packing.specs.Plant.{linked};
+ghost use Rattle.sound.specs.Sound.{onceEach};
+ghost use Rattle.plant_file.specs.PlantFile.{fileN, fileM, fileLinks, fileOrder, beginsPLT, linksRefusal};
+ghost use Rattle.plant_file.specs.Load.{loadRefusal};
+ghost use Rattle.plant_file.specs.Walk.{linkAt};
+ghost use Rattle.plant_file.specs.Pre.{endsOf, stepRefusal, sizesRefusal, headerRefusal};
+
+fn begins_plt(file: &[u8]) -> bool
+    ensures { λ r. ⌜ r ≡ beginsPLT (now (file .entry)) ⌝ }
+{
+    if byte_at(file, 0) != 80 {
+        return false;
+    }
+    if byte_at(file, 1) != 76 {
+        return false;
+    }
+    byte_at(file, 2) == 84
+}
+
+// The sizes that the header gives: 1, 2, 12, 9 for the length.
+fn of_sizes(file: &[u8]) -> u32
+    ensures { λ r. ⌜ r ≡ sizesRefusal (now (file .entry)) ⌝ }
+{
+    let n = crate::gateways(file);
+    if 1024 < n {
+        return 1;
+    }
+    let t = crate::limit(file);
+    if t < 2 {
+        return 2;
+    }
+    if 16 < t {
+        return 2;
+    }
+    let m = crate::link_count(file);
+    if 8192 < m {
+        return 12;
+    }
+    if file.len() != 10 + 4 * (m as usize) + 2 * (n as usize) {
+        return 9;
+    }
+    0
+}
+
+// 9 for under 10 bytes, 7, 8, and then the sizes.
+pub fn of_header(file: &[u8]) -> u32
+    ensures { λ r. ⌜ r ≡ headerRefusal (now (file .entry)) ⌝ }
+{
+    if file.len() < 10 {
+        return 9;
+    }
+    if !begins_plt(file) {
+        return 7;
+    }
+    if number_at(file, 3) != 1 {
+        return 8;
+    }
+    of_sizes(file)
+}
+
+// Whether the link at an index joins a and b.
+fn joins_at(file: &[u8], j: usize, a: u16, b: u16) -> bool
+    ensures { λ r. ⌜ r ≡ linked (endsOf (linkAt (now (file .entry)) j)) a b ⌝ }
+{
+    let Step::Link(x, y) = crate::walk::link_of(file, j) else {
+        return false;
+    };
+    let ends = [x, y];
+    is_linked(&ends, a, b)
+}
+
+// Whether one of the first i links joins a and b.
+fn linked_before(file: &[u8], i: usize, a: u16, b: u16) -> bool
+    requires { ⌜ i ≤ fileM (now file) ⌝ }
+    ensures { λ r. ⌜ r ≡ linked (take (2 * i) (fileLinks (now (file .entry)))) a b ⌝ }
+{
+    let mut j: usize = 0;
+    while j < i {
+        if joins_at(file, j, a, b) {
+            return true;
+        }
+        j += 1;
+    }
+    false
+}
+
+// The link at an index against the links before it: 3, 4, 20.
+fn of_link(file: &[u8], n: u16, i: usize) -> u32
+    requires { ⌜ i ≤ fileM (now file) ⌝ }
+    ensures { λ r. ⌜ r ≡ stepRefusal n (take (2 * i) (fileLinks (now (file .entry)))) (linkAt (now (file .entry)) i) ⌝ }
+{
+    let Step::Link(a, b) = crate::walk::link_of(file, i) else {
+        return 0;
+    };
+    if n <= a {
+        return 3;
+    }
+    if n <= b {
+        return 3;
+    }
+    if a == b {
+        return 4;
+    }
+    if linked_before(file, i, a, b) {
+        return 20;
+    }
+    0
+}
+
+// The first refused link's number.
+pub fn of_links(file: &[u8]) -> u32
+    ensures { λ r. ⌜ r ≡ linksRefusal (fileN (now (file .entry))) [] (fileLinks (now (file .entry))) ⌝ }
+{
+    let n = crate::gateways(file);
+    let m = crate::link_count(file) as usize;
+    let mut i: usize = 0;
+    while i < m {
+        let refusal = of_link(file, n, i);
+        if refusal != 0 {
+            return refusal;
+        }
+        i += 1;
+    }
+    0
+}
+
+// Whether the order holds 0 to n - 1 once each.
+pub fn is_order(file: &[u8]) -> bool
+    requires { ⌜ fileN (now file) ≤ 1024 ⌝ }
+    ensures { λ r. ⌜ r ≡ onceEach (fileN (now (file .entry))) (fileOrder (now (file .entry))) ⌝ }
+{
+    let n = crate::gateways(file);
+    let end = n as usize;
+    let mut numbers = [0u16; 1024];
+    crate::fill::with_order(file, &mut numbers);
+    sound::is_order(n, &numbers[..end])
+}
+
+// The file's own, and then 10.
+pub fn of_load(file: &[u8], links: &[u16], order: &[u16]) -> u32
+    ensures { λ r. ⌜ r ≡ loadRefusal (now (file .entry)) (length (now (links .entry))) (length (now (order .entry))) ⌝ }
+{
+    let refusal = crate::refusal(file);
+    if refusal != 0 {
+        return refusal;
+    }
+    if links.len() < 2 * (crate::link_count(file) as usize) {
+        return 10;
+    }
+    if order.len() < crate::gateways(file) as usize {
+        return 10;
+    }
+    0
+}

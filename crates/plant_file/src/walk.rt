@@ -1,0 +1,47 @@
+// Links are walked by a reader that keeps the file together with the index of its next link (01, "The plant file and the listing").
+use crate::bytes::number_at;
+ghost use mathlib.Core.Path.{_≡_};
+ghost use Rattle.plant_file.specs.Walk.{linkAt};
+
+// The file, and the index of its next link.
+pub struct Reader<'a> {
+    pub src: &'a [u8],
+    pub at: usize,
+}
+
+// A link's two ends, or the end of the links.
+pub enum Step {
+    Link(u16, u16),
+    End,
+}
+
+// The work: the link at an index.
+pub fn link_at(file: &[u8], i: usize) -> Step
+    ensures { λ r. ⌜ r ≡ linkAt (now (file .entry)) i ⌝ }
+{
+    if i < crate::link_count(file) as usize {
+        return Step::Link(number_at(file, 10 + 4 * i), number_at(file, 12 + 4 * i));
+    }
+    Step::End
+}
+
+// A reader whose next link is the one at an index.
+pub fn new<'a>(src: &'a [u8], at: usize) -> Reader<'a>
+    ensures { λ r. ⌜ (r .src ≡ src .entry) × (r .at ≡ at) ⌝ }
+{
+    Reader { src, at }
+}
+
+// The next link.
+pub fn next<'a>(r: Reader<'a>) -> Step
+    ensures { λ s. ⌜ s ≡ linkAt (now (r .entry .src)) (r .entry .at) ⌝ }
+{
+    link_at(r.src, r.at)
+}
+
+// The link at an index, by a reader. All that walk the links call this.
+pub fn link_of(file: &[u8], i: usize) -> Step
+    ensures { λ r. ⌜ r ≡ linkAt (now (file .entry)) i ⌝ }
+{
+    next(new(file, i))
+}
