@@ -14,15 +14,21 @@ fn case(label: &[u8], n: u16, m: u16, k: u16, len: usize, a: u16, b: u16) {
     lines::kept(lists::same(&links, &came));
 }
 
-pub fn run() {
+fn accepted() {
     case(b"link 2-3", 4, 2, 0, 8, 2, 3);
     case(b"link 2-3, just room", 4, 2, 0, 6, 2, 3);
     case(b"link 1-0 after 0-1", 4, 2, 0, 8, 1, 0);
     case(b"link 0-1 after 0-1", 4, 2, 0, 8, 0, 1);
+}
+
+fn refused() {
     case(b"link 4-0", 4, 2, 0, 8, 4, 0);
     case(b"link 0-4", 4, 2, 0, 8, 0, 4);
     case(b"link 4-4: 3 before 4", 4, 2, 0, 8, 4, 4);
     case(b"link 3-3", 4, 2, 0, 8, 3, 3);
+}
+
+fn in_turn() {
     case(b"link 2-3, no room", 4, 2, 0, 5, 2, 3);
     case(b"link 1-0, no room: 20 before 21", 4, 2, 0, 5, 1, 0);
     case(b"link 4-4 after a placing: 22 before 3", 4, 2, 1, 8, 4, 4);
@@ -35,4 +41,10 @@ pub fn run() {
         2,
         3,
     );
+}
+
+pub fn run() {
+    accepted();
+    refused();
+    in_turn();
 }

@@ -38,19 +38,35 @@ fn large(label: &[u8], n: u16, len: usize) {
     lines::text(b"\n");
 }
 
-pub fn run() {
+fn accepted() {
     case(b"open 4", 4, 2, 6, 6);
     case(b"open 0", 0, 2, 6, 6);
     case(b"open 0, no places", 0, 2, 0, 0);
     case(b"open T 1", 4, 1, 6, 6);
+}
+
+fn refused() {
     case(b"open T 2", 4, 2, 4, 4);
     case(b"open T 16", 4, 16, 4, 4);
     case(b"open T 17", 4, 17, 6, 6);
     case(b"open order too short", 4, 2, 3, 6);
+}
+
+fn in_turn() {
     case(b"open holders too short", 4, 2, 6, 3);
     case(b"open 1025 T 1, lists too short: 1 first", 1025, 1, 6, 6);
     case(b"open T 1, lists too short: then 2", 4, 1, 3, 3);
     large(b"open 1024", 1024, 1024);
+}
+
+fn at_the_bound() {
     large(b"open 1024, longer lists", 1024, 1100);
     large(b"open 1025", 1025, 1100);
+}
+
+pub fn run() {
+    accepted();
+    refused();
+    in_turn();
+    at_the_bound();
 }

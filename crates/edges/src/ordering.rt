@@ -19,13 +19,19 @@ fn case(label: &[u8], n: u16, k: u16, numbers: [u16; 6], len: usize) {
     lines::kept(lists::same(&order, &came));
 }
 
-pub fn run() {
+fn accepted() {
     case(b"order 3 1 0 2", 4, 0, [3, 1, 0, 2, 9, 9], 4);
     case(b"order of 3 numbers", 4, 0, [3, 1, 0, 2, 9, 9], 3);
     case(b"order of 5 numbers", 4, 0, [3, 1, 0, 2, 9, 9], 5);
+}
+
+fn refused() {
     case(b"order that repeats", 4, 0, [3, 1, 3, 2, 9, 9], 4);
     case(b"order with 4 of 4", 4, 0, [3, 1, 4, 2, 9, 9], 4);
     case(b"order with 65535", 4, 0, [3, 1, 65535, 2, 9, 9], 4);
+}
+
+fn in_turn() {
     case(
         b"order of 5 numbers after a placing: 22 before 5",
         4,
@@ -47,4 +53,10 @@ pub fn run() {
         [3, 1, 0, 2, 9, 9],
         4,
     );
+}
+
+pub fn run() {
+    accepted();
+    refused();
+    in_turn();
 }

@@ -79,8 +79,8 @@ pub fn run() {
         full,
     );
     steps(b"01's listing", 5, 4, &links, &order);
-    // 0 to 2 are linked in a row to two gateways each, and 3 to 7 fill them up to the end of the row
-    let row = [3u16, 0, 4, 0, 4, 1, 5, 1, 5, 2, 6, 2, 7, 0, 3, 1];
-    let row_order = [4u16, 3, 5, 6, 7, 0, 1, 2];
-    steps(b"moves", 8, 8, &row, &row_order);
+    // the last of 3, 4, 5, 6, 7 takes 4's place at 0, which takes 6's at 1, which goes to 2
+    let row = [3u16, 0, 4, 0, 4, 1, 5, 1, 6, 1, 6, 2, 7, 0];
+    let row_order = [3u16, 4, 5, 6, 7, 0, 1, 2];
+    steps(b"moves", 8, 7, &row, &row_order);
 }

@@ -90,19 +90,28 @@ fn many_links(label: &[u8], m: u16) {
     );
 }
 
-pub fn run() {
+fn of_numbers() {
     numbers(b"sound", 4, 2, 3, 2);
     numbers(b"T 1", 4, 1, 3, 2);
     numbers(b"T 17", 4, 17, 3, 2);
     numbers(b"k above n", 4, 2, 3, 5);
+}
+
+fn of_sizes() {
     gateways(b"1024 gateways", 1024);
     gateways(b"1025 gateways", 1025);
     many_links(b"8192 links", 8192);
     many_links(b"8193 links", 8193);
+}
+
+fn of_lengths() {
     lengths(b"sound, with holders", 6, 4, 4);
     lengths(b"links too short", 5, 4, 4);
     lengths(b"order too short", 6, 3, 4);
     lengths(b"holders too short", 6, 4, 3);
+}
+
+fn of_links() {
     contents(
         b"link ends equal",
         2,
@@ -131,6 +140,9 @@ pub fn run() {
         [1, 2, 0, 0],
         [65535, 0, 0, 65535],
     );
+}
+
+fn of_holders() {
     contents(
         b"order has no gateway",
         2,
@@ -153,6 +165,9 @@ pub fn run() {
         [65535, 1000, 0, 65535],
     );
     contents(b"holds T", 4, [0, 3], [1, 2, 0, 3], [65535, 0, 0, 65535]);
+}
+
+fn of_the_rest() {
     contents(b"holds T + 1", 4, [0, 3], [1, 2, 0, 3], [65535, 0, 0, 0]);
     contents(
         b"held but not placed",
@@ -161,4 +176,13 @@ pub fn run() {
         [1, 2, 0, 3],
         [65535, 0, 0, 65535],
     );
+}
+
+pub fn run() {
+    of_numbers();
+    of_sizes();
+    of_lengths();
+    of_links();
+    of_holders();
+    of_the_rest();
 }
