@@ -1,2 +1,5 @@
 -- Laws of the listing's text.
 pub mod Examples
+pub mod Puts
+pub mod Digits
+pub mod Entries
