@@ -3,3 +3,4 @@ pub mod Examples
 pub mod Puts
 pub mod Digits
 pub mod Entries
+pub mod Composed

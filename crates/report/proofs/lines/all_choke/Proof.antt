@@ -1,47 +1,47 @@
+-- `all_choke` meets its contract: the laws of Puts and Composed.
+use borrow.Author.Needs.{needs}
+use Prim.Native.Nat.{_-_}
+use mathlib.Core.Bool.{not, _&&_}
+use lib.Dec.{eqb}
+use Rattle.packing.specs.Count.{listWhere}
+use Rattle.packing.specs.Plant.{NONE, at}
+use Rattle.report.specs.Text.{spaced}
+use Rattle.report.proofs.Puts.{put-kept, Grown, grown-start, grown-end}
+use Rattle.report.proofs.Digits.{listed-grows}
+use Rattle.report.proofs.Composed.{listed-turn}
 use Rattle.report.proofs.lines.all_choke.Statement.{statement}
 use Rattle.report.proofs.lines.all_choke.Tie as tie
-use Rattle.report.proofs.lines.all_choke.Reads as reads
-use Rattle.report.proofs.lines.all_choke.Lts as lts
-use Rattle.report.proofs.lists.is_choke.Reads as is-choke-reads
-use Rattle.report.proofs.put.listed_if.Reads as listed-if-reads
 
 abbrev Inv-loop : tie.InvT-loop
-Inv-loop n choke out₀ place next₀ v₀ out next v = ?
+Inv-loop n choke out₀ place next₀ v₀ out next v = Grown n 6 (λ j. spaced (listWhere j (λ v. eqb (at choke v) 1))) out₀ place out next v
 
 abbrev μ-loop : tie.MeasureT-loop
-μ-loop n choke out₀ place next₀ v₀ out next v = ?
+μ-loop n choke out₀ place next₀ v₀ out next v = n - v
 
--- src/lines.rt:47:5
 loop-holds : tie.Need-loop-holds Inv-loop μ-loop
-loop-holds c = ?
+loop-holds c = grown-start (listed-grows _ _) 6 _ _
 
--- src/lines.rt:48:31
 is-choke-requires : tie.Need-is-choke-requires Inv-loop μ-loop
-is-choke-requires c κs = ?
+is-choke-requires c κs = search needs
 
--- src/lines.rt:48:9
 listed-if-requires : tie.Need-listed-if-requires Inv-loop μ-loop
-listed-if-requires c κs = ?
+listed-if-requires c κs = search needs
 
--- src/lines.rt:49:9
 add-v : tie.Need-add-v Inv-loop μ-loop
-add-v c = ?
+add-v c = search needs
 
--- src/lines.rt:47:5
 loop-less : tie.Need-loop-less Inv-loop μ-loop
-loop-less c = ?
+loop-less c = search needs
 
--- src/lines.rt:47:5
 loop-again : tie.Need-loop-again Inv-loop μ-loop
-loop-again c = ?
+loop-again c = let turn = c .before .before .before .before .before in
+    listed-turn _ _ (turn .before .loop .inv) (turn .loop-test .taken) (c .before .before .before .before .is-choke .ensures) (c .before .before .listed-if .ensures)
 
--- src/lines.rt:41:1
 same-length : tie.Need-same-length Inv-loop μ-loop
-same-length c = ?
+same-length c = put-kept (c .before .loop .inv .put)
 
--- src/lines.rt:41:1
 returns : tie.Need-returns Inv-loop μ-loop
-returns c = ?
+returns c = grown-end (listed-grows _ _) 6 (c .before .loop .inv) (c .loop-test .left)
 
 pub all-choke-spec : {M : Type 1} → statement M
 all-choke-spec =

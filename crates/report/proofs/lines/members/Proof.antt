@@ -1,47 +1,48 @@
+-- `members` meets its contract: the laws of Puts and Composed.
+use borrow.Author.Needs.{needs}
+use Prim.Native.Nat.{_-_}
+use mathlib.Core.Bool.{not, _&&_}
+use lib.Dec.{eqb}
+use Rattle.packing.specs.Count.{listWhere}
+use Rattle.packing.specs.Plant.{NONE, at}
+use Rattle.report.specs.Text.{spaced, membersListed}
+use Rattle.report.proofs.Puts.{put-kept, Grown, grown-start, grown-end}
+use Rattle.report.proofs.Digits.{listed-grows}
+use Rattle.report.proofs.Composed.{listed-turn}
 use Rattle.report.proofs.lines.members.Statement.{statement}
 use Rattle.report.proofs.lines.members.Tie as tie
-use Rattle.report.proofs.lines.members.Reads as reads
-use Rattle.report.proofs.lines.members.Lts as lts
-use Rattle.report.proofs.lists.is_member.Reads as is-member-reads
-use Rattle.report.proofs.put.listed_if.Reads as listed-if-reads
 
 abbrev Inv-loop : tie.InvT-loop
-Inv-loop n leaders u out₀ place next₀ w₀ out next w = ?
+Inv-loop n leaders u out₀ place next₀ w₀ out next w = Grown n 6 (λ j. spaced (listWhere j (λ w. eqb (at leaders w) u && not (eqb w u)))) out₀ place out next w
 
 abbrev μ-loop : tie.MeasureT-loop
-μ-loop n leaders u out₀ place next₀ w₀ out next w = ?
+μ-loop n leaders u out₀ place next₀ w₀ out next w = n - w
 
--- src/lines.rt:21:5
 loop-holds : tie.Need-loop-holds Inv-loop μ-loop
-loop-holds c = ?
+loop-holds c = grown-start (listed-grows _ _) 6 _ _
 
--- src/lines.rt:22:31
 is-member-requires : tie.Need-is-member-requires Inv-loop μ-loop
-is-member-requires c κs = ?
+is-member-requires c κs = search needs
 
--- src/lines.rt:22:9
 listed-if-requires : tie.Need-listed-if-requires Inv-loop μ-loop
-listed-if-requires c κs = ?
+listed-if-requires c κs = search needs
 
--- src/lines.rt:23:9
 add-w : tie.Need-add-w Inv-loop μ-loop
-add-w c = ?
+add-w c = search needs
 
--- src/lines.rt:21:5
 loop-less : tie.Need-loop-less Inv-loop μ-loop
-loop-less c = ?
+loop-less c = search needs
 
--- src/lines.rt:21:5
 loop-again : tie.Need-loop-again Inv-loop μ-loop
-loop-again c = ?
+loop-again c = let turn = c .before .before .before .before .before in
+    listed-turn _ _ (turn .before .loop .inv) (turn .loop-test .taken) (c .before .before .before .before .is-member .ensures) (c .before .before .listed-if .ensures)
 
--- src/lines.rt:15:1
 same-length : tie.Need-same-length Inv-loop μ-loop
-same-length c = ?
+same-length c = put-kept (c .before .loop .inv .put)
 
--- src/lines.rt:15:1
 returns : tie.Need-returns Inv-loop μ-loop
-returns c = ?
+unfolding membersListed
+returns c = grown-end (listed-grows _ _) 6 (c .before .loop .inv) (c .loop-test .left)
 
 pub members-spec : {M : Type 1} → statement M
 members-spec =

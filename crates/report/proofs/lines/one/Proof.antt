@@ -1,64 +1,56 @@
+-- `one` meets its contract: its parts put one after the other.
+use Rattle.report.proofs.Puts.{put-then}
+use Rattle.report.proofs.Composed.{one-put}
 use borrow.Author.Needs.{needs}
 use Rattle.report.proofs.lines.one.Statement.{statement}
 use Rattle.report.proofs.lines.one.Tie as tie
-use Rattle.report.proofs.lines.one.Reads as reads
-use Rattle.report.proofs.lines.one.Lts as lts
-use Rattle.report.proofs.lists.covered.Reads as covered-reads
-use Rattle.report.proofs.put.byte.Reads as byte-reads
-use Rattle.report.proofs.put.listed.Reads as listed-reads
-use Rattle.report.proofs.put.text.Reads as text-reads
 
--- src/lines.rt:59:30
 slice-aggregate-text : tie.Need-slice-aggregate-text
 slice-aggregate-text c = search needs
 
--- src/lines.rt:59:9
 text-requires : tie.Need-text-requires
 text-requires c κs = search needs
 
--- src/lines.rt:60:9
 listed-requires : tie.Need-listed-requires
 listed-requires c κs = search needs
 
--- src/lines.rt:61:27
 slice-aggregate-text-2 : tie.Need-slice-aggregate-text-2
 slice-aggregate-text-2 c = search needs
 
--- src/lines.rt:61:9
 text-requires-2 : tie.Need-text-requires-2
 text-requires-2 c κs = search needs
 
--- src/lines.rt:62:9
 listed-requires-2 : tie.Need-listed-requires-2
 listed-requires-2 c κs = search needs
 
--- src/lines.rt:63:34
 slice-aggregate-text-3 : tie.Need-slice-aggregate-text-3
 slice-aggregate-text-3 c = search needs
 
--- src/lines.rt:63:9
 text-requires-3 : tie.Need-text-requires-3
 text-requires-3 c κs = search needs
 
--- src/lines.rt:64:31
 covered-requires : tie.Need-covered-requires
 covered-requires c κs = search needs
 
--- src/lines.rt:64:9
 listed-requires-3 : tie.Need-listed-requires-3
 listed-requires-3 c κs = search needs
 
--- src/lines.rt:65:5
 byte-requires : tie.Need-byte-requires
 byte-requires c κs = search needs
 
--- src/lines.rt:55:1
 same-length : tie.Need-same-length
 same-length c = search needs
 
--- src/lines.rt:55:1
 returns : tie.Need-returns
-returns c = ?
+returns c = let seventh = c .before .before in
+    let sixth = seventh .before .before .before .before in
+    let count = sixth .before .before in
+    let fifth = count .before .before .before in
+    let fourth = fifth .before .before .before .before .before in
+    let third = fourth .before .before .before .before in
+    let second = third .before .before .before .before .before in
+    let first = second .before .before .before .before in
+    one-put _ _ _ (count .covered .ensures) (put-then (put-then (put-then (put-then (put-then (put-then (first .text .ensures) (second .listed .ensures)) (third .text2 .ensures)) (fourth .listed2 .ensures)) (fifth .text3 .ensures)) (sixth .listed3 .ensures)) (seventh .byte .ensures))
 
 pub one-spec : {M : Type 1} → statement M
 one-spec =

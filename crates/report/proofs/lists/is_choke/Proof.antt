@@ -11,7 +11,7 @@ returns : tie.Need-returns
 returns c = search needs
 
 returns-2 : tie.Need-returns-2
-returns-2 c = no-choke-past _ _ (c .if1 .left)
+returns-2 c = no-choke-past (c .before .args .choke .now) _ (c .if1 .left)
 
 pub is-choke-spec : {M : Type 1} → statement M
 is-choke-spec = tie.close (tie.spec shared-slice-read-result returns returns-2)

@@ -14,7 +14,7 @@ returns : tie.Need-returns
 returns c = search needs
 
 returns-2 : tie.Need-returns-2
-returns-2 c = entry-past _ _ (c .if1 .left)
+returns-2 c = entry-past (c .before .args .leaders .now) _ (c .if1 .left)
 
 pub leader-spec : {M : Type 1} → statement M
 leader-spec = tie.close (tie.spec mul-result shared-slice-read-result returns returns-2)
