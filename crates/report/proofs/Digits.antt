@@ -73,7 +73,7 @@ digits-put-more {x} h k f g =
     let both = put-is (digits-more x h k) (put-then f g) in
     record { short = digits-short x; end = both .end; list = both .list }
 
-spaced-append : (a b : List ℕ) → spaced (a ++ b) ≡ spaced a ++ spaced b
+pub spaced-append : (a b : List ℕ) → spaced (a ++ b) ≡ spaced a ++ spaced b
 unfolding spaced
 spaced-append [] b = refl
 spaced-append (x ∷ a) b = ap (λ (l : List ℕ). (32 ∷ digits x) ++ l) (spaced-append a b) ∙ sym (append-assoc (32 ∷ digits x) (spaced a) (spaced b))

@@ -4,3 +4,4 @@ pub mod Puts
 pub mod Digits
 pub mod Entries
 pub mod Composed
+pub mod Lengths
