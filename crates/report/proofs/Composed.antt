@@ -1,7 +1,7 @@
 -- Laws of the listing's lines, each put from its parts.
-use Prim.Native.Nat.{ℕ, zero, suc, _+_, _*_, _<_, _≤_}
+use Prim.Native.Nat.{ℕ, _+_, _*_, _<_, _≤_}
 use mathlib.Core.Path.{_≡_, refl, sym, ap, _∙_}
-use mathlib.Core.Bool.{Bool, true, false, not, cond, _&&_}
+use mathlib.Core.Bool.{Bool, true, false, not, cond}
 use mathlib.Core.List.{List, [], _∷_, _++_}
 use native.Mathlib.Numerals.{add-one}
 use native.Mathlib.Omega.{arith}
@@ -11,7 +11,7 @@ use lib.Seq.{sets}
 use borrow.Author.Tests.{not-true, not-false}
 use Rattle.packing.specs.Count.{listWhere}
 use Rattle.packing.specs.Plant.{NONE, at}
-use Rattle.report.specs.Text.{digits, spaced, coveredCount, lineOne, membersListed, leadLine, leadLines, aloneLine, chokeLine, refusedLine}
+use Rattle.report.specs.Text.{digits, spaced, coveredCount, lineOne, membersListed, leadLine, leadLines, aloneLine, chokeLine}
 use Rattle.report.specs.Pre.{Put}
 use Rattle.report.proofs.Puts.{Growing, Grown, put-none, put-then, put-within, put-is, grown-turn}
 use Rattle.report.proofs.Digits.{spaced-one, listed-grows}

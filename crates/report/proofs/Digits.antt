@@ -1,18 +1,18 @@
 -- Laws of the digits and of numbers listed.
 use Prim.Native.Nat.{ℕ, zero, suc, _+_, _*_, _/_, _%_, _<_, _≤_}
 use mathlib.Core.Path.{_≡_, refl, sym, ap, _∙_}
-use mathlib.Core.Bool.{Bool, true, false, cond}
+use mathlib.Core.Bool.{Bool, cond}
 use mathlib.Core.List.{List, [], _∷_, _++_, append-assoc, append-nil}
 use native.Mathlib.Numerals.{add-one}
 use native.Mathlib.Omega.{arith}
 use lib.Dec.{ltb}
 use lib.ListN.{length, length-append}
-use borrow.Author.Tests.{lt-ltb, le-ltb, ltb-true, ltb-false}
+use borrow.Author.Tests.{lt-ltb, le-ltb}
 use Rattle.packing.proofs.Tests.{by-bool}
 use Rattle.packing.specs.Count.{listWhere}
 use Rattle.report.specs.Text.{digitsIn, digits, spaced}
 use Rattle.report.specs.Pre.{Put}
-use Rattle.report.proofs.Puts.{Growing, put-is, put-then, put-none, put-within}
+use Rattle.report.proofs.Puts.{Growing, put-is, put-then, put-within}
 
 -- 10, 100, ..: the first number that has one digit more than suc places
 power : ℕ → ℕ

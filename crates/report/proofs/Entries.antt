@@ -1,5 +1,5 @@
 -- Entries of the lists, and a loop that counts.
-use Prim.Native.Nat.{ℕ, zero, suc, _+_, _<_, _≤_}
+use Prim.Native.Nat.{ℕ, _+_, _<_, _≤_}
 use mathlib.Core.Path.{_≡_, refl, sym, ap, _∙_}
 use mathlib.Core.Bool.{Bool, true, false, not, _&&_}
 use mathlib.Core.List.{List}
@@ -10,7 +10,7 @@ use lib.ListN.{length, List·getD-eq-default}
 use borrow.Author.Tests.{eq-eqb, ne-eqb}
 use Rattle.packing.specs.Count.{pick, count}
 use Rattle.packing.specs.Plant.{NONE, at}
-use Rattle.packing.proofs.Sums.{count-suc, count-bound}
+use Rattle.packing.proofs.Sums.{count-suc}
 
 -- an entry past the end
 pub entry-past : (l : List ℕ) (i : ℕ) → length l ≤ i → 0 ≡ at l i

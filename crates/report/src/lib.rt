@@ -14,10 +14,10 @@ pub fn listing(n: u16, t: u8, leaders: &[u16], choke: &[u8], out: &mut [u8]) -> 
     ensures count { λ r. ⌜ r ≡ length (text.listing n t (now (leaders .entry)) (now (choke .entry))) ⌝ }
     ensures out { λ _. ⌜ now (out .exit) ≡ sets (now (out .entry)) 0 (text.listing n t (now (leaders .entry)) (now (choke .entry))) ⌝ }
 {
-    let one = lines::one(n, t, leaders, out, 0);
-    let leads = lines::leads(n, leaders, out, one);
-    let alone = lines::alone(n, leaders, out, leads);
-    lines::choke(n, choke, out, alone)
+    let mut next = lines::one(n, t, leaders, out, 0);
+    next = lines::leads(n, leaders, out, next);
+    next = lines::alone(n, leaders, out, next);
+    lines::choke(n, choke, out, next)
 }
 
 // The same for a refused file's one line.
@@ -25,7 +25,7 @@ pub fn refused(e: u16, out: &mut [u8]) -> usize
     ensures count { λ r. ⌜ r ≡ length (text.refusedLine e) ⌝ }
     ensures out { λ _. ⌜ now (out .exit) ≡ sets (now (out .entry)) 0 (text.refusedLine e) ⌝ }
 {
-    let word = put::text(b"refused", out, 0);
-    let number = put::listed(e, out, word);
-    put::byte(10, out, number)
+    let mut next = put::text(b"refused", out, 0);
+    next = put::listed(e, out, next);
+    put::byte(b'\n', out, next)
 }

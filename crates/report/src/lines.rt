@@ -2,6 +2,7 @@
 use crate::lists::covered;
 use crate::lists::is_alone;
 use crate::lists::is_choke;
+use crate::lists::is_leader;
 use crate::lists::is_member;
 use crate::put;
 ghost use Prim.Native.Nat.{_+_, _*_, _≤_};
@@ -56,28 +57,28 @@ pub fn one(n: u16, t: u8, leaders: &[u16], out: &mut [u8], place: usize) -> usiz
     requires { ⌜ place + 41 ≤ FAR ⌝ }
     ensures { λ r. ⌜ Put 41 (lineOne n t (now (leaders .entry))) (now (out .entry)) place (now (out .exit)) r ⌝ }
 {
-    let gateways = put::text(b"gateways", out, place);
-    let count = put::listed(n, out, gateways);
-    let limit = put::text(b" limit", out, count);
-    let most = put::listed(t as u16, out, limit);
-    let covered_word = put::text(b" covered", out, most);
-    let reached = put::listed(covered(n, leaders), out, covered_word);
-    put::byte(10, out, reached)
+    let mut next = put::text(b"gateways", out, place);
+    next = put::listed(n, out, next);
+    next = put::text(b" limit", out, next);
+    next = put::listed(t as u16, out, next);
+    next = put::text(b" covered", out, next);
+    next = put::listed(covered(n, leaders), out, next);
+    put::byte(b'\n', out, next)
 }
 
-// lead U: members, if u leads
+// lead U: members, if u leads. Each of at most 65,535 members takes at most 6 bytes.
 fn lead(n: u16, leaders: &[u16], u: u16, out: &mut [u8], place: usize) -> usize
     requires { ⌜ place + 400000 ≤ FAR ⌝ }
     ensures { λ r. ⌜ Put 400000 (leadLine n (now (leaders .entry)) u) (now (out .entry)) place (now (out .exit)) r ⌝ }
 {
-    if !crate::lists::leads(leaders, u) {
+    if !is_leader(leaders, u) {
         return place;
     }
-    let word = put::text(b"lead", out, place);
-    let number = put::listed(u, out, word);
-    let colon = put::byte(58, out, number);
-    let listed = members(n, leaders, u, out, colon);
-    put::byte(10, out, listed)
+    let mut next = put::text(b"lead", out, place);
+    next = put::listed(u, out, next);
+    next = put::byte(b':', out, next);
+    next = members(n, leaders, u, out, next);
+    put::byte(b'\n', out, next)
 }
 
 // a line a group
@@ -99,9 +100,9 @@ pub fn alone(n: u16, leaders: &[u16], out: &mut [u8], place: usize) -> usize
     requires { ⌜ place + (7 + 6 * n) ≤ FAR ⌝ }
     ensures { λ r. ⌜ Put (7 + 6 * n) (aloneLine n (now (leaders .entry))) (now (out .entry)) place (now (out .exit)) r ⌝ }
 {
-    let word = put::text(b"alone:", out, place);
-    let listed = all_alone(n, leaders, out, word);
-    put::byte(10, out, listed)
+    let mut next = put::text(b"alone:", out, place);
+    next = all_alone(n, leaders, out, next);
+    put::byte(b'\n', out, next)
 }
 
 // choke: numbers
@@ -109,7 +110,7 @@ pub fn choke(n: u16, choke: &[u8], out: &mut [u8], place: usize) -> usize
     requires { ⌜ place + (7 + 6 * n) ≤ FAR ⌝ }
     ensures { λ r. ⌜ Put (7 + 6 * n) (chokeLine n (now (choke .entry))) (now (out .entry)) place (now (out .exit)) r ⌝ }
 {
-    let word = put::text(b"choke:", out, place);
-    let listed = all_choke(n, choke, out, word);
-    put::byte(10, out, listed)
+    let mut next = put::text(b"choke:", out, place);
+    next = all_choke(n, choke, out, next);
+    put::byte(b'\n', out, next)
 }

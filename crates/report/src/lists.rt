@@ -28,7 +28,7 @@ pub fn is_alone(leaders: &[u16], v: u16) -> bool
     leader(leaders, v) == 65535
 }
 
-pub fn leads(leaders: &[u16], u: u16) -> bool
+pub fn is_leader(leaders: &[u16], u: u16) -> bool
     ensures { λ r. ⌜ r ≡ eqb (at (now (leaders .entry)) u) u ⌝ }
 {
     leader(leaders, u) == u

@@ -34,7 +34,7 @@ fn last_digit(x: u16, out: &mut [u8], place: usize) -> usize
     requires { ⌜ place + 1 ≤ FAR ⌝ }
     ensures { λ r. ⌜ Put 1 ((48 + x % 10) ∷ []) (now (out .entry)) place (now (out .exit)) r ⌝ }
 {
-    byte(48 + (x % 10) as u8, out, place)
+    byte(b'0' + (x % 10) as u8, out, place)
 }
 
 // A number in decimal: the digits of its tens, then the last.
@@ -54,7 +54,7 @@ pub fn listed(x: u16, out: &mut [u8], place: usize) -> usize
     requires { ⌜ place + 6 ≤ FAR ⌝ }
     ensures { λ r. ⌜ Put 6 (spaced (x ∷ [])) (now (out .entry)) place (now (out .exit)) r ⌝ }
 {
-    let next = byte(32, out, place);
+    let next = byte(b' ', out, place);
     number(x, out, next)
 }
 

@@ -1,7 +1,6 @@
 -- `all_alone` meets its contract: the laws of Puts and Composed.
 use borrow.Author.Needs.{needs}
 use Prim.Native.Nat.{_-_}
-use mathlib.Core.Bool.{not, _&&_}
 use lib.Dec.{eqb}
 use Rattle.packing.specs.Count.{listWhere}
 use Rattle.packing.specs.Plant.{NONE, at}

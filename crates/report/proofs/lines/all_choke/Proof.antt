@@ -1,10 +1,9 @@
 -- `all_choke` meets its contract: the laws of Puts and Composed.
 use borrow.Author.Needs.{needs}
 use Prim.Native.Nat.{_-_}
-use mathlib.Core.Bool.{not, _&&_}
 use lib.Dec.{eqb}
 use Rattle.packing.specs.Count.{listWhere}
-use Rattle.packing.specs.Plant.{NONE, at}
+use Rattle.packing.specs.Plant.{at}
 use Rattle.report.specs.Text.{spaced}
 use Rattle.report.proofs.Puts.{put-kept, Grown, grown-start, grown-end}
 use Rattle.report.proofs.Digits.{listed-grows}

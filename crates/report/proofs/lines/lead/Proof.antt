@@ -6,11 +6,11 @@ use borrow.Author.Needs.{needs}
 use Rattle.report.proofs.lines.lead.Statement.{statement}
 use Rattle.report.proofs.lines.lead.Tie as tie
 
-leads-requires : tie.Need-leads-requires
-leads-requires c κs = search needs
+is-leader-requires : tie.Need-is-leader-requires
+is-leader-requires c κs = search needs
 
 returns : tie.Need-returns
-returns c = lead-none _ _ _ (c .before .leads .ensures) (c .if1 .taken)
+returns c = lead-none _ _ _ (c .before .is-leader .ensures) (c .if1 .taken)
 
 slice-aggregate-text : tie.Need-slice-aggregate-text
 slice-aggregate-text c = search needs
@@ -40,13 +40,13 @@ returns-2 c = let fifth = c .before .before in
     let second = third .before .before .before .before in
     let first = second .before .before .before .before in
     let test = first .before .before .before in
-    lead-put _ _ _ (test .before .leads .ensures) (test .if1 .left) (omega (arith, test .before .before .before .before .fits .n)) (put-then (put-then (put-then (put-then (first .text .ensures) (second .listed .ensures)) (third .byte .ensures)) (fourth .members .ensures)) (fifth .byte2 .ensures))
+    lead-put _ _ _ (test .before .is-leader .ensures) (test .if1 .left) (omega (arith, test .before .before .before .before .fits .n)) (put-then (put-then (put-then (put-then (first .text .ensures) (second .listed .ensures)) (third .byte .ensures)) (fourth .members .ensures)) (fifth .byte2 .ensures))
 
 pub lead-spec : {M : Type 1} → statement M
 lead-spec =
     tie.close
     (tie.spec
-    leads-requires
+    is-leader-requires
     returns
     slice-aggregate-text
     text-requires

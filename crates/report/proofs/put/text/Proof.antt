@@ -1,7 +1,6 @@
 -- `text` meets its contract: the laws of Puts.
 use borrow.Author.Needs.{needs}
 use Prim.Native.Nat.{_-_}
-use native.Mathlib.Omega.{arith}
 use lib.ListN.{length, take}
 use Rattle.report.proofs.Puts.{put-kept, bytes-put, Grown, bytes-grow, grown-start, grown-turn, grown-end}
 use Rattle.report.proofs.put.text.Statement.{statement}
