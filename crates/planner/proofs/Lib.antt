@@ -3,3 +3,4 @@ pub mod Fronts
 pub mod Answers
 pub mod Orders
 pub mod Lookup
+pub mod MembersLaws
