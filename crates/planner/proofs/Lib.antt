@@ -10,3 +10,4 @@ pub mod LeftNext
 pub mod Table
 pub mod Orders
 pub mod Lookup
+pub mod MembersLaws

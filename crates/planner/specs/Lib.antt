@@ -1,7 +1,8 @@
--- The calls of 01, each as functions of what was handed in.
+-- The calls of 01, each as functions of what was handed in, and the claims about any list of calls.
 pub mod Lists
 pub mod Refusals
 pub mod Calls
+pub mod Members
 pub mod Told
 pub mod Run
 pub mod Claims

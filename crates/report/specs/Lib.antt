@@ -1,2 +1,3 @@
 -- The listing's text.
 pub mod Text
+pub mod Pre

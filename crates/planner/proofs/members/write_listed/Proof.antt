@@ -1,0 +1,78 @@
+-- `write_listed` meets its contract: the laws of MembersLaws.
+use borrow.Author.Needs.{needs}
+use Prim.Native.Nat.{_-_}
+use mathlib.Core.Logic.{⊎-elim}
+use native.Mathlib.Omega.{arith}
+use lib.ListN.{length}
+use Rattle.planner.proofs.MembersLaws.{Gathered, numbered-small, numbered-room, gathered-start, gathered-more, gathered-same, gathered-end}
+use Rattle.planner.proofs.members.write_listed.Statement.{statement}
+use Rattle.planner.proofs.members.write_listed.Tie as tie
+
+abbrev Inv-loop : tie.InvT-loop
+Inv-loop list u out₀ count₀ w₀ out count w = Gathered list u out₀ out count w
+
+abbrev μ-loop : tie.MeasureT-loop
+μ-loop list u out₀ count₀ w₀ out count w = length list - w
+
+loop-holds : tie.Need-loop-holds Inv-loop μ-loop
+loop-holds c = gathered-start _ _ _
+
+mul-is-member : tie.Need-mul-is-member Inv-loop μ-loop
+mul-is-member c = search needs
+
+shared-slice-read-is-member : tie.Need-shared-slice-read-is-member Inv-loop μ-loop
+shared-slice-read-is-member c = search needs
+
+is-member-requires : tie.Need-is-member-requires Inv-loop μ-loop
+is-member-requires c κs = search needs
+
+cast-out : tie.Need-cast-out Inv-loop μ-loop
+cast-out c = search needs
+
+mul-out : tie.Need-mul-out Inv-loop μ-loop
+mul-out c = omega (arith, numbered-small _ _ (c .before .before .before .before .loop .inv .numbered))
+
+slice-write-out : tie.Need-slice-write-out Inv-loop μ-loop
+slice-write-out c = let turn = c .before .before .before in
+    omega (arith, numbered-room _ _ (turn .before .loop .inv .numbered) (turn .loop-test .taken) (c .before .is-member .ensures) (c .if1 .taken))
+
+add-count : tie.Need-add-count Inv-loop μ-loop
+add-count c = omega (arith, numbered-small _ _ (c .before .before .before .before .loop .inv .numbered))
+
+add-w : tie.Need-add-w Inv-loop μ-loop
+add-w c = search needs
+
+loop-less : tie.Need-loop-less Inv-loop μ-loop
+loop-less c = search needs
+
+loop-again : tie.Need-loop-again Inv-loop μ-loop
+loop-again c = let turn = c .before .before .before in
+    ⊎-elim (λ k. rw (k .1, k .2) (gathered-more _ _ _ (turn .before .before .before .before .pre .1) (turn .before .loop .inv) (turn .loop-test .taken) (c .before .is-member .ensures) (k .0 .taken)))
+    (λ k. rw (k .1, k .2) (gathered-same _ _ _ (turn .before .loop .inv) (turn .loop-test .taken) (c .before .is-member .ensures) (k .0 .left)))
+    (c .if1 .came)
+
+same-length : tie.Need-same-length Inv-loop μ-loop
+same-length c = search needs
+
+returns : tie.Need-returns Inv-loop μ-loop
+returns c = gathered-end _ _ _ (c .before .loop .inv) (c .loop-test .left)
+
+pub write-listed-spec : {M : Type 1} → statement M
+write-listed-spec =
+    tie.close
+    (tie.spec
+    Inv-loop
+    μ-loop
+    loop-holds
+    mul-is-member
+    shared-slice-read-is-member
+    is-member-requires
+    cast-out
+    mul-out
+    slice-write-out
+    add-count
+    add-w
+    loop-less
+    loop-again
+    same-length
+    returns)

@@ -1,0 +1,110 @@
+// A leader's members by a leader list.
+ghost use mathlib.Core.Path.{_≡_};
+ghost use mathlib.Core.Bool.{not, _&&_};
+ghost use Prim.Native.Nat.{_≤_};
+ghost use lib.Dec.{eqb};
+ghost use lib.ListN.{length};
+ghost use Rattle.planner.specs.Lists.{written};
+ghost use Rattle.planner.specs.Members.{listedLeaders, membersOf, membersConditions, membersRefusal, membersPart, membersList};
+
+// How many entries of a leader list are looked at.
+fn looked_at(leaders: &[u16]) -> usize
+    ensures { λ r. ⌜ r ≡ length (listedLeaders (now (leaders .entry))) ⌝ }
+{
+    if leaders.len() < 1024 {
+        return leaders.len();
+    }
+    1024
+}
+
+// Whether w, with this entry, is a member of u and not u itself.
+fn is_member(entry: u16, w: usize, u: u16) -> bool
+    ensures { λ r. ⌜ r ≡ (eqb entry u && not (eqb w u)) ⌝ }
+{
+    if entry == u {
+        return w != u as usize;
+    }
+    false
+}
+
+fn count_of(list: &[u16], u: u16) -> usize
+    ensures { λ r. ⌜ r ≡ length (membersOf (now (list .entry)) u) ⌝ }
+{
+    let mut count: usize = 0;
+    let mut w: usize = 0;
+    while w < list.len() {
+        if is_member(list[w], w, u) {
+            count += 1;
+        }
+        w += 1;
+    }
+    count
+}
+
+// The first refusal by a list whose entries all count.
+fn of_listed(list: &[u16], u: u16, room: usize) -> u32
+    ensures { λ r. ⌜ r ≡ membersConditions (now (list .entry)) u room ⌝ }
+{
+    let at = u as usize;
+    if list.len() <= at {
+        return 11;
+    }
+    if list[at] != u {
+        return 11;
+    }
+    let count = count_of(list, u);
+    if count == 0 {
+        return 11;
+    }
+    if room < count {
+        return 10;
+    }
+    0
+}
+
+// Writes the members to the front of out and returns their count.
+fn write_listed(list: &[u16], u: u16, out: &mut [u16]) -> usize
+    requires { ⌜ (length (now list) ≤ 1024) × (length (membersOf (now list) u) ≤ length (now out)) ⌝ }
+    ensures count { λ r. ⌜ r ≡ length (membersOf (now (list .entry)) u) ⌝ }
+    ensures out { λ _. ⌜ now (out .exit) ≡ written (length (membersOf (now (list .entry)) u)) (membersOf (now (list .entry)) u) (now (out .entry)) ⌝ }
+{
+    let mut count: usize = 0;
+    let mut w: usize = 0;
+    while w < list.len() {
+        if is_member(list[w], w, u) {
+            out[count] = w as u16;
+            count += 1;
+        }
+        w += 1;
+    }
+    count
+}
+
+// Why members refuses, 11 or 10, where it has room for so many numbers; 0 where it does not.
+pub fn members_refusal(leaders: &[u16], leader: u16, room: usize) -> u32
+    ensures { λ r. ⌜ r ≡ membersRefusal (now (leaders .entry)) leader room ⌝ }
+{
+    let end = looked_at(leaders);
+    of_listed(&leaders[..end], leader, room)
+}
+
+// Writes a leader's members, ascending, to the front of out and returns their count, or 0 on refusal.
+// This call says what the whole of out holds afterwards. members hands a part of out back, and no promise on the rest can stand beside that.
+pub fn write_members(leaders: &[u16], leader: u16, out: &mut [u16]) -> usize
+    ensures count { λ r. ⌜ r ≡ length (membersPart (now (leaders .entry)) leader (length (now (out .entry)))) ⌝ }
+    ensures out { λ _. ⌜ now (out .exit) ≡ membersList (now (leaders .entry)) leader (now (out .entry)) ⌝ }
+{
+    if members_refusal(leaders, leader, out.len()) != 0 {
+        return 0;
+    }
+    let end = looked_at(leaders);
+    write_listed(&leaders[..end], leader, out)
+}
+
+// A leader's members, ascending, as the front part of out; an empty part on refusal, and members_refusal tells which.
+pub fn members<'a>(leaders: &[u16], leader: u16, out: &'a mut [u16]) -> &'a mut [u16]
+    ensures { λ r. ⌜ now r ≡ membersPart (now (leaders .entry)) leader (length (now (out .entry))) ⌝ }
+{
+    let count = write_members(leaders, leader, out);
+    &mut out[..count]
+}

@@ -1,0 +1,186 @@
+-- How long the texts are.
+use Prim.Native.Nat.{ℕ, zero, suc, _+_, _*_, _<_, _≤_}
+use mathlib.Core.Path.{_≡_, refl, sym, ap, _∙_}
+use mathlib.Core.Logic.{_⊎_, inl, inr}
+use mathlib.Core.Bool.{Bool, true, false, not, cond, _&&_}
+use mathlib.Core.List.{List, [], _∷_, _++_}
+use native.Mathlib.Nat.{mul-suc}
+use native.Mathlib.Omega.{arith}
+use lib.Dec.{eqb, ltb}
+use lib.ListN.{length, length-append}
+use borrow.Author.Tests.{eqb-true, eq-eqb, ne-eqb, ltb-true, ltb-false}
+use Rattle.packing.specs.Count.{pick, sum, listWhere}
+use Rattle.packing.specs.Plant.{NONE, at}
+use Rattle.packing.proofs.Tests.{by-bool}
+use Rattle.packing.proofs.Sums.{sum-ext, sum-mono, sum-zero, sum-add, sum-swap, sum-single, count-bound}
+use Rattle.report.specs.Text.{digits, spaced, coveredCount, lineOne, membersListed, leadLine, leadLines, aloneLine, chokeLine, listing, refusedLine}
+use Rattle.report.proofs.Digits.{spaced-append, digits-short, digits-short-four}
+
+-- a number listed, with its space
+width : ℕ → ℕ
+width v = suc (length (digits v))
+
+one-length : (x : ℕ) → length (spaced (x ∷ [])) ≡ width x
+unfolding spaced width
+one-length x = omega (arith, length-append (32 ∷ digits x) [])
+
+cond-length : (b : Bool) (x : ℕ) → length (spaced (cond b (x ∷ []) [])) ≡ pick b (width x)
+unfolding spaced
+cond-length true x = one-length x
+cond-length false x = refl
+
+spaced-length : (n : ℕ) (p : ℕ → Bool) → length (spaced (listWhere n p)) ≡ sum n (λ v. pick (p v) (width v))
+unfolding listWhere sum spaced
+spaced-length zero p = refl
+spaced-length (suc n) p =
+    ap length (spaced-append (listWhere n p) (cond (p n) (n ∷ []) []))
+    ∙ length-append (spaced (listWhere n p)) (spaced (cond (p n) (n ∷ []) []))
+    ∙ rw (spaced-length n p, cond-length (p n) n)
+
+-- what u's members take
+membersWidth : ℕ → List ℕ → ℕ → ℕ
+membersWidth n leaders u = sum n (λ w. pick (eqb (at leaders w) u && not (eqb w u)) (width w))
+
+lead-length : (n : ℕ) (leaders : List ℕ) (u : ℕ) → length (leadLine n leaders u) ≤ pick (eqb (at leaders u) u) (6 + width u) + membersWidth n leaders u
+unfolding leadLine membersListed membersWidth
+lead-length n leaders u =
+    by-bool (eqb (at leaders u) u)
+    (λ e. rw e (omega (
+      arith,
+      length-append (108 ∷ 101 ∷ 97 ∷ 100 ∷ []) (spaced (u ∷ [])),
+      length-append ((108 ∷ 101 ∷ 97 ∷ 100 ∷ []) ++ spaced (u ∷ [])) (58 ∷ []),
+      length-append ((108 ∷ 101 ∷ 97 ∷ 100 ∷ []) ++ spaced (u ∷ []) ++ (58 ∷ [])) (spaced (listWhere n (λ w. eqb (at leaders w) u && not (eqb w u)))),
+      length-append ((108 ∷ 101 ∷ 97 ∷ 100 ∷ []) ++ spaced (u ∷ []) ++ (58 ∷ []) ++ spaced (listWhere n (λ w. eqb (at leaders w) u && not (eqb w u)))) (10 ∷ []),
+      one-length u,
+      spaced-length n (λ w. eqb (at leaders w) u && not (eqb w u)),
+    )))
+    (λ e. rw e (omega arith))
+
+leads-length : (i n : ℕ) (leaders : List ℕ) → length (leadLines i n leaders) ≤ sum i (λ u. pick (eqb (at leaders u) u) (6 + width u) + membersWidth n leaders u)
+unfolding leadLines sum
+leads-length zero n leaders = omega arith
+leads-length (suc i) n leaders =
+    omega (arith, length-append (leadLines i n leaders) (leadLine n leaders i), leads-length i n leaders, lead-length n leaders i)
+
+-- a gateway is a member of at most one group: what v takes as a member, with its entry a
+module _ (n a v k : ℕ) where
+  asMember : ℕ
+  asMember = sum n (λ u. pick (eqb a u && not (eqb v u)) k)
+
+  member-once : a < n → asMember ≡ pick (not (eqb v a)) k
+  unfolding asMember
+  member-once l =
+      sum-ext n (λ u. pick (eqb a u && not (eqb v u)) k) (λ u. pick (eqb a u) (pick (not (eqb v u)) k)) (λ u h. both (eqb a u) (not (eqb v u)))
+      ∙ sum-single n a (λ u. pick (not (eqb v u)) k) l
+    where
+      both : (b c : Bool) → pick (b && c) k ≡ pick b (pick c k)
+      both true c = refl
+      both false c = refl
+
+  member-never : n ≤ a → asMember ≡ 0
+  unfolding asMember
+  member-never l = sum-zero n (λ u. pick (eqb a u && not (eqb v u)) k) (λ u h. rw (ne-eqb a u (omega arith)))
+
+  -- it leads, or is a member, or is alone: at most 6 and its number
+  once : v < n → n ≤ 65535 → pick (eqb a v) (6 + k) + asMember + pick (eqb a NONE) k ≤ 6 + k
+  once l few =
+      by-bool (eqb a v)
+      (λ e. let same : a ≡ v = eqb-true a v e in
+      rw (e, ne-eqb a NONE (omega arith)) (omega (arith, member-once (omega arith), ap (λ (b : Bool). pick (not b) k) (eq-eqb v a (sym same)))))
+      (λ e. rw e (by-bool (eqb a NONE)
+      (λ f. rw f (omega (arith, member-never (omega (arith, eqb-true a NONE f)))))
+      (λ f. rw f (apart (n-or-below n a)))))
+    where
+      n-or-below : (m x : ℕ) → (x < m) ⊎ (m ≤ x)
+      n-or-below m x = by-bool (ltb x m) (λ t. inl (ltb-true x m t)) (λ t. inr (ltb-false x m t))
+
+      small : (b : Bool) → pick b k ≤ k
+      small true = omega arith
+      small false = omega arith
+
+      apart : (a < n) ⊎ (n ≤ a) → 0 + asMember + 0 ≤ 6 + k
+      apart (inl x) = omega (arith, member-once x, small (not (eqb v a)))
+      apart (inr x) = omega (arith, member-never x)
+
+-- the leaders' lines and the alone
+groups-length : (n : ℕ) (leaders : List ℕ) → n ≤ 65535
+    → length (leadLines n n leaders) + length (spaced (listWhere n (λ v. eqb (at leaders v) NONE))) ≤ sum n (λ v. 6 + width v)
+unfolding membersWidth asMember
+groups-length n leaders few =
+    omega (
+      arith,
+      leads-length n n leaders,
+      sum-add n (λ u. pick (eqb (at leaders u) u) (6 + width u)) (λ u. membersWidth n leaders u),
+      sum-swap n n (λ u w. pick (eqb (at leaders w) u && not (eqb w u)) (width w)),
+      spaced-length n (λ v. eqb (at leaders v) NONE),
+      sum-add n (λ v. pick (eqb (at leaders v) v) (6 + width v)) (λ v. asMember n (at leaders v) v (width v)),
+      sum-add n (λ v. pick (eqb (at leaders v) v) (6 + width v) + asMember n (at leaders v) v (width v)) (λ v. pick (eqb (at leaders v) NONE) (width v)),
+      sum-mono n (λ v. pick (eqb (at leaders v) v) (6 + width v) + asMember n (at leaders v) v (width v) + pick (eqb (at leaders v) NONE) (width v)) (λ v. 6 + width v) (λ v l. once n (at leaders v) v (width v) l few),
+    )
+
+-- so many bytes for each gateway
+sum-most : (n most : ℕ) (f : ℕ → ℕ) → ((i : ℕ) → i < n → f i ≤ most) → sum n f ≤ most * n
+unfolding sum
+sum-most zero most f h = omega arith
+sum-most (suc n) most f h = rw mul-suc (omega (arith, sum-most n most f (λ i l. h i (omega arith)), h n (omega arith)))
+
+width-four : (v : ℕ) → v < 10000 → width v ≤ 5
+unfolding width
+width-four v h = omega (arith, digits-short-four v h)
+
+width-five : (v : ℕ) → width v ≤ 6
+unfolding width
+width-five v = omega (arith, digits-short v)
+
+one-line-length : (n t : ℕ) (leaders : List ℕ) → length (lineOne n t leaders) ≡ 23 + width n + width t + width (coveredCount n leaders)
+unfolding lineOne
+one-line-length n t leaders = seven (103 ∷ 97 ∷ 116 ∷ 101 ∷ 119 ∷ 97 ∷ 121 ∷ 115 ∷ []) (spaced (n ∷ [])) (32 ∷ 108 ∷ 105 ∷ 109 ∷ 105 ∷ 116 ∷ []) (spaced (t ∷ []))
+    (32 ∷ 99 ∷ 111 ∷ 118 ∷ 101 ∷ 114 ∷ 101 ∷ 100 ∷ []) (spaced (coveredCount n leaders ∷ [])) (10 ∷ [])
+    ∙ rw (one-length n, one-length t, one-length (coveredCount n leaders)) (omega arith)
+  where
+    seven : (a b c d e f g : List ℕ) → length (a ++ b ++ c ++ d ++ e ++ f ++ g) ≡ length a + length b + length c + length d + length e + length f + length g
+    seven a b c d e f g = simp length-append
+
+-- a text, the numbers with a test, and the line feed
+numbers-length : (n : ℕ) (p : ℕ → Bool) (word : List ℕ) → length (word ++ spaced (listWhere n p) ++ (10 ∷ [])) ≡ length word + length (spaced (listWhere n p)) + 1
+numbers-length n p word = simp length-append
+
+-- at most 16 bytes for each gateway, and 53
+pub listing-length : (n t : ℕ) (leaders choke : List ℕ) → n < 10000 → length (listing n t leaders choke) ≤ 53 + 16 * n
+unfolding listing aloneLine chokeLine coveredCount
+listing-length n t leaders choke few =
+    omega (
+      arith,
+      length-append (lineOne n t leaders) (leadLines n n leaders),
+      length-append (lineOne n t leaders ++ leadLines n n leaders) (aloneLine n leaders),
+      length-append (lineOne n t leaders ++ leadLines n n leaders ++ aloneLine n leaders) (chokeLine n choke),
+      one-line-length n t leaders,
+      numbers-length n (λ v. eqb (at leaders v) NONE) (97 ∷ 108 ∷ 111 ∷ 110 ∷ 101 ∷ 58 ∷ []),
+      numbers-length n (λ v. eqb (at choke v) 1) (99 ∷ 104 ∷ 111 ∷ 107 ∷ 101 ∷ 58 ∷ []),
+      groups-length n leaders (omega arith),
+      spaced-length n (λ v. eqb (at choke v) 1),
+      sum-most n 11 (λ v. 6 + width v) (λ v l. omega (arith, width-four v (omega arith))),
+      sum-most n 5 (λ v. pick (eqb (at choke v) 1) (width v)) (λ v l. picked (eqb (at choke v) 1) (width v) (width-four v (omega arith))),
+      width-four n few,
+      width-five t,
+      width-four (coveredCount n leaders) (omega (arith, count-bound n (λ v. not (eqb (at leaders v) NONE)))),
+    )
+  where
+    picked : (b : Bool) (k : ℕ) → k ≤ 5 → pick b k ≤ 5
+    picked true k h = h
+    picked false k h = omega arith
+
+-- of a plant, whose n is at most 1,024
+pub listing-short : (n t : ℕ) (leaders choke : List ℕ) → n ≤ 1024 → length (listing n t leaders choke) ≤ 16437
+listing-short n t leaders choke few = omega (arith, listing-length n t leaders choke (omega arith))
+
+pub refused-length : (e : ℕ) → length (refusedLine e) ≤ 14
+unfolding refusedLine
+refused-length e =
+    omega (
+      arith,
+      length-append (114 ∷ 101 ∷ 102 ∷ 117 ∷ 115 ∷ 101 ∷ 100 ∷ []) (spaced (e ∷ [])),
+      length-append ((114 ∷ 101 ∷ 102 ∷ 117 ∷ 115 ∷ 101 ∷ 100 ∷ []) ++ spaced (e ∷ [])) (10 ∷ []),
+      one-length e,
+      width-five e,
+    )
