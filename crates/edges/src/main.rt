@@ -4,6 +4,7 @@ mod full;
 mod lines;
 mod linking;
 mod lists;
+mod membering;
 mod opening;
 mod ordering;
 mod placing;
@@ -16,6 +17,7 @@ fn main() {
     ordering::run();
     placing::run();
     reading::run();
+    membering::run();
     soundness::run();
     full::run();
 }

@@ -3,9 +3,13 @@ use crate::lines;
 use crate::lists;
 use planner::Small;
 
-fn case(label: &[u8], s: Small, links: &[u16], order: &[u16], came: [u16; 8]) {
+// 01's listing, fully placed but for k.
+fn case(label: &[u8], n: u16, t: u8, k: u16) {
+    let links = [0u16, 2, 0, 3, 0, 4, 1, 2];
+    let order = [2u16, 3, 4, 0, 1];
+    let came = [2u16, 2, 1, 0, 0, 9, 9, 9];
     let mut holders = came;
-    let r = s.place(links, order, &mut holders);
+    let r = Small { n, t, m: 4, k }.place(&links, &order, &mut holders);
     lines::answer(label, r);
     lines::list(&holders);
     lines::kept(lists::same(&holders, &came));
@@ -26,61 +30,28 @@ fn steps(label: &[u8], n: u16, m: u16, links: &[u16], order: &[u16]) {
     }
 }
 
-pub fn run() {
+fn listing() {
     let links = [0u16, 2, 0, 3, 0, 4, 1, 2];
     let order = [2u16, 3, 4, 0, 1];
-    let full = [2u16, 2, 1, 0, 0, 9, 9, 9];
-    case(
-        b"place when all are placed",
-        Small {
-            n: 5,
-            t: 2,
-            m: 4,
-            k: 5,
-        },
-        &links,
-        &order,
-        full,
-    );
-    case(
-        b"place on an unsound record",
-        Small {
-            n: 5,
-            t: 1,
-            m: 4,
-            k: 0,
-        },
-        &links,
-        &order,
-        full,
-    );
+    steps(b"01's listing", 5, 4, &links, &order);
+}
+
+// 7 takes 4's place at 0, 4 takes 6's at 1, and 6 goes to 2.
+fn three_moved() {
+    let links = [3u16, 0, 4, 0, 4, 1, 5, 1, 6, 1, 6, 2, 7, 0];
+    let order = [3u16, 4, 5, 6, 7, 0, 1, 2];
+    steps(b"three moved", 8, 7, &links, &order);
+}
+
+pub fn run() {
+    case(b"place when all are placed", 5, 2, 5);
+    case(b"place on an unsound record", 5, 1, 0);
     case(
         b"place on an unsound record with k = n: 26 before 24",
-        Small {
-            n: 5,
-            t: 1,
-            m: 4,
-            k: 5,
-        },
-        &links,
-        &order,
-        full,
+        5,
+        1,
+        5,
     );
-    case(
-        b"place with no gateways",
-        Small {
-            n: 0,
-            t: 2,
-            m: 0,
-            k: 0,
-        },
-        &links,
-        &order,
-        full,
-    );
-    steps(b"01's listing", 5, 4, &links, &order);
-    // the last of 3, 4, 5, 6, 7 takes 4's place at 0, which takes 6's at 1, which goes to 2
-    let row = [3u16, 0, 4, 0, 4, 1, 5, 1, 6, 1, 6, 2, 7, 0];
-    let row_order = [3u16, 4, 5, 6, 7, 0, 1, 2];
-    steps(b"moves", 8, 7, &row, &row_order);
+    listing();
+    three_moved();
 }
