@@ -1,4 +1,4 @@
 -- Laws of a file's plan, by subject.
 pub mod Steps
-pub mod Bytes
+pub mod Pairs
 pub mod Numbers

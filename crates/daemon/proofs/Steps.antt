@@ -4,7 +4,7 @@ use mathlib.Core.Path.{_≡_, refl, sym, ap, _∙_}
 use mathlib.Core.List.{List, [], _∷_, _++_}
 use native.Mathlib.Numerals.{add-one}
 use native.Mathlib.Omega.{arith}
-use lib.ListN.{length, take, drop, replicate, length-replicate}
+use lib.ListN.{length, take, drop, replicate, length-replicate, drop-of-length-le}
 use Rattle.packing.specs.Plant.{at}
 use Rattle.packing.proofs.Flat.{pair-at}
 use Rattle.planner.specs.declared.Small.{Small}
@@ -64,7 +64,7 @@ module _ (file : List ℕ) {first : State} where
   linking-end {now} {i} k l = rw (none (omega (arith, links-long file))) at (k .rest)
     where
       none : length (fileLinks file) ≤ 2 * i → drop (2 * i) (fileLinks file) ≡ []
-      none h = lib.ListN.drop-length-le (2 * i) (fileLinks file) h
+      none h = drop-of-length-le (fileLinks file) h
 
 -- the order as it is loaded, and its call
 pub loaded : (file : List ℕ) {links numbers new : List ℕ} → Fits file numbers → links ≡ replicate 16384 0 → new ≡ loadOrder file links numbers → new ≡ written (fileN file) (fileOrder file) numbers
@@ -78,10 +78,10 @@ loaded file {links} {numbers} {new} f e g =
 pub fits-order : (file : List ℕ) {numbers : List ℕ} → fileRefusal file ≡ 0 → numbers ≡ replicate 1024 0 → Fits file numbers
 fits-order file z e = record { fine = z; room = rw (e, length-replicate) (file-fits file z .few) }
 
-pub ordered : (file : List ℕ) {n : ℕ} {l lent : List ℕ} {s : Small} {ls os hs os' : List ℕ} {r : Answer} → n ≡ fileN file → l ≡ written (fileN file) (fileOrder file) lent
+pub ordered : (file lent : List ℕ) (s : Small) (ls os hs : List ℕ) {n : ℕ} {l os' : List ℕ} {r : Answer} → n ≡ fileN file → l ≡ written (fileN file) (fileOrder file) lent
     → r ≡ orderAnswer s ls os hs (take n l) → os' ≡ orderOrder s ls os hs (take n l) → stateOf (r .small) ls os' hs ≡ step (stateOf s ls os hs) (order (fileOrder file))
 unfolding step
-ordered file {n} {l} {lent} e f g h = rw (g, h, e, written-front (fileN file) (fileOrder file) lent (order-long file) f)
+ordered file lent s ls os hs e f g h = rw (g, h, e, written-front (fileN file) (fileOrder file) lent (order-long file) f)
 
 -- i placings
 pub record Placing (n : ℕ) (first now : State) (i : ℕ) : Type 0 where
@@ -110,33 +110,32 @@ module _ (n : ℕ) {first : State} where
       last d h = omega arith
 
 -- open, and all the calls
-pub all-made : (file : List ℕ) {n t : ℕ} {ls os hs ls₂ os₁ os₃ hs₁ hs₄ : List ℕ} {r : Answer} {s₂ s₃ s₄ : Small} → n ≡ fileN file → t ≡ fileT file
+pub all-made : (file ls os hs : List ℕ) {n t : ℕ} {ls₂ os₁ os₃ hs₁ hs₄ : List ℕ} {r : Answer} {s₂ s₃ s₄ : Small} → n ≡ fileN file → t ≡ fileT file
     → r ≡ openAnswer n t os hs → os₁ ≡ openOrder n t os hs → hs₁ ≡ openHolders n t os hs
     → stateOf s₂ ls₂ os₁ hs₁ ≡ run (stateOf (r .small) ls os₁ hs₁) (linkCalls (fileLinks file))
     → stateOf s₃ ls₂ os₃ hs₁ ≡ step (stateOf s₂ ls₂ os₁ hs₁) (order (fileOrder file))
     → stateOf s₄ ls₂ os₃ hs₄ ≡ run (stateOf s₃ ls₂ os₃ hs₁) (placeCalls n)
     → stateOf s₄ ls₂ os₃ hs₄ ≡ madeBy (fileN file) (fileT file) ls os hs (fileCalls file)
-unfolding fileCalls afterOpen
-all-made file {n} {t} {ls} {os} {hs} {ls₂} {os₁} {os₃} {hs₁} {hs₄} {r} {s₂} {s₃} {s₄} en et er eo eh links orders places =
-    places ∙ ap (λ (x : State). run x (placeCalls n)) (orders ∙ ap (λ (x : State). step x (order (fileOrder file))) (links ∙ ap (λ (x : State). run x (linkCalls (fileLinks file))) open))
+unfolding fileCalls afterOpen run
+all-made file ls os hs {n} {t} {ls₂} {os₁} {os₃} {hs₁} {hs₄} {r} {s₂} {s₃} {s₄} en et er eo eh links orders places =
+    places ∙ ap (λ (x : State). run x (placeCalls n)) (orders ∙ ap (λ (x : State). step x (order (fileOrder file))) (links ∙ ap (λ (x : State). run x (linkCalls (fileLinks file))) begun))
     ∙ rw (en, et) (after (afterOpen (fileN file) (fileT file) ls os hs))
   where
-    open : stateOf (r .small) ls os₁ hs₁ ≡ afterOpen n t ls os hs
-    open = rw (er, eo, eh)
+    begun : stateOf (r .small) ls os₁ hs₁ ≡ afterOpen n t ls os hs
+    begun = rw (er, eo, eh)
 
     after : (s : State) → run (step (run s (linkCalls (fileLinks file))) (order (fileOrder file))) (placeCalls (fileN file)) ≡ run s (linkCalls (fileLinks file) ++ (order (fileOrder file) ∷ placeCalls (fileN file)))
-    unfolding run
     after s = sym (run-append s (linkCalls (fileLinks file)) (order (fileOrder file) ∷ placeCalls (fileN file)))
 
 -- the record made with lists of 0 is the file's, and so is what a read of it writes
-module _ (file : List ℕ) {ls os hs ls' os' hs' : List ℕ} {s : Small} (els : ls ≡ replicate 16384 0) (eos : os ≡ replicate 1024 0) (ehs : hs ≡ replicate 1024 0)
+module _ (file : List ℕ) {ls os hs : List ℕ} (s : Small) (ls' os' hs' : List ℕ) (els : ls ≡ replicate 16384 0) (eos : os ≡ replicate 1024 0) (ehs : hs ≡ replicate 1024 0)
     (made : stateOf s ls' os' hs' ≡ madeBy (fileN file) (fileT file) ls os hs (fileCalls file)) where
   file-made : stateOf s ls' os' hs' ≡ fileState file
   unfolding fileState
   file-made = made ∙ rw (els, eos, ehs)
 
-  pub all-read : {leaders choke leaders' choke' : List ℕ} → leaders' ≡ readLeaders s ls' os' hs' leaders choke → choke' ≡ readChoke s ls' os' hs' leaders choke
+  pub all-read : (leaders choke : List ℕ) {leaders' choke' : List ℕ} → leaders' ≡ readLeaders s ls' os' hs' leaders choke → choke' ≡ readChoke s ls' os' hs' leaders choke
       → (leaders' ≡ readLeaders (fileState file .small) (fileState file .links) (fileState file .order) (fileState file .holders) leaders choke)
       × (choke' ≡ readChoke (fileState file .small) (fileState file .links) (fileState file .order) (fileState file .holders) leaders choke)
-  all-read {leaders} {choke} e f =
+  all-read leaders choke e f =
       (e ∙ ap (λ (x : State). readLeaders (x .small) (x .links) (x .order) (x .holders) leaders choke) file-made, f ∙ ap (λ (x : State). readChoke (x .small) (x .links) (x .order) (x .holders) leaders choke) file-made)

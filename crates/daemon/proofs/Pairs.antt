@@ -4,7 +4,7 @@ use mathlib.Core.Path.{_≡_, refl, sym, ap, _∙_}
 use mathlib.Core.List.{List, [], _∷_, _++_}
 use native.Mathlib.Numerals.{add-one}
 use native.Mathlib.Omega.{arith}
-use lib.ListN.{length, getD, set, take, drop, length-set, length-append}
+use lib.ListN.{length, getD, set, take, drop, length-set, length-append, drop-of-length-le}
 use lib.Seq.{sets, sets-eq, drop-cons, length-sets}
 use Rattle.planner.specs.Lists.{written}
 use Rattle.daemon.specs.Plan.{lowFirst}
@@ -34,7 +34,7 @@ module _ (numbers first : List ℕ) where
 
   pub twos-end : {now : List ℕ} {i : ℕ} → Twos numbers first now i → length numbers ≤ i → now ≡ sets first 0 (lowFirst numbers)
   unfolding lowFirst
-  twos-end {now} {i} k l = rw (lib.ListN.drop-length-le i numbers l) at (k .rest)
+  twos-end {now} {i} k l = rw (drop-of-length-le numbers l) at (k .rest)
 
 -- the first i bytes are written from a place on
 pub record Ones (bytes : List ℕ) (start : ℕ) (first now : List ℕ) (i : ℕ) : Type 0 where
@@ -57,12 +57,15 @@ module _ (bytes : List ℕ) (start : ℕ) (first : List ℕ) where
       more = omega arith
 
   pub ones-end : {now : List ℕ} {i : ℕ} → Ones bytes start first now i → length bytes ≤ i → now ≡ sets first start bytes
-  ones-end {now} {i} k l = rw (lib.ListN.drop-length-le i bytes l) at (k .rest)
+  ones-end {now} {i} k l = rw (drop-of-length-le bytes l) at (k .rest)
 
 -- both parts
 sets-append : (a b l : List ℕ) (i : ℕ) → sets (sets l i a) (length a + i) b ≡ sets l i (a ++ b)
-sets-append [] b l i = refl
-sets-append (x ∷ a) b l i = rw (onward) (sets-append a b (set l i x) (suc i))
+sets-append [] b l i = ap (λ (k : ℕ). sets l k b) zeroth
+  where
+    zeroth : 0 + i ≡ i
+    zeroth = omega arith
+sets-append (x ∷ a) b l i = rw onward (sets-append a b (set l i x) (suc i))
   where
     onward : suc (length a) + i ≡ length a + suc i
     onward = omega arith
@@ -71,11 +74,14 @@ pub both-written : (n : ℕ) (numbers bytes lent : List ℕ) {mid new : List ℕ
     → mid ≡ sets lent 0 (lowFirst numbers) → new ≡ sets mid (2 * n) bytes → new ≡ written (3 * n) (lowFirst numbers ++ bytes) lent
 unfolding written
 both-written n numbers bytes lent {mid} {new} e f room g h =
-    h ∙ rw g ∙ ap (λ (k : ℕ). sets (sets lent 0 (lowFirst numbers)) k bytes) place ∙ sets-append (lowFirst numbers) bytes lent 0
-    ∙ sets-eq (lowFirst numbers ++ bytes) lent 0 (omega (arith, long)) ∙ ap (λ (k : ℕ). (lowFirst numbers ++ bytes) ++ drop k lent) (omega (arith, long))
+    h ∙ ap (λ (l : List ℕ). sets l (2 * n) bytes) g ∙ ap (λ (k : ℕ). sets (sets lent 0 (lowFirst numbers)) k bytes) place ∙ sets-append (lowFirst numbers) bytes lent 0
+    ∙ sets-eq (lowFirst numbers ++ bytes) lent 0 (omega (arith, long)) ∙ ap (λ (k : ℕ). (lowFirst numbers ++ bytes) ++ drop k lent) whole
   where
     place : 2 * n ≡ length (lowFirst numbers) + 0
     place = omega (arith, low-long numbers)
 
     long : length (lowFirst numbers ++ bytes) ≡ 3 * n
     long = omega (arith, length-append (lowFirst numbers) bytes, low-long numbers)
+
+    whole : 0 + length (lowFirst numbers ++ bytes) ≡ 3 * n
+    whole = omega (arith, long)
