@@ -1,49 +1,43 @@
+-- `with_bytes` meets its contract: the laws of Pairs.
+use borrow.Author.Needs.{needs}
+use Prim.Native.Nat.{_-_}
+use lib.ListN.{length}
+use Rattle.daemon.proofs.Pairs.{Ones, ones-start, ones-turn, ones-end}
 use Rattle.daemon.proofs.bytes.with_bytes.Statement.{statement}
 use Rattle.daemon.proofs.bytes.with_bytes.Tie as tie
-use Rattle.daemon.proofs.bytes.with_bytes.Reads as reads
-use Rattle.daemon.proofs.bytes.with_bytes.Lts as lts
 
 abbrev Inv-loop : tie.InvT-loop
-Inv-loop bytes start out₀ i₀ out i = ?
+Inv-loop bytes start out₀ i₀ out i = Ones bytes start out₀ out i
 
 abbrev μ-loop : tie.MeasureT-loop
-μ-loop bytes start out₀ i₀ out i = ?
+μ-loop bytes start out₀ i₀ out i = length bytes - i
 
--- src/bytes.rt:43:5
 loop-holds : tie.Need-loop-holds Inv-loop μ-loop
-loop-holds c = ?
+loop-holds c = ones-start _ _ _
 
--- src/bytes.rt:44:26
 shared-slice-read-out : tie.Need-shared-slice-read-out Inv-loop μ-loop
-shared-slice-read-out c = ?
+shared-slice-read-out c = search needs
 
--- src/bytes.rt:44:13
 add-out : tie.Need-add-out Inv-loop μ-loop
-add-out c = ?
+add-out c = search needs
 
--- src/bytes.rt:44:9
 slice-write-out : tie.Need-slice-write-out Inv-loop μ-loop
-slice-write-out c = ?
+slice-write-out c = search needs
 
--- src/bytes.rt:45:9
 add-i : tie.Need-add-i Inv-loop μ-loop
-add-i c = ?
+add-i c = search needs
 
--- src/bytes.rt:43:5
 loop-less : tie.Need-loop-less Inv-loop μ-loop
-loop-less c = ?
+loop-less c = search needs
 
--- src/bytes.rt:43:5
 loop-again : tie.Need-loop-again Inv-loop μ-loop
-loop-again c = ?
+loop-again c = ones-turn _ _ _ (c .before .before .loop .inv) (c .before .loop-test .taken)
 
--- src/bytes.rt:38:1
 same-length : tie.Need-same-length Inv-loop μ-loop
-same-length c = ?
+same-length c = search needs
 
--- src/bytes.rt:38:1
 returns : tie.Need-returns Inv-loop μ-loop
-returns c = ?
+returns c = ones-end _ _ _ (c .before .loop .inv) (c .loop-test .left)
 
 pub with-bytes-spec : {M : Type 1} → statement M
 with-bytes-spec =

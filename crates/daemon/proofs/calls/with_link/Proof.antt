@@ -1,38 +1,30 @@
+-- `with_link` meets its contract: the laws of Steps.
+use mathlib.Core.Path.{sym, _∙_}
+use Rattle.daemon.proofs.Steps.{link-none, link-made}
 use borrow.Author.Needs.{needs}
 use Rattle.daemon.proofs.calls.with_link.Statement.{statement}
 use Rattle.daemon.proofs.calls.with_link.Tie as tie
-use Rattle.daemon.proofs.calls.with_link.Reads as reads
-use Rattle.daemon.proofs.calls.with_link.Lts as lts
-use Rattle.planner.proofs.Small.link.Reads as link-reads
-use Rattle.plant_file.proofs.walk.link_of.Reads as link-of-reads
 
--- src/calls.rt:27:28
 link-of-requires : tie.Need-link-of-requires
 link-of-requires c κs = search needs
 
--- src/calls.rt:27:20
 enum-known-a : tie.Need-enum-known-a
 enum-known-a c = search needs
 
--- src/calls.rt:28:9
 enum-told : tie.Need-enum-told
 enum-told c = search needs
 
--- src/calls.rt:28:9
 returns : tie.Need-returns
-returns c = ?
+returns c = link-none _ _ _ _ _ (sym (c .before .before .link-of .ensures) ∙ c .enum-told .given .1)
 
--- src/calls.rt:30:5
 link-requires : tie.Need-link-requires
 link-requires c κs = search needs
 
--- src/calls.rt:17:1
 same-length : tie.Need-same-length
 same-length c = search needs
 
--- src/calls.rt:17:1
 returns-2 : tie.Need-returns-2
-returns-2 c = ?
+returns-2 c = link-made _ _ _ _ (sym (c .before .before .before .before .before .before .before .before .link-of .ensures) ∙ c .before .before .before .before .before .before .a .given .1) (c .before .before .before .link .ensures .0) (c .before .before .before .link .ensures .1)
 
 pub with-link-spec : {M : Type 1} → statement M
 with-link-spec =

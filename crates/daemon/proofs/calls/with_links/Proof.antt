@@ -1,51 +1,46 @@
+-- `with_links` meets its contract: the laws of Steps.
+use borrow.Author.Needs.{needs}
+use Prim.Native.Nat.{_-_}
+use mathlib.Core.Path.{_≡_, _∙_}
+use native.Mathlib.Omega.{arith}
+use lib.ListN.{length}
+use Rattle.daemon.specs.Pre.{stateOf}
+use Rattle.daemon.proofs.Steps.{Linking, linking-start, linking-turn, linking-end}
 use Rattle.daemon.proofs.calls.with_links.Statement.{statement}
 use Rattle.daemon.proofs.calls.with_links.Tie as tie
-use Rattle.daemon.proofs.calls.with_links.Reads as reads
-use Rattle.daemon.proofs.calls.with_links.Lts as lts
-use Rattle.daemon.proofs.calls.with_link.Reads as with-link-reads
-use Rattle.plant_file.proofs.link_count.Reads as link-count-reads
 
 abbrev Inv-loop : tie.InvT-loop
-Inv-loop file links₀ order holders m now₀ i₀ links now i = ?
+Inv-loop file links₀ order holders m now₀ i₀ links now i = Linking file (stateOf now₀ links₀ order holders) (stateOf now links order holders) i × (length links ≡ length links₀)
 
 abbrev μ-loop : tie.MeasureT-loop
-μ-loop file links₀ order holders m now₀ i₀ links now i = ?
+μ-loop file links₀ order holders m now₀ i₀ links now i = m - i
 
--- src/calls.rt:37:13
 link-count-requires : tie.Need-link-count-requires Inv-loop μ-loop
-link-count-requires c κs = ?
+link-count-requires c κs = search needs
 
--- src/calls.rt:37:13
 cast-m : tie.Need-cast-m Inv-loop μ-loop
-cast-m c = ?
+cast-m c = search needs
 
--- src/calls.rt:40:5
 loop-holds : tie.Need-loop-holds Inv-loop μ-loop
-loop-holds c = ?
+loop-holds c = (linking-start _, search needs)
 
--- src/calls.rt:41:9
 with-link-requires : tie.Need-with-link-requires Inv-loop μ-loop
-with-link-requires c κs = ?
+with-link-requires c κs = search needs
 
--- src/calls.rt:42:9
 add-i : tie.Need-add-i Inv-loop μ-loop
-add-i c = ?
+add-i c = search needs
 
--- src/calls.rt:40:5
 loop-less : tie.Need-loop-less Inv-loop μ-loop
-loop-less c = ?
+loop-less c = search needs
 
--- src/calls.rt:40:5
 loop-again : tie.Need-loop-again Inv-loop μ-loop
-loop-again c = ?
+loop-again c = (linking-turn _ (c .before .before .before .before .before .loop .inv .0) (omega arith) (c .before .before .with-link .ensures), search needs)
 
--- src/calls.rt:34:1
 same-length : tie.Need-same-length Inv-loop μ-loop
-same-length c = ?
+same-length c = search needs
 
--- src/calls.rt:34:1
 returns : tie.Need-returns Inv-loop μ-loop
-returns c = ?
+returns c = linking-end _ (c .before .loop .inv .0) (omega arith)
 
 pub with-links-spec : {M : Type 1} → statement M
 with-links-spec =

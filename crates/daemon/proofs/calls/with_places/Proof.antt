@@ -1,42 +1,40 @@
+-- `with_places` meets its contract: the laws of Steps.
+use borrow.Author.Needs.{needs}
+use Prim.Native.Nat.{_-_}
+use mathlib.Core.Path.{_≡_, _∙_}
+use native.Mathlib.Omega.{arith}
+use lib.ListN.{length}
+use Rattle.daemon.specs.Pre.{stateOf}
+use Rattle.daemon.proofs.Steps.{Placing, placing-start, placing-turn, placing-end}
 use Rattle.daemon.proofs.calls.with_places.Statement.{statement}
 use Rattle.daemon.proofs.calls.with_places.Tie as tie
-use Rattle.daemon.proofs.calls.with_places.Reads as reads
-use Rattle.daemon.proofs.calls.with_places.Lts as lts
-use Rattle.planner.proofs.Small.place.Reads as place-reads
 
 abbrev Inv-loop : tie.InvT-loop
-Inv-loop n links order holders₀ now₀ i₀ holders now i = ?
+Inv-loop n links order holders₀ now₀ i₀ holders now i = Placing n (stateOf now₀ links order holders₀) (stateOf now links order holders) i × (length holders ≡ length holders₀)
 
 abbrev μ-loop : tie.MeasureT-loop
-μ-loop n links order holders₀ now₀ i₀ holders now i = ?
+μ-loop n links order holders₀ now₀ i₀ holders now i = n - i
 
--- src/calls.rt:73:5
 loop-holds : tie.Need-loop-holds Inv-loop μ-loop
-loop-holds c = ?
+loop-holds c = (placing-start _, search needs)
 
--- src/calls.rt:74:15
 place-requires : tie.Need-place-requires Inv-loop μ-loop
-place-requires c κs = ?
+place-requires c κs = search needs
 
--- src/calls.rt:75:9
 add-i : tie.Need-add-i Inv-loop μ-loop
-add-i c = ?
+add-i c = search needs
 
--- src/calls.rt:73:5
 loop-less : tie.Need-loop-less Inv-loop μ-loop
-loop-less c = ?
+loop-less c = search needs
 
--- src/calls.rt:73:5
 loop-again : tie.Need-loop-again Inv-loop μ-loop
-loop-again c = ?
+loop-again c = (placing-turn _ (c .before .before .before .before .before .before .loop .inv .0) (c .before .before .before .before .before .loop-test .taken) (c .before .before .before .place .ensures .0) (c .before .before .before .place .ensures .1), search needs)
 
--- src/calls.rt:68:1
 same-length : tie.Need-same-length Inv-loop μ-loop
-same-length c = ?
+same-length c = search needs
 
--- src/calls.rt:68:1
 returns : tie.Need-returns Inv-loop μ-loop
-returns c = ?
+returns c = placing-end _ (c .before .loop .inv .0) (c .loop-test .left)
 
 pub with-places-spec : {M : Type 1} → statement M
 with-places-spec =

@@ -1,38 +1,29 @@
+-- `of_plan` meets its contract: the laws of Numbers.
+use Rattle.daemon.proofs.Numbers.{plan-file, plan-short-leaders, plan-short-choke, plan-fine}
 use borrow.Author.Needs.{needs}
 use Rattle.daemon.proofs.checks.of_plan.Statement.{statement}
 use Rattle.daemon.proofs.checks.of_plan.Tie as tie
-use Rattle.daemon.proofs.checks.of_plan.Reads as reads
-use Rattle.daemon.proofs.checks.of_plan.Lts as lts
-use Rattle.plant_file.proofs.gateways.Reads as gateways-reads
-use Rattle.plant_file.proofs.refusal.Reads as refusal-reads
 
--- src/checks.rt:9:9
 refusal-requires : tie.Need-refusal-requires
 refusal-requires c κs = search needs
 
--- src/checks.rt:11:9
 returns : tie.Need-returns
-returns c = ?
+returns c = plan-file _ (c .before .refusal .ensures) _ _ (c .if1 .taken)
 
--- src/checks.rt:13:13
 gateways-requires : tie.Need-gateways-requires
 gateways-requires c κs = search needs
 
--- src/checks.rt:13:13
 cast-n : tie.Need-cast-n
 cast-n c = search needs
 
--- src/checks.rt:15:9
 returns-2 : tie.Need-returns-2
-returns-2 c = ?
+returns-2 c = plan-short-leaders _ (c .before .before .before .refusal .ensures) _ _ (c .before .before .if1 .left) (c .before .gateways .ensures) (c .if2 .taken)
 
--- src/checks.rt:18:9
 returns-3 : tie.Need-returns-3
-returns-3 c = ?
+returns-3 c = plan-short-choke _ (c .before .before .before .before .refusal .ensures) _ _ (c .before .before .before .if1 .left) (c .before .before .gateways .ensures) (c .if3 .taken)
 
--- src/checks.rt:6:1
 returns-4 : tie.Need-returns-4
-returns-4 c = ?
+returns-4 c = plan-fine _ (c .before .before .before .before .refusal .ensures) _ _ (c .before .before .before .if1 .left) (c .before .before .gateways .ensures) (c .before .if2 .left) (c .if3 .left)
 
 pub of-plan-spec : {M : Type 1} → statement M
 of-plan-spec =
