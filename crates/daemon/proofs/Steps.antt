@@ -78,6 +78,9 @@ loaded file {links} {numbers} {new} f e g =
 pub fits-order : (file : List ℕ) {numbers : List ℕ} → fileRefusal file ≡ 0 → numbers ≡ replicate 1024 0 → Fits file numbers
 fits-order file z e = record { fine = z; room = rw (e, length-replicate) (file-fits file z .few) }
 
+pub few-numbers : (file : List ℕ) {n : ℕ} → n ≡ fileN file → fileRefusal file ≡ 0 → n ≤ 1024
+few-numbers file e z = omega (arith, file-fits file z .few)
+
 pub ordered : (file lent : List ℕ) (s : Small) (ls os hs : List ℕ) {n : ℕ} {l os' : List ℕ} {r : Answer} → n ≡ fileN file → l ≡ written (fileN file) (fileOrder file) lent
     → r ≡ orderAnswer s ls os hs (take n l) → os' ≡ orderOrder s ls os hs (take n l) → stateOf (r .small) ls os' hs ≡ step (stateOf s ls os hs) (order (fileOrder file))
 unfolding step
