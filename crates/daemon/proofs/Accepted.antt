@@ -66,7 +66,7 @@ module _ (file : List ℕ) (room : ℕ) where
         last = omega arith
 
         none : drop (2 * fileM file) (fileLinks file) ≡ []
-        none = drop-of-length-le (fileLinks file) (omega (arith, links-long file))
+        none = drop-of-length-le (fileLinks file) {i = 2 * fileM file} (omega (arith, links-long file))
     links-go (suc j) i e long {rest} {q} g =
         rw (pair-at (fileLinks file) (2 * i) (omega (arith, links-long file)))
         (goes-one (linksTold i) _ (link-accepted i (omega arith) (omega (arith, file-fits file z .links-few)) (file-link-fits file z i (omega arith)))

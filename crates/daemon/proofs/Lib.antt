@@ -3,3 +3,4 @@ pub mod Steps
 pub mod Pairs
 pub mod Numbers
 pub mod Accepted
+pub mod FilePlan

@@ -32,6 +32,9 @@ module _ (numbers first : List ℕ) where
       twice : 2 * (i + 1) ≡ suc (suc (2 * i))
       twice = omega arith
 
+  pub twos-room : {now : List ℕ} {i : ℕ} (a : ℕ) → Twos numbers first now i → i < length numbers → 2 * length numbers ≤ length first → 2 * i + 1 < length (set now (2 * i) a)
+  twos-room {now} {i} a k l room = rw length-set (omega (arith, k .same))
+
   pub twos-end : {now : List ℕ} {i : ℕ} → Twos numbers first now i → length numbers ≤ i → now ≡ sets first 0 (lowFirst numbers)
   unfolding lowFirst
   twos-end {now} {i} k l = rw (drop-of-length-le numbers l) at (k .rest)

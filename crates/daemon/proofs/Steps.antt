@@ -4,7 +4,7 @@ use mathlib.Core.Path.{_≡_, refl, sym, ap, _∙_}
 use mathlib.Core.List.{List, [], _∷_, _++_}
 use native.Mathlib.Numerals.{add-one}
 use native.Mathlib.Omega.{arith}
-use lib.ListN.{length, take, drop, replicate, length-replicate, drop-of-length-le}
+use lib.ListN.{length, take, drop, replicate, length-replicate, drop-of-length-le, length-append}
 use Rattle.packing.specs.Plant.{at}
 use Rattle.packing.proofs.Flat.{pair-at}
 use Rattle.planner.specs.declared.Small.{Small}
@@ -78,8 +78,9 @@ loaded file {links} {numbers} {new} f e g =
 pub fits-order : (file : List ℕ) {numbers : List ℕ} → fileRefusal file ≡ 0 → numbers ≡ replicate 1024 0 → Fits file numbers
 fits-order file z e = record { fine = z; room = rw (e, length-replicate) (file-fits file z .few) }
 
-pub few-numbers : (file : List ℕ) {n : ℕ} → n ≡ fileN file → fileRefusal file ≡ 0 → n ≤ 1024
-few-numbers file e z = omega (arith, file-fits file z .few)
+pub order-room : (file lent : List ℕ) {n : ℕ} {l : List ℕ} → n ≡ fileN file → l ≡ written (fileN file) (fileOrder file) lent → n ≤ length l
+unfolding written
+order-room file lent {n} {l} e f = rw f (omega (arith, length-append (fileOrder file) (drop (fileN file) lent), order-long file))
 
 pub ordered : (file lent : List ℕ) (s : Small) (ls os hs : List ℕ) {n : ℕ} {l os' : List ℕ} {r : Answer} → n ≡ fileN file → l ≡ written (fileN file) (fileOrder file) lent
     → r ≡ orderAnswer s ls os hs (take n l) → os' ≡ orderOrder s ls os hs (take n l) → stateOf (r .small) ls os' hs ≡ step (stateOf s ls os hs) (order (fileOrder file))

@@ -3,7 +3,7 @@ use borrow.Author.Needs.{needs}
 use Prim.Native.Nat.{_-_}
 use mathlib.Core.Path.{refl}
 use lib.ListN.{length}
-use Rattle.daemon.proofs.Pairs.{Twos, twos-start, twos-turn, twos-end}
+use Rattle.daemon.proofs.Pairs.{Twos, twos-start, twos-turn, twos-room, twos-end}
 use Rattle.daemon.proofs.bytes.with_numbers.Statement.{statement}
 use Rattle.daemon.proofs.bytes.with_numbers.Tie as tie
 
@@ -41,7 +41,7 @@ add-out : tie.Need-add-out Inv-loop μ-loop
 add-out c = search needs
 
 slice-write-out-2 : tie.Need-slice-write-out-2 Inv-loop μ-loop
-slice-write-out-2 c = search needs
+slice-write-out-2 c = twos-room _ _ _ (c .before .before .before .before .loop .inv) (c .before .before .before .loop-test .taken) (c .before .before .before .before .before .before .before .pre)
 
 add-i : tie.Need-add-i Inv-loop μ-loop
 add-i c = search needs

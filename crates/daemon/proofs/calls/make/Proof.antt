@@ -1,5 +1,6 @@
 -- `make` meets its contract: the laws of Steps.
 use Rattle.daemon.proofs.Steps.{all-made}
+use mathlib.Core.Path.{_∙_}
 use borrow.Author.Needs.{needs}
 use Rattle.daemon.proofs.calls.make.Statement.{statement}
 use Rattle.daemon.proofs.calls.make.Tie as tie
@@ -26,7 +27,7 @@ same-length : tie.Need-same-length
 same-length c = search needs
 
 same-length-2 : tie.Need-same-length-2
-same-length-2 c = search needs
+same-length-2 c = c .before .before .before .before .before .before .before .order2 .given ∙ c .before .before .before .before .before .before .before .before .before .before .before .before .before .before .before .before .before .before .before .before .before .before .order .given
 
 same-length-3 : tie.Need-same-length-3
 same-length-3 c = search needs

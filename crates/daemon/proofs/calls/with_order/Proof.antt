@@ -1,5 +1,5 @@
 -- `with_order` meets its contract: the laws of Steps.
-use Rattle.daemon.proofs.Steps.{fits-order, few-numbers, ordered}
+use Rattle.daemon.proofs.Steps.{fits-order, order-room, ordered}
 use Rattle.plant_file.proofs.Filled.{order-front-long}
 use borrow.Author.Needs.{needs}
 use Rattle.daemon.proofs.calls.with_order.Statement.{statement}
@@ -21,7 +21,7 @@ with-numbers-requires : tie.Need-with-numbers-requires
 with-numbers-requires c κs = fits-order _ (c .before .before .before .before .before .before .before .pre) (c .before .numbers .ensures)
 
 array-share-prefix-numbers : tie.Need-array-share-prefix-numbers
-array-share-prefix-numbers c = few-numbers _ (c .before .before .before .before .before .gateways .ensures) (c .before .before .before .before .before .before .before .before .before .before .pre)
+array-share-prefix-numbers c = order-room _ _ (c .before .before .before .before .before .gateways .ensures) (c .before .before .with-numbers .ensures)
 
 slice-aggregate-order : tie.Need-slice-aggregate-order
 slice-aggregate-order c = order-front-long _ _ (c .before .before .before .before .before .before .gateways .ensures) (c .before .before .before .with-numbers .ensures)
