@@ -1,0 +1,61 @@
+/* Partner groups of a plant, by T-star packing: the one call for programs in C. */
+#ifndef PLAN_GROUPS_H
+#define PLAN_GROUPS_H
+
+#include <stddef.h>
+#include <stdint.h>
+
+#ifdef __cplusplus
+extern "C" {
+#endif
+
+/* The leader entry of a gateway that is alone. */
+#define PLAN_GROUPS_ALONE 65535
+
+/*
+ * Plans the groups of the plant that a plant file describes.
+ *
+ * What the caller lends:
+ *   file     file_len bytes that may be read: the plant file.
+ *   out      out_len bytes that may be written. 3n are needed for n gateways; 3,072 are enough for
+ *            every plant.
+ * Any bytes and any lengths may be handed in. Both areas must be what they are said to be for the
+ * whole call, and they must not overlap. Nothing outside them is read or written, nothing of the file
+ * is changed, and neither pointer is kept. No alignment is needed.
+ *
+ * NULL may stand for an area of length 0. A file of no bytes is refused with 9. With an out of no
+ * bytes a plant of 0 gateways is accepted and any other gives 10 (or the file's own number).
+ *
+ * What comes back:
+ *   0        accepted: the first 3n bytes of out are written, and none past them.
+ *            out[2v], out[2v + 1]   gateway v's leader, low byte first: v itself where v leads, its
+ *                                   leader's number where it is a member, 65535 where it is alone;
+ *            out[2n + v]            1 where v is in the choke set, else 0.
+ *   else     the number of the refusal, and nothing is written.
+ *
+ * The refusals. Where several apply, the first in this turn is given; links are gone through one by
+ * one, each 3, 4, 20 before the next.
+ *
+ *    9   the file has fewer than 10 bytes
+ *    7   it does not begin with PLT
+ *    8   its version is not 1
+ *    1   n is above 1,024
+ *    2   T is below 2 or above 16
+ *   12   m is above 8,192
+ *    9   the file's length is not 10 + 4m + 2n
+ *    3   a link's end is not below n
+ *    4   both ends of a link are equal
+ *   20   a link stands there already, either way round
+ *    6   the order repeats a number or has one not below n
+ *   10   out_len is below 3n
+ *
+ * The plant file: "PLT", version, n, T, m, then m links of two ends, then the n numbers of the order.
+ * T has one byte; every other number has two, low byte first.
+ */
+uint32_t plan_groups(const uint8_t *file, size_t file_len, uint8_t *out, size_t out_len);
+
+#ifdef __cplusplus
+}
+#endif
+
+#endif

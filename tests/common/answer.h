@@ -1,0 +1,23 @@
+/* Leaders and choke set of a plant, as the call writes them or as a reference works them out. */
+#ifndef ANSWER_H
+#define ANSWER_H
+
+#include "plant.h"
+
+enum { ALONE = 65535 };
+
+struct answer {
+    int leader[MAX_GATEWAYS];
+    int choke[MAX_GATEWAYS];
+};
+
+/* What the 3n bytes of the call say. */
+void answer_read(struct answer *a, int n, const uint8_t *out);
+
+/* How many of the first k of the order are covered. */
+int answer_covered(const struct plant *p, const int *leader, int k);
+
+/* NULL, or which list differs among the first n. */
+const char *answer_differs(const struct answer *a, const struct answer *b, int n);
+
+#endif

@@ -1,0 +1,29 @@
+/* Plants of many shapes, from random numbers. */
+#ifndef FAMILIES_H
+#define FAMILIES_H
+
+#include "plant.h"
+#include "rng.h"
+
+struct family {
+    const char *name;
+    void (*link)(struct plant *p, struct rng *r); /* links an opened plant */
+    bool as_made;                                 /* links and order stay as made */
+};
+
+extern const struct family families[];
+extern const int family_count;
+
+/* A plant of n gateways of one family, mostly with gateways, links and order shuffled; limit 0 for any. */
+void family_make(const struct family *f, struct plant *p, struct rng *r, int n, int limit);
+
+/* The family of that name. */
+const struct family *family_named(const char *name);
+
+/* The graph number bits of n gateways: each bit that is set is a link. */
+void family_graph(struct plant *p, int n, int limit, int bits);
+
+/* Random links up to m of them in all. */
+void family_fill(struct plant *p, struct rng *r, int m);
+
+#endif

@@ -1,0 +1,10 @@
+/* Document 01's rules for a plant file, in its turn: which number any bytes are refused with. */
+#ifndef FILE_RULES_H
+#define FILE_RULES_H
+
+#include "plant.h"
+
+/* The refusal's number for these bytes and an out of out_len bytes. For 0 the plant is filled. */
+int file_refusal(const uint8_t *file, size_t len, size_t out_len, struct plant *p);
+
+#endif

@@ -1,0 +1,13 @@
+/*
+ * The second solver: the most that any packing can cover, by document 000's network flow (section 2.1).
+ * It knows nothing of document 01's search.
+ */
+#ifndef FLOW_H
+#define FLOW_H
+
+#include "plant.h"
+
+/* The most of the first k of the order that a T-star packing can cover. */
+int flow_most(const struct plant *p, int k);
+
+#endif

@@ -1,0 +1,24 @@
+/* The call on areas that are watched: whatever it touches outside them, or must not write, is noticed. */
+#ifndef LENT_H
+#define LENT_H
+
+#include "answer.h"
+
+enum { MAX_LENT = 1 << 18, MAX_OUT = 8192 };
+
+/* Which end of a lent area lies at memory that cannot be touched. The other end has guard bytes. */
+enum side { AT_START, AT_END };
+
+struct outcome {
+    uint32_t number;
+    const char *fault;    /* NULL, or what the call did that it must not do */
+    uint8_t out[MAX_OUT]; /* the out area after the call */
+};
+
+/* Calls plan_groups with a copy of the file and an out area of out_len bytes. */
+void lent_call(const uint8_t *file, size_t len, size_t out_len, enum side side, struct outcome *o);
+
+/* The call for a plant, with an out area just long enough. */
+void lent_plan(const struct plant *p, enum side side, struct outcome *o);
+
+#endif

@@ -1,0 +1,118 @@
+#include "placing.h"
+
+struct neighbours {
+    int start[MAX_GATEWAYS + 1];
+    int list[2 * MAX_LINKS]; /* x's, in order of arrival, from start[x] up to start[x + 1] */
+};
+
+struct search {
+    const struct plant *plant;
+    const struct neighbours *near;
+    const int *holder;
+    int queue[MAX_GATEWAYS];
+    int head, tail;
+    int seen_from[MAX_GATEWAYS]; /* NOBODY where not yet seen */
+};
+
+static void gather(const struct plant *p, struct neighbours *near)
+{
+    int count = 0;
+    for (int x = 0; x < p->n; x++) {
+        near->start[x] = count;
+        for (int i = 0; i < p->m; i++) {
+            if (p->ends[i][0] == x)
+                near->list[count++] = p->ends[i][1];
+            if (p->ends[i][1] == x)
+                near->list[count++] = p->ends[i][0];
+        }
+    }
+    near->start[p->n] = count;
+}
+
+static void begin(struct search *s, const struct plant *p, const struct neighbours *near, const int *holder)
+{
+    s->plant = p;
+    s->near = near;
+    s->holder = holder;
+    s->head = s->tail = 0;
+    for (int v = 0; v < p->n; v++)
+        s->seen_from[v] = NOBODY;
+}
+
+static int held_by(const struct search *s, int u)
+{
+    int count = 0;
+    for (int v = 0; v < s->plant->n; v++)
+        count += s->holder[v] == u;
+    return count;
+}
+
+/* What u holds joins the queue, ascending. */
+static void join(struct search *s, int u)
+{
+    for (int v = 0; v < s->plant->n; v++)
+        if (s->holder[v] == u)
+            s->queue[s->tail++] = v;
+}
+
+/* Goes on until a neighbour that holds fewer than limit is seen, and returns it; NOBODY where the queue runs out. */
+static int search(struct search *s, int limit)
+{
+    while (s->head < s->tail) {
+        int x = s->queue[s->head++];
+        for (int i = s->near->start[x]; i < s->near->start[x + 1]; i++) {
+            int u = s->near->list[i];
+            if (s->seen_from[u] != NOBODY)
+                continue;
+            s->seen_from[u] = x;
+            if (held_by(s, u) < limit)
+                return u;
+            join(s, u);
+        }
+    }
+    return NOBODY;
+}
+
+/* u takes x; x's old holder takes the gateway it was seen from; and so on until v has a holder. */
+static void take(const struct search *s, int u, int v, int *holder)
+{
+    int x;
+    do {
+        x = s->seen_from[u];
+        int old = holder[x];
+        holder[x] = u;
+        u = old;
+    } while (x != v);
+}
+
+static void place(const struct plant *p, const struct neighbours *near, int v, int *holder)
+{
+    static struct search s;
+    begin(&s, p, near, holder);
+    s.queue[s.tail++] = v;
+    int u = search(&s, p->limit);
+    if (u != NOBODY)
+        take(&s, u, v, holder);
+}
+
+void placing_all(const struct plant *p, int *holder)
+{
+    static struct neighbours near;
+    gather(p, &near);
+    for (int v = 0; v < p->n; v++)
+        holder[v] = NOBODY;
+    for (int i = 0; i < p->n; i++)
+        place(p, &near, p->order[i], holder);
+}
+
+void placing_choke(const struct plant *p, const int *holder, int *choke)
+{
+    static struct neighbours near;
+    static struct search s;
+    gather(p, &near);
+    begin(&s, p, &near, holder);
+    join(&s, NOBODY);
+    search(&s, 0); /* nobody holds fewer than 0, so that nothing is taken */
+    for (int v = 0; v < p->n; v++)
+        choke[v] = s.seen_from[v] != NOBODY;
+}

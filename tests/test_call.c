@@ -1,0 +1,104 @@
+/* The call as a program in C makes it: lengths, bounds, NULL, and no memory of earlier calls. */
+#include <string.h>
+
+#include "families.h"
+#include "judge.h"
+#include "lent.h"
+#include "plan_groups.h"
+#include "tally.h"
+
+static struct plant plant;
+static struct outcome outcome;
+static uint8_t file[MAX_FILE];
+
+static bool is_accepted(void)
+{
+    return outcome.number == 0 && outcome.fault == NULL;
+}
+
+static bool is_as_expected(const struct plant *p)
+{
+    static struct answer got, expected;
+    answer_read(&got, p->n, outcome.out);
+    judge_expect(p, &expected);
+    return answer_differs(&got, &expected, p->n) == NULL;
+}
+
+/* An out of any length from 3n on: the same answer, and nothing past it. */
+static void check_lengths(const struct plant *p, const char *name)
+{
+    static const size_t more[] = {0, 1, 2, 63, 64, 1000, MAX_OUT - 3 * MAX_GATEWAYS};
+    size_t len = plant_write(p, file);
+    for (size_t i = 0; i < sizeof more / sizeof more[0]; i++) {
+        for (int side = AT_START; side <= AT_END; side++) {
+            lent_call(file, len, 3 * (size_t)p->n + more[i], side, &outcome);
+            bool ok = is_accepted() && is_as_expected(p);
+            tally(ok, "%s, %d gateways, %zu bytes more: number %u, %s", name, p->n, more[i],
+                  (unsigned)outcome.number, outcome.fault ? outcome.fault : "the answer");
+        }
+    }
+}
+
+static void lengths(struct rng *r)
+{
+    static const int sizes[] = {0, 1, 2, 3, 5, 17, 64, 100};
+    for (size_t i = 0; i < sizeof sizes / sizeof sizes[0]; i++) {
+        const struct family *f = &families[rng_below(r, family_count)];
+        family_make(f, &plant, r, sizes[i], 0);
+        check_lengths(&plant, f->name);
+    }
+}
+
+static void no_area(void)
+{
+    uint8_t out[16];
+    memset(out, 7, sizeof out);
+    tally(plan_groups(NULL, 0, out, sizeof out) == 9 && out[0] == 7, "no file and an out area");
+    tally(plan_groups(NULL, 0, NULL, 0) == 9, "no file and no out area");
+    plant_open(&plant, 0, 2);
+    tally(plan_groups(file, plant_write(&plant, file), NULL, 0) == 0, "no gateway and no out area");
+    plant_open(&plant, 1, 2);
+    tally(plan_groups(file, plant_write(&plant, file), NULL, 0) == 10, "one gateway and no out area");
+    plant_open(&plant, 0, 1);
+    tally(plan_groups(file, plant_write(&plant, file), NULL, 0) == 2, "T = 1 and no out area");
+}
+
+/* What was called before leaves no trace. */
+static void repeated(struct rng *r)
+{
+    static struct outcome first;
+    static struct plant other;
+    for (int i = 0; i < 50; i++) {
+        family_make(&families[i % family_count], &plant, r, rng_between(r, 1, 30), 0);
+        family_make(&families[(i + 5) % family_count], &other, r, rng_between(r, 1, 60), 0);
+        lent_plan(&plant, AT_START, &first);
+        lent_plan(&other, AT_END, &outcome);
+        lent_call(file, 3, 3, AT_END, &outcome);
+        lent_plan(&plant, AT_END, &outcome);
+        tally(is_accepted() && memcmp(first.out, outcome.out, 3 * (size_t)plant.n) == 0, "the same plant again, %d", i);
+    }
+}
+
+/* Every address is good: the areas begin at odd and even ones. */
+static void alignments(struct rng *r)
+{
+    static uint8_t moved[MAX_FILE + 8], out[3 * 32 + 8];
+    family_make(family_named("sparse"), &plant, r, 32, 2);
+    size_t len = plant_write(&plant, file);
+    lent_call(file, len, 3 * 32, AT_START, &outcome);
+    for (int i = 0; i < 8; i++) {
+        memcpy(moved + i, file, len);
+        uint32_t number = plan_groups(moved + i, len, out + 7 - i, 3 * 32);
+        tally(number == 0 && memcmp(out + 7 - i, outcome.out, 3 * 32) == 0, "areas %d bytes on", i);
+    }
+}
+
+int main(void)
+{
+    struct rng r = {2};
+    lengths(&r);
+    no_area();
+    repeated(&r);
+    alignments(&r);
+    return tally_end();
+}

@@ -1,0 +1,148 @@
+/* Damaged files by the thousand: the call gives the number that the file's rules give, or a right answer. */
+#include <string.h>
+
+#include "families.h"
+#include "file_rules.h"
+#include "judge.h"
+#include "lent.h"
+#include "tally.h"
+
+enum { FILES = 12000, ROOM = 8192, NUMBERS = 21, WAYS = 12 };
+
+static uint8_t file[ROOM];
+static size_t len;
+
+/* One to four bytes become anything. */
+static void flip(struct rng *r)
+{
+    for (int times = rng_between(r, 1, 4); times > 0 && len > 0; times--)
+        file[rng_below(r, (int)len)] ^= (uint8_t)rng_between(r, 1, 255);
+}
+
+static void cut(struct rng *r)
+{
+    len -= (size_t)rng_below(r, (int)len + 1);
+}
+
+static void extend(struct rng *r)
+{
+    for (int more = rng_between(r, 1, 40); more > 0; more--)
+        file[len++] = (uint8_t)rng_below(r, 256);
+}
+
+static void remove_byte(struct rng *r)
+{
+    size_t at = (size_t)rng_below(r, (int)len);
+    memmove(file + at, file + at + 1, len - at - 1);
+    len--;
+}
+
+static void insert_byte(struct rng *r)
+{
+    size_t at = (size_t)rng_below(r, (int)len);
+    memmove(file + at + 1, file + at, len - at);
+    file[at] = (uint8_t)rng_below(r, 256);
+    len++;
+}
+
+/* A number of the header or the body becomes one near a bound. */
+static void bound(struct rng *r)
+{
+    static const int header[] = {3, 5, 7, 8};
+    int n = get_number(file + 5);
+    const int values[] = {0, 1, 2, 16, 17, n - 1, n, n + 1, 1024, 1025, 8192, 8193, 65535};
+    int body = ((int)len - HEADER) / 2;
+    int at = body == 0 || rng_below(r, 3) == 0 ? header[rng_below(r, 4)] : HEADER + 2 * rng_below(r, body);
+    put_number(file + at, values[rng_below(r, 13)] & 65535);
+}
+
+/* One number of the body is copied over another: links and orders that repeat. */
+static void copy_numbers(struct rng *r)
+{
+    int body = ((int)len - HEADER) / 4;
+    if (body < 2)
+        return;
+    int from = HEADER + 4 * rng_below(r, body), to = HEADER + 4 * rng_below(r, body);
+    memcpy(file + to, file + from, rng_below(r, 2) == 0 ? 4 : 2);
+}
+
+/* Two links or two numbers of the order change places, which is often no damage. */
+static void swap_numbers(struct rng *r)
+{
+    int body = ((int)len - HEADER) / 2;
+    if (body < 2)
+        return;
+    uint8_t *a = file + HEADER + 2 * rng_below(r, body), *b = file + HEADER + 2 * rng_below(r, body);
+    int kept = get_number(a);
+    put_number(a, get_number(b));
+    put_number(b, kept);
+}
+
+/* Another m or n, and the length that the header then gives. */
+static void refit(struct rng *r)
+{
+    size_t before = len;
+    file[rng_below(r, 2) == 0 ? 5 : 8] ^= (uint8_t)rng_between(r, 1, 7);
+    len = (size_t)HEADER + 4 * (size_t)get_number(file + 8) + 2 * (size_t)get_number(file + 5);
+    for (size_t i = before; i < len; i++)
+        file[i] = (uint8_t)(i % 2 == 0 ? rng_below(r, 8) : 0);
+}
+
+static void noise(struct rng *r)
+{
+    len = (size_t)rng_below(r, 60);
+    for (size_t i = 0; i < len; i++)
+        file[i] = (uint8_t)rng_below(r, 256);
+    if (len > 3 && rng_below(r, 2) == 0)
+        memcpy(file, "PLT", 3);
+}
+
+static void (*const ways[WAYS])(struct rng *) = {
+    flip, flip, cut, extend, remove_byte, insert_byte, bound, bound, copy_numbers, swap_numbers, refit, noise,
+};
+
+static const char *fault_of(const struct plant *p, const struct outcome *o, int number)
+{
+    static struct answer got, expected;
+    if (o->fault != NULL)
+        return o->fault;
+    if ((int)o->number != number)
+        return "another number";
+    if (number != 0)
+        return NULL;
+    answer_read(&got, p->n, o->out);
+    judge_expect(p, &expected);
+    return answer_differs(&got, &expected, p->n);
+}
+
+/* Calls with the damaged file; returns the number that the rules give. */
+static int check(struct rng *r, int which)
+{
+    static struct plant p;
+    static struct outcome o;
+    size_t out_len = (size_t)(rng_below(r, 8) == 0 ? rng_below(r, 60) : 4096);
+    int number = file_refusal(file, len, out_len, &p);
+    lent_call(file, len, out_len, rng_below(r, 2) == 0 ? AT_START : AT_END, &o);
+    const char *fault = fault_of(&p, &o, number);
+    tally(fault == NULL, "damaged file %d: %s; the call gives %u, the rules %d", which, fault, (unsigned)o.number, number);
+    return number;
+}
+
+int main(void)
+{
+    static struct plant p;
+    static const int all[] = {0, 1, 2, 3, 4, 6, 7, 8, 9, 10, 12, 20};
+    int seen[NUMBERS] = {0};
+    struct rng r = {4};
+
+    for (int i = 0; i < FILES; i++) {
+        family_make(&families[rng_below(&r, family_count)], &p, &r, rng_between(&r, 0, 20), 0);
+        len = plant_write(&p, file);
+        ways[i % WAYS](&r);
+        seen[check(&r, i)]++;
+    }
+    /* the damage reaches every refusal */
+    for (size_t i = 0; i < sizeof all / sizeof all[0]; i++)
+        tally(seen[all[i]] >= 10, "only %d damaged files met number %d", seen[all[i]], all[i]);
+    return tally_end();
+}

@@ -1,0 +1,197 @@
+/*
+ * The listing program, run in a folder of its own and compared byte by byte.
+ * Arguments: the program, an empty folder to work in, the plant file of document 01's listing.
+ */
+#define _POSIX_C_SOURCE 200809L
+#include <fcntl.h>
+#include <stdio.h>
+#include <stdlib.h>
+#include <string.h>
+#include <sys/wait.h>
+#include <unistd.h>
+
+#include "families.h"
+#include "file_rules.h"
+#include "judge.h"
+#include "listing_text.h"
+#include "tally.h"
+
+enum { MAX_PLANT = 1 << 20 };
+
+static const char *program;
+static struct plant plant;
+static uint8_t file[MAX_PLANT];
+static size_t len;
+static char listed[MAX_TEXT + 1], expected[MAX_TEXT + 1];
+
+static size_t load(const char *name, void *at, size_t most)
+{
+    FILE *f = fopen(name, "rb");
+    if (f == NULL)
+        return 0;
+    size_t got = fread(at, 1, most, f);
+    fclose(f);
+    return got;
+}
+
+static void store_plant(void)
+{
+    FILE *f = fopen("plant.plt", "wb");
+    if (f == NULL || fwrite(file, 1, len, f) != len || fclose(f) != 0) {
+        perror("plant.plt");
+        exit(2);
+    }
+}
+
+static void run_program(void)
+{
+    int in = open("/dev/null", O_RDONLY);
+    int out = open("listed", O_WRONLY | O_CREAT | O_TRUNC, 0666);
+    if (in < 0 || out < 0 || dup2(in, 0) < 0 || dup2(out, 1) < 0)
+        _exit(126);
+    execl(program, program, (char *)NULL);
+    _exit(127);
+}
+
+/* Runs the program; false where it ends badly. What it printed is then in listed. */
+static bool list(size_t *length)
+{
+    int status;
+    fflush(stdout);
+    pid_t child = fork();
+    if (child == 0)
+        run_program();
+    if (child < 0 || waitpid(child, &status, 0) != child || !WIFEXITED(status) || WEXITSTATUS(status) != 0)
+        return false;
+    *length = load("listed", listed, MAX_TEXT);
+    return true;
+}
+
+static void expect(const char *text, size_t length, const char *what, int which)
+{
+    size_t got = 0;
+    bool ok = list(&got) && got == length && memcmp(listed, text, length) == 0;
+    listed[got] = 0;
+    tally(ok, "%s (%d): printed\n%.400s", what, which, listed);
+}
+
+static void expect_refused(int number, const char *what, int which)
+{
+    int length = sprintf(expected, "refused %d\n", number);
+    store_plant();
+    expect(expected, (size_t)length, what, which);
+}
+
+static void expect_listing(const char *what, int which)
+{
+    static struct answer a;
+    judge_expect(&plant, &a);
+    len = plant_write(&plant, file);
+    store_plant();
+    expect(expected, listing_text(&plant, &a, expected), what, which);
+}
+
+static const char document_listing[] =
+    "gateways 5 limit 2 covered 5\n"
+    "lead 0: 3 4\n"
+    "lead 1: 2\n"
+    "alone:\n"
+    "choke:\n";
+
+static void fill_document_plant(void)
+{
+    static const int ends[4][2] = {{0, 2}, {0, 3}, {0, 4}, {1, 2}};
+    static const int order[5] = {2, 3, 4, 0, 1};
+    plant_open(&plant, 5, 2);
+    for (int i = 0; i < 4; i++)
+        plant_link(&plant, ends[i][0], ends[i][1]);
+    memcpy(plant.order, order, sizeof order);
+    len = plant_write(&plant, file);
+}
+
+static void document_plant(const uint8_t *sample, size_t sample_len)
+{
+    fill_document_plant();
+    tally(len == sample_len && memcmp(file, sample, len) == 0, "the sample is another plant than document 01's");
+    store_plant();
+    expect(document_listing, strlen(document_listing), "document 01's listing", 0);
+}
+
+/* Every way in which the document's plant can be cut or a byte of it be changed a little. */
+static void refused_files(void)
+{
+    static struct plant unused;
+    fill_document_plant();
+    size_t full = len;
+    for (len = 0; len < full; len++)
+        expect_refused(9, "cut to", (int)len);
+    for (size_t i = 0; i < full; i++) {
+        fill_document_plant();
+        file[i] = (uint8_t)(file[i] ^ 0x40);
+        expect_refused(file_refusal(file, len, 3 * MAX_GATEWAYS, &unused), "changed byte", (int)i);
+    }
+}
+
+static void missing_file(void)
+{
+    remove("plant.plt");
+    expect("refused 9\n", 10, "no plant file", 0);
+}
+
+static void long_files(void)
+{
+    static const size_t lengths[] = {MAX_FILE, MAX_FILE + 1, MAX_FILE + 2, 40000, 65536, 65572, 70000, MAX_PLANT};
+    for (size_t i = 0; i < sizeof lengths / sizeof lengths[0]; i++) {
+        memset(file, 0, sizeof file);
+        fill_document_plant();
+        len = lengths[i];
+        expect_refused(9, "too long", (int)len);
+        file[1] = 'Q';
+        expect_refused(7, "too long, and not PLT", (int)len);
+        fill_document_plant();
+        file[7] = 1;
+        len = lengths[i];
+        expect_refused(2, "too long, and T = 1", (int)len);
+    }
+}
+
+static void small_plants(struct rng *r)
+{
+    for (int n = 0; n <= 2; n++) {
+        plant_open(&plant, n, 16);
+        expect_listing("no links", n);
+    }
+    for (int i = 0; i < 10 * family_count; i++) {
+        family_make(&families[i % family_count], &plant, r, rng_between(r, 3, 40), 0);
+        expect_listing(families[i % family_count].name, i);
+    }
+}
+
+/* The longest file that there is, and one a byte longer. */
+static void longest_file(struct rng *r)
+{
+    plant_open(&plant, MAX_GATEWAYS, 3);
+    family_fill(&plant, r, MAX_LINKS);
+    expect_listing("the longest file", plant.m);
+    len++;
+    expect_refused(9, "the longest file and a byte more", plant.m);
+}
+
+int main(int argc, char **argv)
+{
+    static uint8_t sample[100];
+    struct rng r = {7};
+    if (argc != 4)
+        return 2;
+    size_t sample_len = load(argv[3], sample, sizeof sample);
+    program = argv[1];
+    if (chdir(argv[2]) != 0)
+        return 2;
+    document_plant(sample, sample_len);
+    refused_files();
+    missing_file();
+    long_files();
+    small_plants(&r);
+    longest_file(&r);
+    return tally_end();
+}

@@ -1,0 +1,76 @@
+/* Plants of many shapes: the answer is a packing, as good as the flow's over every first k, and the rules' own. */
+#include "families.h"
+#include "judge.h"
+#include "tally.h"
+
+static struct plant plant;
+
+static void check(const char *name, int number, struct rng *r)
+{
+    const char *fault = judge_plant(&plant, r);
+    tally(fault == NULL, "%s %d: %s", name, number, fault);
+    if (fault != NULL)
+        plant_print(&plant);
+}
+
+static void some_of_each(struct rng *r, int count, int low, int high)
+{
+    for (int f = 0; f < family_count; f++) {
+        for (int i = 0; i < count; i++) {
+            family_make(&families[f], &plant, r, rng_between(r, low, high), 0);
+            check(families[f].name, i, r);
+        }
+    }
+}
+
+static void reverse(int *list, int from, int end)
+{
+    while (from < --end) {
+        int kept = list[from];
+        list[from++] = list[end];
+        list[end] = kept;
+    }
+}
+
+/* The next order in the dictionary's sense; false after the last. */
+static bool next_order(int *order, int n)
+{
+    int i = n - 1, j = n - 1;
+    while (i > 0 && order[i - 1] > order[i])
+        i--;
+    if (i <= 0)
+        return false;
+    while (order[j] < order[i - 1])
+        j--;
+    int kept = order[j];
+    order[j] = order[i - 1];
+    order[i - 1] = kept;
+    reverse(order, i, n);
+    return true;
+}
+
+/* Every graph of n gateways in every order. */
+static void every_plant(int n, int limit, struct rng *r)
+{
+    for (int bits = 0; bits < 1 << (n * (n - 1) / 2); bits++) {
+        family_graph(&plant, n, limit, bits);
+        do {
+            check("graph", bits, r);
+        } while (next_order(plant.order, n));
+    }
+}
+
+int main(void)
+{
+    struct rng r = {5};
+    for (int n = 0; n <= 3; n++)
+        for (int limit = 2; limit <= 16; limit += 7)
+            every_plant(n, limit, &r);
+    every_plant(4, 2, &r);
+    every_plant(4, 3, &r);
+    some_of_each(&r, 10, 0, 2);
+    some_of_each(&r, 250, 3, 12);
+    some_of_each(&r, 60, 13, 40);
+    some_of_each(&r, 12, 41, 120);
+    return tally_end();
+}

@@ -1,0 +1,67 @@
+/* Which refusal is named where several apply. */
+#include "spoiled.h"
+#include "tally.h"
+
+/* The faults in the turn in which they are named, the links' on three links one after the other. */
+static void spoil_magic(void) { file[0] = 'Q'; }
+static void spoil_version(void) { put_number(file + 3, 2); }
+static void spoil_n(void) { put_number(file + 5, 1025); }
+static void spoil_limit(void) { file[7] = 17; }
+static void spoil_m(void) { put_number(file + 8, 8193); }
+static void spoil_length(void) { len++; }
+static void spoil_end(void) { put_link(1, 0, N); }
+static void spoil_equal(void) { put_link(2, 1, 1); }
+static void spoil_again(void) { put_link(3, 1, 0); }
+static void spoil_order(void) { put_number(file + HEADER + 4 * LINKS, N - 1); }
+static void spoil_out(void) { out_len--; }
+static void spoil_header(void) { len = HEADER - 1; }
+
+static const struct {
+    int number;
+    void (*spoil)(void);
+} faults[] = {
+    {9, spoil_header}, {7, spoil_magic}, {8, spoil_version}, {1, spoil_n}, {2, spoil_limit}, {12, spoil_m},
+    {9, spoil_length}, {3, spoil_end}, {4, spoil_equal}, {20, spoil_again}, {6, spoil_order}, {10, spoil_out},
+};
+
+enum { FAULTS = sizeof faults / sizeof faults[0] };
+
+/* Any of the faults together give the first in turn. The last are spoiled first, so that none hides. */
+static void turns(void)
+{
+    for (int bits = 0; bits < 1 << FAULTS; bits++) {
+        int first = 0;
+        base();
+        for (int i = FAULTS - 1; i >= 0; i--) {
+            if (bits >> i & 1) {
+                faults[i].spoil();
+                first = faults[i].number;
+            }
+        }
+        expect(first, "faults together", bits);
+    }
+}
+
+/* Each link gives its number before the next is looked at, whatever the next one's number is. */
+static void link_turns(void)
+{
+    static const struct {
+        int number, a, b;
+    } bad[] = {{3, N, 0}, {3, 0, N}, {4, 2, 2}, {20, 0, 1}, {20, 1, 0}};
+    for (int i = 0; i < 5; i++) {
+        for (int j = 0; j < 5; j++) {
+            base();
+            put_link(2, bad[i].a, bad[i].b);
+            put_link(4, bad[j].a, bad[j].b);
+            put_number(order_at(0), N);
+            expect(bad[i].number, "two links at fault", 10 * i + j);
+        }
+    }
+}
+
+int main(void)
+{
+    turns();
+    link_turns();
+    return tally_end();
+}
