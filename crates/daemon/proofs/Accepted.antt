@@ -1,19 +1,17 @@
 -- Every call that an accepted file stands for is accepted, and they tell the file's plant.
 use Prim.Native.Nat.{ℕ, zero, suc, _+_, _*_, _<_, _≤_}
 use mathlib.Core.Path.{_≡_, refl, sym, ap, _∙_}
-use mathlib.Core.Bool.{Bool, true, false, not, _||_}
+use mathlib.Core.Bool.{false}
 use mathlib.Core.List.{List, [], _∷_, _++_}
-use native.Mathlib.Numerals.{add-one}
 use native.Mathlib.Omega.{arith}
-use lib.Dec.{eqb, ltb, leb}
 use lib.ListN.{length, take, drop, replicate, drop-of-length-le}
 use lib.Seq.{take-all, take-add}
-use borrow.Author.Tests.{lt-ltb, le-ltb, lt-leb, eq-eqb, ne-eqb}
-use Rattle.packing.specs.Plant.{at, linked}
+use borrow.Author.Tests.{le-ltb, lt-leb, eq-eqb, ne-eqb}
+use Rattle.packing.specs.Plant.{at}
 use Rattle.packing.proofs.Tests.{or-none}
 use Rattle.packing.proofs.Flat.{pair-at}
 use Rattle.planner.specs.Lists.{upTo, repeatsOrOutside}
-use Rattle.planner.specs.Refusals.{refuse, openRefusal, linkConditions, orderConditions, placeConditions, readConditions}
+use Rattle.planner.specs.Refusals.{openRefusal, linkConditions, orderConditions, placeConditions, readConditions}
 use Rattle.planner.specs.Told.{Call, Told, link, order, place, read, beginning, refuses, accepted, tellOne, tell, toldNumbers}
 use Rattle.planner.specs.Cases.{linkCalls, placeCalls}
 use Rattle.planner.proofs.Answers.{refuse-none}
@@ -21,7 +19,7 @@ use Rattle.plant_file.specs.PlantFile.{fileN, fileT, fileM, fileLinks, fileOrde
 use Rattle.plant_file.specs.Pre.{headerRefusal}
 use Rattle.plant_file.proofs.Steps.{links-long, order-long}
 use Rattle.plant_file.proofs.Parts.{first-none, bodyRefusal, file-parts}
-use Rattle.plant_file.proofs.Accepted.{LinkFits, FileFits, file-fits, file-link-fits}
+use Rattle.plant_file.proofs.Accepted.{LinkFits, file-fits, file-link-fits}
 use Rattle.daemon.specs.Plan.{fileCalls}
 
 -- all accepted, and what they tell

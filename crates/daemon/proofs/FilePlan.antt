@@ -1,31 +1,26 @@
 -- The plan of an accepted file: every call is accepted, what is written, and that it is the claim of specs/Claim.antt.
-use Prim.Native.Nat.{ℕ, _+_, _*_, _<_, _≤_}
+use Prim.Native.Nat.{ℕ, _+_, _*_, _≤_}
 use mathlib.Core.Path.{_≡_, refl, sym, ap, _∙_}
-use mathlib.Core.Bool.{not}
-use mathlib.Core.List.{List, [], _∷_, _++_, append-nil}
+use mathlib.Core.List.{List, _++_, append-nil}
 use native.Mathlib.Omega.{arith}
-use lib.Dec.{eqb}
 use lib.ListN.{length, take, drop, replicate, length-append, length-replicate, drop-of-length-le}
 use lib.Seq.{take-at, sets}
-use Rattle.packing.specs.Count.{count, listOf}
-use Rattle.packing.specs.Plant.{at, common, linked}
-use Rattle.packing.specs.Grouping.{Grouping, covered, coveredFirst}
-use Rattle.packing.specs.Choke.{ChokeDifference}
+use Rattle.packing.specs.Count.{listOf}
+use Rattle.packing.specs.Plant.{at}
 use Rattle.packing.proofs.Lists.{listOf-length}
 use Rattle.stars.specs.Stars.{leaderList}
 use Rattle.choke.specs.ChokeSet.{chokeByte}
 use Rattle.planner.specs.Lists.{written}
 use Rattle.planner.specs.Refusals.{openRefusal}
-use Rattle.planner.specs.Calls.{byNumber, readAnswer, readLeaders, readChoke}
+use Rattle.planner.specs.Calls.{readAnswer, readLeaders, readChoke}
 use Rattle.planner.specs.Told.{Told, read, beginning, refuses, tell}
-use Rattle.planner.specs.Run.{State, afterOpen, answers, runNumbers}
+use Rattle.planner.specs.Run.{afterOpen, answers, runNumbers}
 use Rattle.planner.specs.Claims.{toldBy, SameNumbers, DemandTwo, DemandThree}
 use Rattle.planner.proofs.Agree.{Agrees, same-number, run-agrees, open-agrees}
 use Rattle.planner.proofs.Demands.{same-numbers-told, demand-two, demand-three}
-use Rattle.plant_file.specs.PlantFile.{fileN, fileT, fileM, fileLinks, fileOrder, fileRefusal}
+use Rattle.plant_file.specs.PlantFile.{fileN, fileT, fileLinks, fileRefusal}
 use Rattle.plant_file.proofs.Accepted.{file-fits}
 use Rattle.daemon.specs.Plan.{fileCalls, fileState, planRefusal, planLeaders, planChoke, fileLeaders, fileChoke, lowFirst, planBytes}
-use Rattle.daemon.specs.Pre.{Roomy}
 use Rattle.daemon.specs.Claim.{FilePlan}
 use Rattle.daemon.proofs.Numbers.{plan-fine, plan-room}
 use Rattle.daemon.proofs.Accepted.{Goes, placedTold, file-goes, open-accepted, read-accepted}

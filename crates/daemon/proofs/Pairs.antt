@@ -1,11 +1,11 @@
 -- The loops that write a plan's bytes.
-use Prim.Native.Nat.{ℕ, zero, suc, _+_, _*_, _/_, _%_, _<_, _≤_}
-use mathlib.Core.Path.{_≡_, refl, sym, ap, _∙_}
+use Prim.Native.Nat.{ℕ, suc, _+_, _*_, _/_, _%_, _<_, _≤_}
+use mathlib.Core.Path.{_≡_, refl, ap, _∙_}
 use mathlib.Core.List.{List, [], _∷_, _++_}
 use native.Mathlib.Numerals.{add-one}
 use native.Mathlib.Omega.{arith}
-use lib.ListN.{length, getD, set, take, drop, length-set, length-append, drop-of-length-le}
-use lib.Seq.{sets, sets-eq, drop-cons, length-sets}
+use lib.ListN.{length, getD, set, drop, length-set, length-append, drop-of-length-le}
+use lib.Seq.{sets, sets-eq, drop-cons}
 use Rattle.planner.specs.Lists.{written}
 use Rattle.daemon.specs.Plan.{lowFirst}
 

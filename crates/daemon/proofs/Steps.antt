@@ -11,7 +11,7 @@ use Rattle.planner.specs.declared.Small.{Small}
 use Rattle.planner.specs.declared.Answer.{Answer}
 use Rattle.planner.specs.Lists.{written}
 use Rattle.planner.specs.Calls.{byNumber, openAnswer, openOrder, openHolders, linkAnswer, linkLinks, orderAnswer, orderOrder, placeAnswer, placeHolders, readLeaders, readChoke}
-use Rattle.planner.specs.Told.{Call, link, order, place}
+use Rattle.planner.specs.Told.{Call, order, place}
 use Rattle.planner.specs.Run.{State, afterOpen, step, run}
 use Rattle.planner.specs.Claims.{madeBy}
 use Rattle.planner.specs.Cases.{linkCalls, placeCalls}
@@ -19,7 +19,7 @@ use Rattle.plant_file.specs.declared.walk.Step.{Step}
 use Rattle.plant_file.specs.declared.walk.Step.the-variants.{Link, End}
 use Rattle.plant_file.specs.PlantFile.{fileN, fileT, fileM, fileLinks, fileOrder, fileRefusal}
 use Rattle.plant_file.specs.Walk.{linkAt}
-use Rattle.plant_file.specs.Load.{loadRefusal, loadOrder}
+use Rattle.plant_file.specs.Load.{loadOrder}
 use Rattle.plant_file.proofs.Steps.{links-long, order-long, step-at}
 use Rattle.plant_file.proofs.Filled.{written-front}
 use Rattle.plant_file.proofs.Parts.{load-fine}

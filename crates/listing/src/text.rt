@@ -1,6 +1,5 @@
 // The text for a file's bytes: its listing, or its refusal.
 ghost use mathlib.Core.Path.{_≡_};
-ghost use Prim.Native.Nat.{_≤_};
 ghost use lib.ListN.{length, replicate};
 ghost use lib.Seq.{sets};
 ghost use Rattle.listing.specs.Listed.{fileText};

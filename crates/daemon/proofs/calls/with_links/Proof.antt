@@ -1,7 +1,7 @@
 -- `with_links` meets its contract: the laws of Steps.
 use borrow.Author.Needs.{needs}
 use Prim.Native.Nat.{_-_}
-use mathlib.Core.Path.{_≡_, _∙_}
+use mathlib.Core.Path.{_≡_}
 use native.Mathlib.Omega.{arith}
 use lib.ListN.{length}
 use Rattle.daemon.specs.Pre.{stateOf}

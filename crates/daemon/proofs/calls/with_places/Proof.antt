@@ -1,8 +1,7 @@
 -- `with_places` meets its contract: the laws of Steps.
 use borrow.Author.Needs.{needs}
 use Prim.Native.Nat.{_-_}
-use mathlib.Core.Path.{_≡_, _∙_}
-use native.Mathlib.Omega.{arith}
+use mathlib.Core.Path.{_≡_}
 use lib.ListN.{length}
 use Rattle.daemon.specs.Pre.{stateOf}
 use Rattle.daemon.proofs.Steps.{Placing, placing-start, placing-turn, placing-end}
