@@ -1,7 +1,8 @@
 -- Worked examples of the choke bytes.
 use mathlib.Core.Path.{_≡_, refl}
 use mathlib.Core.List.{[], _∷_}
-use Rattle.packing.specs.Count.{sum, count, listOf, listWhere}
+use Rattle.packing.specs.Count.{sum, count}
+use Rattle.packing.specs.Lists.{listOf, listWhere}
 use Rattle.packing.specs.Plant.{common, neighbours}
 use Rattle.packing.specs.Holders.{holds}
 use Rattle.search.specs.Search.{heldBy, look, visit, turn, turns, walk}

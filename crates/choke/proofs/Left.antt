@@ -11,7 +11,8 @@ use lib.Dec.{eqb}
 use lib.ListN.{length, set, take, length-append, length-set}
 use lib.Seq.{take-suc-set}
 use borrow.Author.Tests.{eqb-true, eq-eqb, lt-ltb, le-ltb, not-true}
-use Rattle.packing.specs.Count.{pick, sum, count, listWhere}
+use Rattle.packing.specs.Count.{pick, sum, count}
+use Rattle.packing.specs.Lists.{listWhere}
 use Rattle.packing.specs.Plant.{at}
 use Rattle.packing.specs.Holders.{held}
 use Rattle.packing.proofs.Tests.{below-suc, or-cases, or-l, or-r, not-i}

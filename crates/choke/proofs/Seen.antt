@@ -7,7 +7,8 @@ use native.Mathlib.Omega.{arith}
 use lib.Dec.{eqb}
 use lib.ListN.{length, take, drop, replicate, length-replicate}
 use borrow.Author.Tests.{eq-eqb, ne-eqb}
-use Rattle.packing.specs.Count.{pick, listOf}
+use Rattle.packing.specs.Count.{pick}
+use Rattle.packing.specs.Lists.{listOf}
 use Rattle.packing.specs.Plant.{NONE, at, common}
 use Rattle.search.specs.Search.{Search, seen, walk}
 use Rattle.search.specs.declared.Walked.{Walked}

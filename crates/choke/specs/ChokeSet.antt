@@ -3,7 +3,8 @@
 use Prim.Native.Nat.{ℕ}
 use mathlib.Core.Bool.{Bool, not}
 use mathlib.Core.List.{List}
-use Rattle.packing.specs.Count.{pick, listWhere}
+use Rattle.packing.specs.Count.{pick}
+use Rattle.packing.specs.Lists.{listWhere}
 use Rattle.packing.specs.Plant.{at, common}
 use Rattle.packing.specs.Holders.{held}
 use Rattle.search.specs.Search.{Search, found, more, seen, walk}

@@ -5,7 +5,8 @@ ghost use mathlib.Core.List.{_++_};
 ghost use Prim.Native.Nat.{_≤_};
 ghost use lib.Dec.{eqb};
 ghost use lib.ListN.{length, drop};
-ghost use Rattle.packing.specs.Count.{pick, listOf};
+ghost use Rattle.packing.specs.Count.{pick};
+ghost use Rattle.packing.specs.Lists.{listOf};
 ghost use Rattle.packing.specs.Plant.{NONE};
 ghost use Rattle.choke.specs.Pre.{seenByte};
 

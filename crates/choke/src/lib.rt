@@ -6,7 +6,7 @@ use search::walk::walk;
 ghost use mathlib.Core.Path.{_≡_};
 ghost use mathlib.Core.List.{_++_};
 ghost use lib.ListN.{drop};
-ghost use Rattle.packing.specs.Count.{listOf};
+ghost use Rattle.packing.specs.Lists.{listOf};
 ghost use Rattle.choke.specs.ChokeSet.{chokeByte};
 ghost use Rattle.choke.specs.Pre.{Lent, Workable};
 

@@ -5,12 +5,11 @@ use mathlib.Core.List.{List, _++_, append-nil}
 use native.Mathlib.Omega.{arith}
 use lib.ListN.{length, take, drop, replicate, length-append, length-replicate, drop-of-length-le}
 use lib.Seq.{take-at, sets}
-use Rattle.packing.specs.Count.{listOf}
+use Rattle.packing.specs.Lists.{listOf, written}
 use Rattle.packing.specs.Plant.{at}
 use Rattle.packing.proofs.Lists.{listOf-length}
 use Rattle.stars.specs.Stars.{leaderList}
 use Rattle.choke.specs.ChokeSet.{chokeByte}
-use Rattle.planner.specs.Lists.{written}
 use Rattle.planner.specs.Refusals.{openRefusal}
 use Rattle.planner.specs.Calls.{readAnswer, readLeaders, readChoke}
 use Rattle.planner.specs.Told.{Told, read, beginning, refuses, tell}

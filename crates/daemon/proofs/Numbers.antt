@@ -8,7 +8,7 @@ use lib.Dec.{ltb}
 use lib.ListN.{length}
 use borrow.Author.Tests.{ltb-false, lt-ltb, le-ltb}
 use Rattle.packing.proofs.Tests.{or-l, or-r, or-none, or-false-l, or-false-r}
-use Rattle.planner.specs.Lists.{written}
+use Rattle.packing.specs.Lists.{written}
 use Rattle.planner.specs.Calls.{readLeaders, readChoke}
 use Rattle.planner.proofs.Answers.{refuse-none, refused, accepted}
 use Rattle.plant_file.specs.PlantFile.{fileN, fileRefusal}

@@ -6,7 +6,7 @@ use native.Mathlib.Numerals.{add-one}
 use native.Mathlib.Omega.{arith}
 use lib.ListN.{length, getD, set, drop, length-set, length-append, drop-of-length-le}
 use lib.Seq.{sets, sets-eq, drop-cons}
-use Rattle.planner.specs.Lists.{written}
+use Rattle.packing.specs.Lists.{written}
 use Rattle.daemon.specs.Plan.{lowFirst}
 
 pub low-long : (l : List ℕ) → length (lowFirst l) ≡ 2 * length l

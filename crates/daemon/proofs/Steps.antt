@@ -9,7 +9,7 @@ use Rattle.packing.specs.Plant.{at}
 use Rattle.packing.proofs.Flat.{pair-at}
 use Rattle.planner.specs.declared.Small.{Small}
 use Rattle.planner.specs.declared.Answer.{Answer}
-use Rattle.planner.specs.Lists.{written}
+use Rattle.packing.specs.Lists.{written}
 use Rattle.planner.specs.Calls.{byNumber, openAnswer, openOrder, openHolders, linkAnswer, linkLinks, orderAnswer, orderOrder, placeAnswer, placeHolders, readLeaders, readChoke}
 use Rattle.planner.specs.Told.{Call, order, place}
 use Rattle.planner.specs.Run.{State, afterOpen, step, run}

@@ -4,7 +4,7 @@ use mathlib.Core.Bool.{_||_}
 use mathlib.Core.List.{List, [], _∷_, _++_}
 use lib.Dec.{ltb}
 use lib.ListN.{length, replicate}
-use Rattle.planner.specs.Lists.{written}
+use Rattle.packing.specs.Lists.{written}
 use Rattle.planner.specs.Refusals.{refuse}
 use Rattle.planner.specs.Calls.{byNumber, readLeaders, readChoke}
 use Rattle.planner.specs.Told.{Call, order}

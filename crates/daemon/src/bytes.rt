@@ -3,7 +3,7 @@ ghost use mathlib.Core.Path.{_≡_};
 ghost use Prim.Native.Nat.{_+_, _*_, _≤_, _/_, _%_};
 ghost use lib.ListN.{length};
 ghost use lib.Seq.{sets};
-ghost use Rattle.planner.specs.Lists.{written};
+ghost use Rattle.packing.specs.Lists.{written};
 ghost use Rattle.plant_file.specs.PlantFile.{fileN};
 ghost use Rattle.daemon.specs.Plan.{lowFirst, planBytes};
 ghost use Rattle.daemon.specs.Pre.{Roomy};

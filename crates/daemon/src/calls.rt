@@ -5,7 +5,7 @@ ghost use mathlib.Core.Path.{_≡_};
 ghost use Rattle.planner.specs.Calls.{readLeaders, readChoke};
 ghost use Rattle.planner.specs.Told as told;
 ghost use Rattle.planner.specs.Run.{step, run};
-ghost use Rattle.planner.specs.Lists.{written};
+ghost use Rattle.packing.specs.Lists.{written};
 ghost use Rattle.planner.specs.Claims.{madeBy};
 ghost use Rattle.planner.specs.Cases.{linkCalls, placeCalls};
 ghost use Rattle.plant_file.specs.PlantFile.{fileN, fileT, fileLinks, fileOrder, fileRefusal};

@@ -1,17 +1,17 @@
 -- A grouping gives holders: a member is held by its leader, and a leader by its first member.
 -- They are feasible and hold what the grouping covers, so that what bounds all feasible holders bounds all groupings.
-use Prim.Native.Nat.{ℕ, zero, suc, _<_, _≤_}
+use Prim.Native.Nat.{ℕ, _<_, _≤_}
 use mathlib.Core.Path.{_≡_, refl, sym, _∙_}
 use mathlib.Core.Logic.{_⊎_, inl, inr, ⊎-elim}
-use mathlib.Core.Bool.{Bool, true, false, not, _&&_, _||_, cond, false≢true}
+use mathlib.Core.Bool.{Bool, true, false, not, _&&_, _||_, cond}
 use native.Mathlib.Omega.{arith}
 use lib.Dec.{eqb, ltb, leb}
 use borrow.Author.Tests.{ltb-true, lt-ltb, leb-true, eqb-true, eqb-false, eq-eqb, ne-eqb, not-true}
-use Rattle.packing.specs.Count.{count, any}
+use Rattle.packing.specs.Count.{count, firstWith}
 use Rattle.packing.specs.Plant.{NONE}
-use Rattle.packing.specs.Grouping.{Grouping, memberCount, isAlone, isLeader, isMember, covered}
+use Rattle.packing.specs.Grouping.{Grouping, follows, memberCount, isAlone, isLeader, isMember, covered}
 use Rattle.packing.specs.Holders.{held, holds, Feasible}
-use Rattle.packing.proofs.Tests.{by-bool, clash, and-l, and-r, and-i, or-cases, not-i, iff-test, any-intro}
+use Rattle.packing.proofs.Tests.{by-bool, clash, and-l, and-r, and-i, or-cases, not-i, iff-test, any-intro, first-found}
 use Rattle.packing.proofs.Sums.{count-mono, count-ext, count-find, count-unique}
 use Rattle.packing.proofs.Tight.{Tight}
 use Rattle.packing.proofs.Pairs.{tight-most}
@@ -24,26 +24,9 @@ Sym n adj = (x u : ℕ) → x < n → u < n → adj x u ≡ true → adj u x ≡
 abbrev pub Loopless : ℕ → (ℕ → ℕ → Bool) → Type 0
 Loopless n adj = (x : ℕ) → x < n → adj x x ≡ false
 
--- the smallest i below n with p, where there is one
-unfoldable pub first : ℕ → (ℕ → Bool) → ℕ
-first zero p = 0
-first (suc n) p = cond (any n p) (first n p) n
-
--- where there is one, it is below n and has p
-first-found : (n : ℕ) (p : ℕ → Bool) → any n p ≡ true → (first n p < n) × (p (first n p) ≡ true)
-unfolding first any
-first-found zero p e = absurd (false≢true e)
-first-found (suc n) p e =
-    by-bool (any n p) (λ t. rw t (let r = first-found n p t in (omega (arith, r .0), r .1)))
-    (λ f. rw f (omega arith, ⊎-elim (λ t. clash (any n p) t f) (λ t. t) (or-cases (any n p) (p n) e)))
-
--- w has v's number as its entry and is another
-abbrev follows : (ℕ → ℕ) → ℕ → ℕ → Bool
-follows g v w = eqb (g w) v && not (eqb w v)
-
 -- v's holder by the grouping g; n where g leaves v alone
 unfoldable pub groupHolder : ℕ → (ℕ → ℕ) → ℕ → ℕ
-groupHolder n g v = cond (eqb (g v) NONE) n (cond (eqb (g v) v) (first n (follows g v)) (g v))
+groupHolder n g v = cond (eqb (g v) NONE) n (cond (eqb (g v) v) (firstWith n (follows g v)) (g v))
 
 -- v is a member of u's star
 record Joins (n : ℕ) (adj : ℕ → ℕ → Bool) (g : ℕ → ℕ) (v u : ℕ) : Type 0 where
@@ -56,7 +39,7 @@ record Joins (n : ℕ) (adj : ℕ → ℕ → Bool) (g : ℕ → ℕ) (v u : ℕ
 
 module _ (n : ℕ) (limit : ℕ → ℕ) (adj : ℕ → ℕ → Bool) (g : ℕ → ℕ) (gr : Grouping n limit adj g) where
   -- the three kinds of entry
-  entry-cases : {A : Type 0} (v : ℕ) → v < n → (isAlone g v ≡ true → A) → (isLeader n limit g v ≡ true → A) → (isMember n adj g v ≡ true → A) → A
+  pub entry-cases : {A : Type 0} (v : ℕ) → v < n → (isAlone g v ≡ true → A) → (isLeader n limit g v ≡ true → A) → (isMember n adj g v ≡ true → A) → A
   unfolding Grouping
   entry-cases v l alone leads joins =
       ⊎-elim (λ q. ⊎-elim alone leads (or-cases (isAlone g v) (isLeader n limit g v) q)) joins (or-cases (isAlone g v || isLeader n limit g v) (isMember n adj g v) (gr v l))
@@ -77,7 +60,7 @@ module _ (n : ℕ) (limit : ℕ → ℕ) (adj : ℕ → ℕ → Bool) (g : ℕ �
   -- Were a gateway linked to itself, its own number would pass as a member's entry, without members or with too many: hence the premise.
   module _ (loopless : Loopless n adj) where
     -- an entry of the own number makes a leader
-    leader-within : (u : ℕ) → u < n → g u ≡ u → (u ≡ NONE → ⊥) → (1 ≤ memberCount n g u) × (memberCount n g u ≤ limit u)
+    pub leader-within : (u : ℕ) → u < n → g u ≡ u → (u ≡ NONE → ⊥) → (1 ≤ memberCount n g u) × (memberCount n g u ≤ limit u)
     leader-within u l e some =
         entry-cases u l (λ a. absurd (some (sym e ∙ eqb-true (g u) NONE a)))
         (λ a. (leb-true 1 (memberCount n g u) (and-r (eqb (g u) u) _ (and-l _ _ a)), leb-true (memberCount n g u) (limit u) (and-r (eqb (g u) u && leb 1 (memberCount n g u)) _ a)))
@@ -93,8 +76,8 @@ module _ (n : ℕ) (limit : ℕ → ℕ) (adj : ℕ → ℕ → Bool) (g : ℕ �
         (λ q.
         let own : g v ≡ v = eqb-true (g v) v q in
         let m = count-find n (follows g v) (leader-within v l own (λ r. some (own ∙ r)) .0) in
-        let (k, t) = first-found n (follows g v) (any-intro n (follows g v) (m .0) (m .1) (m .2)) in
-        let w : ℕ = first n (follows g v) in
+        let (k, t, _) = first-found n (follows g v) (any-intro n (follows g v) (m .0) (m .1) (m .2)) in
+        let w : ℕ = firstWith n (follows g v) in
         rw (e, q) (k, inr (member-joins w v k (eqb-true (g w) v (and-l _ _ t)) (λ r. some (own ∙ r)) (eqb-false w v (not-true (eqb w v) (and-r (eqb (g w) v) _ t))))))
         (λ q. let j = member-joins v (g v) l refl some (λ r. eqb-false (g v) v q (sym r)) in rw (e, q) (j .below, inl j))
 

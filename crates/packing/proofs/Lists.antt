@@ -7,7 +7,7 @@ use native.Mathlib.Numerals.{add-one}
 use native.Mathlib.Omega.{arith}
 use lib.ListN.{length, getD, set, drop, length-append, length-set, List·getD-append}
 use lib.Seq.{getD-at, drop-cons, set-at, append-snoc, ext-getD, length-front}
-use Rattle.packing.specs.Count.{listOf}
+use Rattle.packing.specs.Lists.{listOf}
 use Rattle.packing.proofs.Tests.{below-suc}
 
 pub listOf-length : (n : ℕ) (f : ℕ → ℕ) → length (listOf n f) ≡ n

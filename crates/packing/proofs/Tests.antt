@@ -6,7 +6,7 @@ use mathlib.Core.Bool.{Bool, true, false, not, _&&_, _||_, false≢true, true≢
 use native.Mathlib.Nat.{not-suc-le-zero, eq-or-lt-of-le, le-of-suc-le-suc}
 use native.Mathlib.Numerals.{add-one}
 use native.Mathlib.Omega.{arith}
-use Rattle.packing.specs.Count.{all, any}
+use Rattle.packing.specs.Count.{all, any, firstWith}
 
 -- cases of a test, with the equation
 pub by-bool : {A : Type 0} (b : Bool) → (b ≡ true → A) → (b ≡ false → A) → A
@@ -139,3 +139,11 @@ any-none n p h = not-test (any n p) (λ t. let r = any-elim n p t in clash (p (r
 
 pub any-fails : (n : ℕ) (p : ℕ → Bool) → any n p ≡ false → (i : ℕ) → i < n → p i ≡ false
 any-fails n p e i l = not-test (p i) (λ t. clash (any n p) (any-intro n p i l t) e)
+
+-- where there is one with p, the first is below n, has p, and is the least
+pub first-found : (n : ℕ) (p : ℕ → Bool) → any n p ≡ true → (firstWith n p < n) × (p (firstWith n p) ≡ true) × ((i : ℕ) → i < firstWith n p → p i ≡ false)
+unfolding firstWith any
+first-found zero p e = absurd (false≢true e)
+first-found (suc n) p e =
+    by-bool (any n p) (λ t. rw t (let (l, q, low) = first-found n p t in (omega arith, q, low)))
+    (λ f. let t : p n ≡ true = ⊎-elim (λ q. clash (any n p) q f) (λ q. q) (or-cases (any n p) (p n) e) in rw (f, t) (omega arith, t, any-fails n p f))

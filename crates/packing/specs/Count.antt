@@ -1,7 +1,6 @@
 -- Counts and sums over the gateways below n. Sets of gateways are functions to Bool.
 use Prim.Native.Nat.{ℕ, zero, suc, _+_}
 use mathlib.Core.Bool.{Bool, true, false, cond, _&&_, _||_}
-use mathlib.Core.List.{List, [], _∷_, _++_}
 
 -- a number where a test holds, and 0 where it does not
 abbrev pub pick : Bool → ℕ → ℕ
@@ -31,12 +30,7 @@ unfoldable pub any : ℕ → (ℕ → Bool) → Bool
 any zero p = false
 any (suc n) p = any n p || p n
 
--- f 0, .., f (n - 1) as a list
-unfoldable pub listOf : ℕ → (ℕ → ℕ) → List ℕ
-listOf zero f = []
-listOf (suc n) f = listOf n f ++ (f n ∷ [])
-
--- those below n with p, ascending
-unfoldable pub listWhere : ℕ → (ℕ → Bool) → List ℕ
-listWhere zero p = []
-listWhere (suc n) p = listWhere n p ++ cond (p n) (n ∷ []) []
+-- the smallest i below n with p; n where there is none
+unfoldable pub firstWith : ℕ → (ℕ → Bool) → ℕ
+firstWith zero p = zero
+firstWith (suc n) p = cond (any n p) (firstWith n p) (cond (p n) n (suc n))

@@ -3,13 +3,23 @@
 use Prim.Native.Nat.{ℕ, _<_}
 use mathlib.Core.Path.{_≡_}
 use mathlib.Core.Bool.{Bool, true, not, _&&_, _||_}
+use mathlib.Core.List.{List}
 use lib.Dec.{eqb, ltb, leb}
 use Rattle.packing.specs.Count.{count}
+use Rattle.packing.specs.Lists.{listWhere}
 use Rattle.packing.specs.Plant.{NONE}
+
+-- w has u's number as its entry and is not u itself
+abbrev pub follows : (ℕ → ℕ) → ℕ → ℕ → Bool
+follows g u w = eqb (g w) u && not (eqb w u)
 
 -- how many others have v's number as their entry
 unfoldable pub memberCount : ℕ → (ℕ → ℕ) → ℕ → ℕ
-memberCount n g v = count n (λ w. eqb (g w) v && not (eqb w v))
+memberCount n g v = count n (follows g v)
+
+-- .. and which, ascending
+unfoldable pub membersOf : ℕ → (ℕ → ℕ) → ℕ → List ℕ
+membersOf n g u = listWhere n (follows g u)
 
 -- "65535"
 abbrev pub isAlone : (ℕ → ℕ) → ℕ → Bool

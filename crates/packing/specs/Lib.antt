@@ -1,5 +1,6 @@
 -- What a reader has to believe about star packings, in the papers' order.
 pub mod Count
+pub mod Lists
 pub mod Plant
 pub mod Grouping
 pub mod Holders

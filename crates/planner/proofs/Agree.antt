@@ -5,7 +5,7 @@ use mathlib.Core.Bool.{Bool, true, false, not}
 use mathlib.Core.List.{List, [], _∷_, _++_}
 use native.Mathlib.Omega.{arith}
 use lib.ListN.{length, set, drop, replicate, length-set, List·getD-append}
-use Rattle.packing.specs.Count.{listOf}
+use Rattle.packing.specs.Lists.{listOf, written}
 use Rattle.packing.specs.Plant.{NONE, at, common, firstLinks, linked}
 use Rattle.packing.proofs.Lists.{front-at, listOf-at}
 use Rattle.packing.proofs.Prefixes.{IsOrder}
@@ -13,7 +13,7 @@ use Rattle.search.specs.Search.{placedHolders}
 use Rattle.sound.specs.Sound.{isSound}
 use Rattle.sound.proofs.Meaning.{means-sound}
 use Rattle.planner.specs.declared.Small.{Small}
-use Rattle.planner.specs.Lists.{upTo, written}
+use Rattle.planner.specs.Lists.{upTo}
 use Rattle.planner.specs.Refusals.{refuse, openRefusal, linkConditions, orderConditions, placeConditions, readConditions}
 use Rattle.planner.specs.Calls.{byNumber, opened, openAnswer, openOrder, openHolders, linkRefusal, linkAnswer, linkLinks, orderRefusal, orderAnswer, orderOrder, placeRefusal, placeAnswer, placeHolders, readRefusal, readAnswer}
 use Rattle.planner.specs.Told.{Call, link, order, place, read, Told, beginning, refuses, accepted, tellOne, tell, toldNumbers}

@@ -9,14 +9,14 @@ use lib.ListN.{length, set, replicate}
 use Rattle.packing.specs.Plant.{NONE, at, common, firstLinks, linked}
 use borrow.Author.Tests.{ltb-false, leb-false, eqb-true, eqb-false, not-false}
 use Rattle.packing.proofs.Tests.{or-false-l, or-false-r}
-use Rattle.packing.specs.Count.{listOf}
+use Rattle.packing.specs.Lists.{listOf, written}
 use Rattle.search.specs.Search.{placedHolders}
 use Rattle.stars.specs.Stars.{leaderList}
 use Rattle.choke.specs.ChokeSet.{chokeByte}
 use Rattle.planner.specs.declared.Small.{Small}
 use Rattle.planner.specs.declared.Answer.{Answer}
 use Rattle.planner.specs.Refusals.{refuse, openRefusal, linkConditions, orderConditions, placeConditions, readConditions}
-use Rattle.planner.specs.Lists.{upTo, written, repeatsOrOutside}
+use Rattle.planner.specs.Lists.{upTo, repeatsOrOutside}
 use Rattle.planner.specs.Calls.{byNumber, answer, opened, openAnswer, openOrder, openHolders, linkRefusal, linkAnswer, linkLinks, orderRefusal, orderAnswer, orderOrder, placeRefusal, placeAnswer, placeHolders, readRefusal, readAnswer, readLeaders, readChoke}
 
 -- no refusal: the condition does not hold, and no later one

@@ -6,7 +6,8 @@ use mathlib.Core.List.{List, [], _∷_, _++_}
 use native.Mathlib.Omega.{arith}
 use lib.Dec.{eqb}
 use lib.ListN.{length, drop}
-use Rattle.packing.specs.Count.{pick, count, listOf}
+use Rattle.packing.specs.Count.{pick, count}
+use Rattle.packing.specs.Lists.{listOf, written}
 use Rattle.packing.specs.Plant.{NONE, at, common, linked}
 use Rattle.packing.specs.Grouping.{Grouping, covered, countFirst, coveredFirst}
 use Rattle.packing.specs.Holders.{held}
@@ -16,7 +17,6 @@ use Rattle.packing.proofs.Lists.{front-at}
 use Rattle.packing.proofs.Below.{grouping-below, difference-below}
 use Rattle.stars.specs.Stars.{leaderList}
 use Rattle.choke.specs.ChokeSet.{inChoke, chokeByte}
-use Rattle.planner.specs.Lists.{written}
 use Rattle.planner.specs.Calls.{byNumber, readAnswer, readLeaders, readChoke}
 use Rattle.planner.specs.Told.{Call, Told, link, order, place, read, beginning, refuses, accepted, tellOne, tell}
 use Rattle.planner.specs.Run.{State, answers}

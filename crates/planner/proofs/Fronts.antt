@@ -6,9 +6,9 @@ use native.Mathlib.Numerals.{add-one}
 use native.Mathlib.Omega.{arith}
 use lib.ListN.{length, getD, set, take, drop, replicate, length-append, length-drop, length-replicate, replicate-append-replicate}
 use lib.Seq.{drop-cons, set-at, take-suc, take-length, length-take-le, append-snoc}
-use Rattle.packing.specs.Count.{listOf}
+use Rattle.packing.specs.Lists.{listOf, written}
 use Rattle.packing.proofs.Lists.{listOf-length}
-use Rattle.planner.specs.Lists.{upTo, written}
+use Rattle.planner.specs.Lists.{upTo}
 
 -- the first i entries are the front's, and the rest is as it was
 pub record Fronted (n : ℕ) (front : ℕ → List ℕ) (lent list : List ℕ) (i : ℕ) : Type 0 where

@@ -10,7 +10,8 @@ use lib.Dec.{eqb, ltb}
 use lib.ListN.{length, getD, set, take, drop, replicate, length-set, length-append, length-drop, length-replicate, getD-replicate, List·getD-append}
 use lib.Seq.{length-take-le, take-suc-set, take-set-le}
 use borrow.Author.Tests.{eqb-true, eqb-false, eq-eqb, ne-eqb, ltb-true, ltb-false, lt-ltb, le-ltb}
-use Rattle.packing.specs.Count.{count, listOf}
+use Rattle.packing.specs.Count.{count}
+use Rattle.packing.specs.Lists.{listOf, written}
 use Rattle.packing.specs.Plant.{NONE, at, common, firstLinks, linked, joins}
 use Rattle.packing.specs.Holders.{held, holds, Feasible}
 use Rattle.packing.proofs.Tests.{by-bool, clash, and-l, and-r, or-l, or-r, or-cases, or-none, or-false-l, not-test, below-suc}
@@ -25,7 +26,7 @@ use Rattle.search.specs.Pre.{Placeable}
 use Rattle.search.proofs.Shifting.{Kept}
 use Rattle.search.proofs.Placing.{Left, place-cases, placed-range, placed-length}
 use Rattle.sound.proofs.Meaning.{Sound}
-use Rattle.planner.specs.Lists.{upTo, written}
+use Rattle.planner.specs.Lists.{upTo}
 use Rattle.planner.proofs.Next.{none-unheld, next-placeable}
 
 -- sound, and each placed gateway without holder has a tight pair around it with only held gateways before it in the order

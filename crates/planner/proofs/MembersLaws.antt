@@ -9,10 +9,10 @@ use lib.Dec.{eqb, ltb}
 use lib.ListN.{length, getD, set, take, drop, length-append, length-take, length-set, take-append-drop}
 use lib.Seq.{drop-cons, set-at, take-all, take-append-seam, length-take-le}
 use borrow.Author.Tests.{eq-eqb, ne-eqb, lt-ltb, le-ltb, ltb-false}
-use Rattle.packing.specs.Count.{pick, count, listWhere}
+use Rattle.packing.specs.Count.{pick, count}
+use Rattle.packing.specs.Lists.{listWhere, written}
 use Rattle.packing.specs.Plant.{at}
 use Rattle.packing.proofs.Sums.{count-longer, count-bound}
-use Rattle.planner.specs.Lists.{written}
 use Rattle.planner.specs.Calls.{byNumber}
 use Rattle.planner.specs.Members.{listedLeaders, isMemberOf, membersOf, membersConditions, membersRefusal, membersPart, membersList}
 use Rattle.planner.proofs.Answers.{refuse-none, refused, accepted}

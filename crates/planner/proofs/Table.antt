@@ -7,7 +7,8 @@ use native.Mathlib.Nat.{not-suc-le-zero, le-of-suc-le-suc}
 use lib.ListN.{length, getD, replicate}
 use lib.Dec.{eqb}
 use borrow.Author.Tests.{eqb-true}
-use Rattle.packing.specs.Count.{sum, count, sumOver, all, any, listOf, listWhere}
+use Rattle.packing.specs.Count.{sum, count, sumOver, all, any, firstWith}
+use Rattle.packing.specs.Lists.{listOf, listWhere, written}
 use Rattle.packing.specs.Plant.{common, firstLinks, linked, neighbours}
 use Rattle.packing.specs.Grouping.{memberCount}
 use Rattle.packing.specs.Holders.{holds as heldCount}
@@ -15,9 +16,9 @@ use Rattle.packing.specs.Choke.{stranded}
 use Rattle.packing.proofs.Tests.{and-l, and-r}
 use Rattle.sound.specs.Sound.{numbersSound, listsLong, endsSound, onceEach, holdersLinked, holdersWithin, onlyPlacedHeld, isSound}
 use Rattle.search.specs.Search.{heldBy, look, visit, turn, turns, walk, shift, settled, placedHolders}
-use Rattle.stars.specs.Stars.{firstWith, holder, back, onCycle, nextOnCycle, leadsIn, leadsInTrees, begins, cut, leads, leaderOf, pairLeader, partner, ruleFive, leaderList}
+use Rattle.stars.specs.Stars.{holder, back, onCycle, nextOnCycle, leadsIn, leadsInTrees, begins, cut, leads, leaderOf, pairLeader, partner, ruleFive, leaderList}
 use Rattle.choke.specs.ChokeSet.{withoutHolder, chokeWalk, seenIn, inChoke, chokeByte}
-use Rattle.planner.specs.Lists.{upTo, written, repeatsOrOutside}
+use Rattle.planner.specs.Lists.{upTo, repeatsOrOutside}
 use Rattle.planner.specs.Refusals.{openRefusal, linkConditions, orderConditions, placeConditions, readConditions}
 use Rattle.planner.specs.Calls.{openAnswer, openOrder, openHolders, linkRefusal, linkAnswer, linkLinks, orderRefusal, orderAnswer, orderOrder, placeRefusal, placeAnswer, placeHolders, readRefusal, readAnswer, readLeaders, readChoke}
 use Rattle.planner.specs.Run.{afterOpen, answers, step, run}

@@ -5,13 +5,13 @@ use mathlib.Core.List.{List}
 use lib.ListN.{length, set, replicate}
 use Rattle.packing.specs.Plant.{NONE, at, common, firstLinks}
 use Rattle.sound.specs.Sound.{isSound}
-use Rattle.packing.specs.Count.{listOf}
+use Rattle.packing.specs.Lists.{listOf, written}
 use Rattle.search.specs.Search.{placedHolders}
 use Rattle.stars.specs.Stars.{leaderList}
 use Rattle.choke.specs.ChokeSet.{chokeByte}
 use Rattle.planner.specs.declared.Small.{Small}
 use Rattle.planner.specs.declared.Answer.{Answer}
-use Rattle.planner.specs.Lists.{upTo, written}
+use Rattle.planner.specs.Lists.{upTo}
 use Rattle.planner.specs.Refusals.{refuse, openRefusal, linkConditions, orderConditions, placeConditions, readConditions}
 
 -- by a refusal number: what an accepted call gives, or what it leaves when refused

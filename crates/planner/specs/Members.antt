@@ -4,9 +4,8 @@ use mathlib.Core.Bool.{Bool, not, _&&_, _||_}
 use mathlib.Core.List.{List, []}
 use lib.Dec.{eqb, ltb}
 use lib.ListN.{length, take}
-use Rattle.packing.specs.Count.{listWhere}
+use Rattle.packing.specs.Lists.{listWhere, written}
 use Rattle.packing.specs.Plant.{at}
-use Rattle.planner.specs.Lists.{written}
 use Rattle.planner.specs.Refusals.{refuse}
 use Rattle.planner.specs.Calls.{byNumber}
 

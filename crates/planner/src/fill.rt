@@ -3,7 +3,8 @@ ghost use mathlib.Core.Path.{_≡_};
 ghost use Prim.Native.Nat.{_≤_};
 ghost use lib.ListN.{length, replicate};
 ghost use Rattle.packing.specs.Plant.{NONE};
-ghost use Rattle.planner.specs.Lists.{upTo, written};
+ghost use Rattle.packing.specs.Lists.{written};
+ghost use Rattle.planner.specs.Lists.{upTo};
 
 // 0, 1, .., n - 1
 pub fn with_places(n: usize, list: &mut [u16])

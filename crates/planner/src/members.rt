@@ -4,7 +4,7 @@ ghost use mathlib.Core.Bool.{not, _&&_};
 ghost use Prim.Native.Nat.{_≤_};
 ghost use lib.Dec.{eqb};
 ghost use lib.ListN.{length};
-ghost use Rattle.planner.specs.Lists.{written};
+ghost use Rattle.packing.specs.Lists.{written};
 ghost use Rattle.planner.specs.Members.{listedLeaders, membersOf, membersConditions, membersRefusal, membersPart, membersList};
 
 // How many entries of a leader list are looked at.

@@ -2,7 +2,8 @@
 use Prim.Native.Nat.{ℕ}
 use mathlib.Core.Path.{_≡_, refl}
 use mathlib.Core.List.{List, [], _∷_, _++_}
-use Rattle.packing.specs.Count.{listOf, any}
+use Rattle.packing.specs.Count.{any}
+use Rattle.packing.specs.Lists.{listOf}
 use Rattle.packing.specs.Plant.{linked}
 use Rattle.planner.specs.Lists.{repeatsOrOutside}
 use Rattle.plant_file.specs.PlantFile.{number, fileN, fileT, fileM, fileLinks, fileOrder, beginsPLT, endsRefusal, linksRefusal, fileRefusal}

@@ -6,9 +6,8 @@ use mathlib.Core.List.{List}
 use native.Mathlib.Omega.{arith}
 use lib.ListN.{length, set, take, drop}
 use lib.Seq.{take-at}
-use Rattle.packing.specs.Count.{listOf}
+use Rattle.packing.specs.Lists.{listOf, written}
 use Rattle.sound.specs.Sound.{onceEach}
-use Rattle.planner.specs.Lists.{written}
 use Rattle.planner.proofs.Fronts.{Fronted, fronted-start, fronted-turn, fronted-end}
 use Rattle.plant_file.specs.PlantFile.{number, fileN, fileM, fileLinks, fileOrder}
 use Rattle.plant_file.specs.Walk.{linkAt}

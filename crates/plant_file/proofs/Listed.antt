@@ -7,7 +7,7 @@ use native.Mathlib.Numerals.{add-one}
 use native.Mathlib.Omega.{arith}
 use lib.ListN.{length, length-append, List·getD-append}
 use lib.Seq.{getD-at}
-use Rattle.packing.specs.Count.{listOf}
+use Rattle.packing.specs.Lists.{listOf}
 use Rattle.packing.specs.Plant.{at}
 use Rattle.packing.proofs.Tests.{below-suc}
 use Rattle.planner.proofs.Fronts.{Growing}

@@ -9,7 +9,8 @@ use lib.ListN.{length}
 use borrow.Author.Tests.{ltb-false, lt-ltb, le-ltb}
 use Rattle.packing.proofs.Tests.{by-bool, or-l, or-r, or-none, or-false-l, or-false-r}
 use Rattle.sound.specs.Sound.{onceEach}
-use Rattle.planner.specs.Lists.{written, repeatsOrOutside}
+use Rattle.packing.specs.Lists.{written}
+use Rattle.planner.specs.Lists.{repeatsOrOutside}
 use Rattle.planner.specs.Refusals.{refuse}
 use Rattle.planner.proofs.Answers.{refuse-none, refused, accepted}
 use Rattle.planner.proofs.Orders.{order-test}

@@ -4,7 +4,7 @@ use mathlib.Core.Bool.{_||_}
 use mathlib.Core.List.{List}
 use lib.Dec.{ltb}
 use lib.ListN.{length}
-use Rattle.planner.specs.Lists.{written}
+use Rattle.packing.specs.Lists.{written}
 use Rattle.planner.specs.Refusals.{refuse}
 use Rattle.planner.specs.Calls.{byNumber}
 use Rattle.plant_file.specs.PlantFile.{fileN, fileM, fileLinks, fileOrder, firstOf, fileRefusal}

@@ -5,7 +5,7 @@ use mathlib.Core.Bool.{Bool, not, _&&_, _||_}
 use mathlib.Core.List.{List, [], _∷_, _++_}
 use lib.Dec.{eqb, ltb, leb}
 use lib.ListN.{length}
-use Rattle.packing.specs.Count.{listOf}
+use Rattle.packing.specs.Lists.{listOf}
 use Rattle.packing.specs.Plant.{at, linked}
 use Rattle.planner.specs.Lists.{repeatsOrOutside}
 use Rattle.planner.specs.Refusals.{refuse}

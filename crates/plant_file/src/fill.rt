@@ -3,7 +3,7 @@ use crate::walk::Step;
 ghost use mathlib.Core.Path.{_≡_};
 ghost use Prim.Native.Nat.{_+_, _*_, _<_, _≤_};
 ghost use lib.ListN.{length};
-ghost use Rattle.planner.specs.Lists.{written};
+ghost use Rattle.packing.specs.Lists.{written};
 ghost use Rattle.plant_file.specs.PlantFile.{fileN, fileM, fileLinks, fileOrder};
 ghost use Rattle.plant_file.specs.Walk.{linkAt};
 ghost use Rattle.plant_file.specs.Pre.{withEnds};

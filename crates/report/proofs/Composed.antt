@@ -9,7 +9,7 @@ use lib.Dec.{eqb}
 use lib.ListN.{length}
 use lib.Seq.{sets}
 use borrow.Author.Tests.{not-true, not-false}
-use Rattle.packing.specs.Count.{listWhere}
+use Rattle.packing.specs.Lists.{listWhere}
 use Rattle.packing.specs.Plant.{NONE, at}
 use Rattle.report.specs.Text.{digits, spaced, coveredCount, lineOne, membersListed, leadLine, leadLines, aloneLine, chokeLine}
 use Rattle.report.specs.Pre.{Put}

@@ -9,7 +9,7 @@ use lib.Dec.{ltb}
 use lib.ListN.{length, length-append}
 use borrow.Author.Tests.{lt-ltb, le-ltb}
 use Rattle.packing.proofs.Tests.{by-bool}
-use Rattle.packing.specs.Count.{listWhere}
+use Rattle.packing.specs.Lists.{listWhere}
 use Rattle.report.specs.Text.{digitsIn, digits, spaced}
 use Rattle.report.specs.Pre.{Put}
 use Rattle.report.proofs.Puts.{Growing, put-is, put-then, put-within}

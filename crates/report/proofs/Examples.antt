@@ -2,7 +2,8 @@
 use Prim.Native.Nat.{ℕ}
 use mathlib.Core.Path.{_≡_, refl}
 use mathlib.Core.List.{List, [], _∷_}
-use Rattle.packing.specs.Count.{sum, count, listWhere}
+use Rattle.packing.specs.Count.{sum, count}
+use Rattle.packing.specs.Lists.{listWhere}
 use Rattle.report.specs.Text.{digitsIn, digits, spaced, coveredCount, lineOne, membersListed, leadLine, leadLines, aloneLine, chokeLine, listing, refusedLine}
 
 -- gateways 5 limit 2 covered 5, lead 0: 3 4, lead 1: 2, alone:, choke:

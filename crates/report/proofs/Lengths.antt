@@ -9,7 +9,8 @@ use native.Mathlib.Omega.{arith}
 use lib.Dec.{eqb, ltb}
 use lib.ListN.{length, length-append}
 use borrow.Author.Tests.{eqb-true, eq-eqb, ne-eqb, ltb-true, ltb-false}
-use Rattle.packing.specs.Count.{pick, sum, listWhere}
+use Rattle.packing.specs.Count.{pick, sum}
+use Rattle.packing.specs.Lists.{listWhere}
 use Rattle.packing.specs.Plant.{NONE, at}
 use Rattle.packing.proofs.Tests.{by-bool}
 use Rattle.packing.proofs.Sums.{sum-ext, sum-mono, sum-zero, sum-add, sum-swap, sum-single, count-bound}

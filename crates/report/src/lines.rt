@@ -7,7 +7,7 @@ use crate::lists::is_member;
 use crate::put;
 ghost use Prim.Native.Nat.{_+_, _*_, _≤_};
 ghost use lib.Dec.{eqb};
-ghost use Rattle.packing.specs.Count.{listWhere};
+ghost use Rattle.packing.specs.Lists.{listWhere};
 ghost use Rattle.packing.specs.Plant.{NONE, at};
 ghost use Rattle.report.specs.Text.{spaced, membersListed, leadLine, leadLines, lineOne, aloneLine, chokeLine};
 ghost use Rattle.report.specs.Pre.{FAR, Put};

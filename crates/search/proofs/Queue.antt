@@ -11,7 +11,8 @@ use lib.Dec.{eqb, ltb}
 use lib.ListN.{length, length-append, List·getD-append}
 use lib.Seq.{getD-append-add}
 use borrow.Author.Tests.{eqb-true, eq-eqb, ltb-true, ltb-false}
-use Rattle.packing.specs.Count.{listWhere, pick, sum, count}
+use Rattle.packing.specs.Count.{pick, sum, count}
+use Rattle.packing.specs.Lists.{listWhere}
 use Rattle.packing.specs.Plant.{at}
 use Rattle.packing.specs.Holders.{holds}
 use Rattle.packing.proofs.Tests.{by-bool, below-suc, or-cases, or-l, or-r}

@@ -9,20 +9,12 @@ use native.Mathlib.Nat.{zero-add, suc-add, add-comm}
 use native.Mathlib.Omega.{arith}
 use lib.Dec.{eqb, ltb}
 use borrow.Author.Tests.{eqb-true, eqb-false, eq-eqb, ltb-true, ltb-false, lt-ltb}
-use Rattle.packing.specs.Count.{count, any}
+use Rattle.packing.specs.Count.{count, any, firstWith}
 use Rattle.packing.specs.Plant.{NONE, at}
 use Rattle.packing.specs.Holders.{held}
-use Rattle.packing.proofs.Tests.{by-bool, clash, and-l, and-r, and-i, or-cases, not-test, any-intro, any-fails}
+use Rattle.packing.proofs.Tests.{by-bool, clash, and-l, and-r, and-i, or-cases, not-test, any-intro, first-found}
 use Rattle.packing.proofs.Sums.{count-all, count-unique, fibre, sumOver-mono, sumOver-const}
-use Rattle.stars.specs.Stars.{firstWith, holder, back, onCycle, nextOnCycle}
-
--- where there is one with p, the first is below n, has p, and is the least
-pub first-found : (n : ℕ) (p : ℕ → Bool) → any n p ≡ true → (firstWith n p < n) × (p (firstWith n p) ≡ true) × ((i : ℕ) → i < firstWith n p → p i ≡ false)
-unfolding firstWith any
-first-found zero p e = absurd (false≢true e)
-first-found (suc n) p e =
-    by-bool (any n p) (λ t. rw t (let (l, q, low) = first-found n p t in (omega arith, q, low)))
-    (λ f. let t : p n ≡ true = ⊎-elim (λ q. clash (any n p) q f) (λ q. q) (or-cases (any n p) (p n) e) in rw (f, t) (omega arith, t, any-fails n p f))
+use Rattle.stars.specs.Stars.{holder, back, onCycle, nextOnCycle}
 
 pub least : (n : ℕ) (p : ℕ → Bool) → any n p ≡ true → (a : ℕ) × (a < n) × (p a ≡ true) × ((i : ℕ) → i < a → p i ≡ false)
 least n p e = let (l, q, low) = first-found n p e in (firstWith n p, l, q, low)

@@ -2,11 +2,11 @@
 use Prim.Native.Nat.{ℕ}
 use mathlib.Core.Path.{_≡_, refl}
 use mathlib.Core.List.{List, [], _∷_}
-use Rattle.packing.specs.Count.{sum, count, all, any}
+use Rattle.packing.specs.Count.{sum, count, all, any, firstWith}
 use Rattle.packing.specs.Plant.{NONE}
 use Rattle.packing.specs.Grouping.{memberCount}
-use Rattle.packing.specs.Count.{listOf}
-use Rattle.stars.specs.Stars.{firstWith, holder, back, onCycle, nextOnCycle, leadsIn, leadsInTrees, begins, cut, leads, leaderOf, pairLeader, partner, ruleFive, leaderList}
+use Rattle.packing.specs.Lists.{listOf}
+use Rattle.stars.specs.Stars.{holder, back, onCycle, nextOnCycle, leadsIn, leadsInTrees, begins, cut, leads, leaderOf, pairLeader, partner, ruleFive, leaderList}
 
 -- the listing's plant
 listing : listOf 5 (leaderList 5 (2 ∷ 2 ∷ 1 ∷ 0 ∷ 0 ∷ [])) ≡ 0 ∷ 1 ∷ 1 ∷ 0 ∷ 0 ∷ []

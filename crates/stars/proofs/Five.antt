@@ -6,14 +6,13 @@ use mathlib.Core.Bool.{Bool, true, false, not, _&&_, _||_}
 use native.Mathlib.Omega.{arith}
 use lib.Dec.{eqb, ltb, leb}
 use borrow.Author.Tests.{eqb-true, eqb-false, eq-eqb, ne-eqb, ltb-true, ltb-false, lt-ltb, leb-true, le-leb, not-true}
-use Rattle.packing.specs.Count.{count}
+use Rattle.packing.specs.Count.{count, firstWith}
 use Rattle.packing.specs.Plant.{NONE, at}
-use Rattle.packing.specs.Grouping.{Grouping, memberCount, isAlone, isLeader, isMember, covered}
-use Rattle.packing.proofs.Tests.{by-bool, clash, and-l, and-r, and-i, or-l, or-r, or-cases, not-i, not-test, iff-test, any-intro}
+use Rattle.packing.specs.Grouping.{Grouping, follows, memberCount, isAlone, isLeader, isMember, covered}
+use Rattle.packing.proofs.Tests.{by-bool, clash, and-l, and-r, and-i, or-l, or-r, or-cases, not-i, not-test, iff-test, any-intro, first-found}
 use Rattle.packing.proofs.Sums.{count-ext, count-split, count-some, count-find, count-unique, count-one}
 use Rattle.packing.proofs.Groupings.{Sym, Loopless}
-use Rattle.stars.specs.Stars.{firstWith, pairLeader, partner, ruleFive}
-use Rattle.stars.proofs.Cycles.{first-found}
+use Rattle.stars.specs.Stars.{pairLeader, partner, ruleFive}
 
 -- an entry is one of a grouping's three kinds
 abbrev pub Kind : ℕ → (ℕ → ℕ) → (ℕ → ℕ → Bool) → (ℕ → ℕ) → ℕ → Type 0
@@ -29,10 +28,6 @@ module _ (n : ℕ) (limit : ℕ → ℕ) (adj : ℕ → ℕ → Bool) (g : ℕ �
 
   pub member-is : (u : ℕ) → g v ≡ u → u < n → adj v u ≡ true → g u ≡ u → Kind n limit adj g v
   member-is u e l a own = or-r (isAlone g v || isLeader n limit g v) _ (rw e (and-i _ _ (and-i _ _ (lt-ltb u n l) a) (eq-eqb (g u) u own)))
-
--- w has u's number as its entry and is another
-abbrev pub follows : (ℕ → ℕ) → ℕ → ℕ → Bool
-follows g u w = eqb (g w) u && not (eqb w u)
 
 module _ (g : ℕ → ℕ) (u w : ℕ) where
   pub follows-is : g w ≡ u → (w ≡ u → ⊥) → follows g u w ≡ true

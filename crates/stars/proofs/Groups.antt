@@ -8,7 +8,7 @@ use lib.Dec.{eqb, ltb}
 use borrow.Author.Tests.{eqb-true, eqb-false, eq-eqb, ne-eqb, ltb-true, lt-ltb, not-true}
 use Rattle.packing.specs.Count.{count, any}
 use Rattle.packing.specs.Plant.{NONE, at}
-use Rattle.packing.specs.Grouping.{Grouping, memberCount, covered}
+use Rattle.packing.specs.Grouping.{Grouping, follows, memberCount, covered}
 use Rattle.packing.specs.Holders.{held, holds, Feasible}
 use Rattle.packing.proofs.Tests.{by-bool, clash, and-l, and-r, and-i, not-i, not-test, any-elim, any-fails}
 use Rattle.packing.proofs.Sums.{count-mono, count-split, count-some, count-unique}
@@ -16,7 +16,7 @@ use Rattle.packing.proofs.Groupings.{Sym, Loopless}
 use Rattle.stars.specs.Stars.{back, onCycle, nextOnCycle, leadsInTrees, cut, leads, leaderOf, leaderList}
 use Rattle.stars.proofs.Cycles.{holder-at, back-holder, cycle-round, cycle-only, next-held}
 use Rattle.stars.proofs.Leads.{Begins, begins-means, cut-begins, trees-child, leads-child, leads-tree, leads-more}
-use Rattle.stars.proofs.Five.{Kind, alone-is, leader-is, member-is, follows, follows-is, follows-means, ruleFive-covered, ruleFive-grouping}
+use Rattle.stars.proofs.Five.{Kind, alone-is, leader-is, member-is, follows-is, follows-means, ruleFive-covered, ruleFive-grouping}
 
 -- the entry by rules 1 to 4, case by case
 module _ (n : ℕ) (hs : List ℕ) (v : ℕ) where

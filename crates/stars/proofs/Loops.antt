@@ -5,10 +5,9 @@ use mathlib.Core.Bool.{Bool, true, false, _||_}
 use native.Mathlib.Nat.{not-suc-le-zero}
 use native.Mathlib.Numerals.{add-one}
 use native.Mathlib.Omega.{arith}
-use Rattle.packing.specs.Count.{pick, sum, count, any}
+use Rattle.packing.specs.Count.{pick, sum, count, any, firstWith}
 use Rattle.packing.proofs.Tests.{or-none, below-suc, any-intro, any-none, any-fails}
 use Rattle.packing.proofs.Sums.{count-suc}
-use Rattle.stars.specs.Stars.{firstWith}
 
 -- a loop that counts i up to n by one has i = n at its end
 pub last : {n i : ℕ} → i ≤ n → n ≤ i → i ≡ n

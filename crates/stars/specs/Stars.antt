@@ -5,14 +5,9 @@ use Prim.Native.Nat.{ℕ, zero, suc}
 use mathlib.Core.Bool.{Bool, false, not, cond, _&&_, _||_}
 use mathlib.Core.List.{List}
 use lib.Dec.{eqb, ltb, leb}
-use Rattle.packing.specs.Count.{count, all, any}
+use Rattle.packing.specs.Count.{all, any, firstWith}
 use Rattle.packing.specs.Plant.{NONE, at}
-use Rattle.packing.specs.Grouping.{memberCount}
-
--- the smallest w below n with p; n where there is none
-unfoldable pub firstWith : ℕ → (ℕ → Bool) → ℕ
-firstWith zero p = zero
-firstWith (suc n) p = cond (any n p) (firstWith n p) (cond (p n) n (suc n))
+use Rattle.packing.specs.Grouping.{follows, memberCount}
 
 -- v's holder; what is no gateway has none
 unfoldable pub holder : ℕ → List ℕ → ℕ → ℕ
@@ -65,7 +60,7 @@ pairLeader leadsPair a b = cond (leadsPair a b) a b
 
 -- the one other than u with u's number as its entry
 unfoldable pub partner : ℕ → (ℕ → ℕ) → ℕ → ℕ
-partner n g u = firstWith n (λ w. eqb (g w) u && not (eqb w u))
+partner n g u = firstWith n (follows g u)
 
 unfoldable pub ruleFive : (ℕ → ℕ → Bool) → ℕ → (ℕ → ℕ) → ℕ → ℕ
 ruleFive leadsPair n g v = cond (ltb (g v) n && eqb (memberCount n g (g v)) 1) (pairLeader leadsPair (g v) (partner n g (g v))) (g v)

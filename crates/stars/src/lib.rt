@@ -9,7 +9,7 @@ mod walks;
 ghost use mathlib.Core.Path.{_≡_};
 ghost use mathlib.Core.List.{_++_};
 ghost use lib.ListN.{drop};
-ghost use Rattle.packing.specs.Count.{listOf};
+ghost use Rattle.packing.specs.Lists.{listOf};
 ghost use Rattle.stars.specs.Stars.{leaderList};
 ghost use Rattle.stars.specs.Pre.{Lent};
 

@@ -4,7 +4,7 @@ use mathlib.Core.Path.{sym, _∙_}
 use borrow.Author.Tests.{not-true, not-false}
 use lib.Seq.{length-take-le}
 use Rattle.packing.specs.Plant.{firstLinks}
-use Rattle.planner.specs.Lists.{written}
+use Rattle.packing.specs.Lists.{written}
 use Rattle.planner.specs.Calls.{readRefusal}
 use Rattle.planner.proofs.Answers.{unsound-number, sound-number, read-fits, read-refused, read-accepted}
 use Rattle.planner.proofs.Next.{checked}

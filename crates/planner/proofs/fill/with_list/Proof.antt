@@ -5,7 +5,7 @@ use mathlib.Core.Path.{ap, _∙_}
 use lib.ListN.{length, take}
 use lib.Seq.{take-length}
 use Rattle.planner.proofs.Fronts.{Fronted, take-grows, fronted-start, fronted-turn, fronted-end}
-use Rattle.planner.specs.Lists.{written}
+use Rattle.packing.specs.Lists.{written}
 use Rattle.planner.proofs.fill.with_list.Statement.{statement}
 use Rattle.planner.proofs.fill.with_list.Tie as tie
 

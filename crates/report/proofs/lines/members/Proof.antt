@@ -3,7 +3,7 @@ use borrow.Author.Needs.{needs}
 use Prim.Native.Nat.{_-_}
 use mathlib.Core.Bool.{not, _&&_}
 use lib.Dec.{eqb}
-use Rattle.packing.specs.Count.{listWhere}
+use Rattle.packing.specs.Lists.{listWhere}
 use Rattle.packing.specs.Plant.{at}
 use Rattle.report.specs.Text.{spaced, membersListed}
 use Rattle.report.proofs.Puts.{put-kept, Grown, grown-start, grown-end}

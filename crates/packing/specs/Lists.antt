@@ -1,0 +1,24 @@
+-- Lists of numbers by gateway, and what a lent list holds once its front is written.
+use Prim.Native.Nat.{ℕ, zero, suc}
+use mathlib.Core.Bool.{Bool, cond, _&&_}
+use mathlib.Core.List.{List, [], _∷_, _++_}
+use lib.Dec.{leb}
+use lib.ListN.{length, drop}
+
+-- f 0, .., f (n - 1) as a list
+unfoldable pub listOf : ℕ → (ℕ → ℕ) → List ℕ
+listOf zero f = []
+listOf (suc n) f = listOf n f ++ (f n ∷ [])
+
+-- those below n with p, ascending
+unfoldable pub listWhere : ℕ → (ℕ → Bool) → List ℕ
+listWhere zero p = []
+listWhere (suc n) p = listWhere n p ++ cond (p n) (n ∷ []) []
+
+-- a lent list once its first n entries are written (01: "Entries past these lengths never change")
+unfoldable pub written : ℕ → List ℕ → List ℕ → List ℕ
+written n front lent = front ++ drop n lent
+
+-- n is in range (01, "The product"), and there are n entries in a list that is read by gateway and in one that is written
+unfoldable pub fits : ℕ → List ℕ → List ℕ → Bool
+fits n read out = leb n 1024 && leb n (length read) && leb n (length out)
