@@ -166,7 +166,7 @@ impl Small {
         }
         let end = 2 * (m as usize);
         stars::leaders(n, holders, leaders);
-        choke::choke_set(n, &links[..end], holders, choke);
+        search::choke::choke_set(n, &links[..end], holders, choke);
         Answer {
             refusal: 0,
             small: self,
