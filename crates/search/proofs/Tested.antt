@@ -14,7 +14,7 @@ use Rattle.search.specs.Search.{placedHolders, placeable, holdersAfter}
 use Rattle.search.specs.Pre.{Lent, Placeable}
 use Rattle.search.specs.ChokeSet.{chokeByte, chokeWritten}
 
--- v may be placed
+-- what the test of v says, and what it takes
 placeable-means : (n : ℕ) (hs : List ℕ) (v : ℕ) → placeable n hs v ≡ true → Placeable n hs v
 unfolding placeable
 placeable-means n hs v e =
@@ -29,7 +29,7 @@ placeable-holds : {n : ℕ} {hs : List ℕ} {v : ℕ} → Placeable n hs v → p
 unfolding placeable
 placeable-holds {n} {hs} {v} p = rw (le-leb n 1024 (p .few), le-leb n (length hs) (p .holders), lt-ltb v n (p .inside), p .free)
 
--- .. and then is
+-- where v may be placed, it is
 pub holders-placed : {n : ℕ} (limit : ℕ → ℕ) (ls : List ℕ) {hs : List ℕ} {v : ℕ} → Placeable n hs v → holdersAfter n limit ls hs v ≡ placedHolders n limit ls hs v
 unfolding holdersAfter
 holders-placed limit ls p = rw (placeable-holds p)
@@ -47,7 +47,7 @@ module _ (n : ℕ) (hs : List ℕ) (v : ℕ) {b : Bool} (e : b ≡ placeable n h
   unfolding holdersAfter
   place-places limit ls t h = (sym (not-false b t) ∙ e, rw (sym e ∙ not-false b t) h)
 
--- n and the lengths fit, and then the choke bytes are written
+-- where n and the lengths fit, the choke bytes are written
 pub bytes-written : (n : ℕ) (ls hs out : List ℕ) → fits n hs out ≡ true → chokeWritten n ls hs out ≡ written n (listOf n (chokeByte n ls hs)) out
 unfolding chokeWritten
 bytes-written n ls hs out e = rw e
