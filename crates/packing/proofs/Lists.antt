@@ -1,14 +1,20 @@
 -- Laws of lists of values, and of a loop that writes one to the front of a lent list, an entry a turn.
 use Prim.Native.Nat.{ℕ, zero, suc, _+_, _<_, _≤_}
 use mathlib.Core.Path.{_≡_, refl, sym, ap, _∙_}
+use mathlib.Core.Logic.{⊎-elim}
+use mathlib.Core.Bool.{Bool, true, false, cond, _||_, or-assoc, false≢true}
 use mathlib.Core.List.{List, [], _∷_, _++_}
 use native.Mathlib.Nat.{not-suc-le-zero}
 use native.Mathlib.Numerals.{add-one}
 use native.Mathlib.Omega.{arith}
+use lib.Dec.{eqb}
 use lib.ListN.{length, getD, set, drop, length-append, length-set, List·getD-append}
 use lib.Seq.{getD-at, drop-cons, set-at, append-snoc, ext-getD, length-front}
-use Rattle.packing.specs.Lists.{listOf}
-use Rattle.packing.proofs.Tests.{below-suc}
+use borrow.Author.Tests.{eqb-true, eq-eqb, leb-true, le-leb}
+use Rattle.packing.specs.Count.{pick, sum, count}
+use Rattle.packing.specs.Lists.{listOf, listWhere, fits}
+use Rattle.packing.proofs.Tests.{tests, below-suc, or-cases, or-l, or-r}
+use Rattle.packing.proofs.Links.{memberOf}
 
 pub listOf-length : (n : ℕ) (f : ℕ → ℕ) → length (listOf n f) ≡ n
 unfolding listOf
@@ -66,3 +72,46 @@ module _ (n : ℕ) (f : ℕ → ℕ) (old : List ℕ) where
     where
       last : Listed n f old new v → n ≤ v → v ≡ n
       last r k = omega arith
+
+-- what the test of n and the lengths says, and what it takes
+pub fits-means : (n : ℕ) (read out : List ℕ) → fits n read out ≡ true → (n ≤ 1024) × (n ≤ length read) × (n ≤ length out)
+unfolding fits
+fits-means n read out e = search (tests, leb-true)
+
+pub fits-holds : (n : ℕ) (read out : List ℕ) → n ≤ 1024 → n ≤ length read → n ≤ length out → fits n read out ≡ true
+unfolding fits
+fits-holds n read out few held room = rw (le-leb n 1024 few, le-leb n (length read) held, le-leb n (length out) room)
+
+pub member-append : (l k : List ℕ) (y : ℕ) → memberOf (l ++ k) y ≡ (memberOf l y || memberOf k y)
+unfolding memberOf
+member-append [] k y = refl
+member-append (a ∷ l) k y = rw (member-append l k y) (sym (or-assoc (eqb a y) (memberOf l y) (memberOf k y)))
+
+-- those below n with p: their number, and who they are
+pub listWhere-length : (n : ℕ) (p : ℕ → Bool) → length (listWhere n p) ≡ count n p
+unfolding listWhere count sum
+listWhere-length zero p = refl
+listWhere-length (suc n) p = length-append (listWhere n p) _ ∙ rw (listWhere-length n p) (last (p n))
+  where
+    last : (b : Bool) → count n p + length (cond b (n ∷ []) []) ≡ count n p + pick b 1
+    last true = refl
+    last false = refl
+
+pub listWhere-in : (n : ℕ) (p : ℕ → Bool) (v : ℕ) → v < n → p v ≡ true → memberOf (listWhere n p) v ≡ true
+unfolding listWhere memberOf
+listWhere-in zero p v h e = absurd (not-suc-le-zero h)
+listWhere-in (suc n) p v h e =
+    let two = member-append (listWhere n p) (cond (p n) (n ∷ []) []) v in
+    below-suc v n h (λ q. two ∙ or-r (memberOf (listWhere n p) v) _ (rw (← q, e) (or-l (eqb v v) false (eq-eqb v v refl))))
+    (λ q. two ∙ or-l (memberOf (listWhere n p) v) _ (listWhere-in n p v q e))
+
+pub listWhere-out : (n : ℕ) (p : ℕ → Bool) (v : ℕ) → memberOf (listWhere n p) v ≡ true → (v < n) × (p v ≡ true)
+unfolding listWhere memberOf
+listWhere-out zero p v e = absurd (false≢true e)
+listWhere-out (suc n) p v e =
+    ⊎-elim (λ q. let r = listWhere-out n p v q in (omega (arith, r .0), r .1)) (λ q. last (p n) refl q)
+    (or-cases (memberOf (listWhere n p) v) _ (sym (member-append (listWhere n p) (cond (p n) (n ∷ []) []) v) ∙ e))
+  where
+    last : (b : Bool) → p n ≡ b → memberOf (cond b (n ∷ []) []) v ≡ true → (v < suc n) × (p v ≡ true)
+    last true f q = let here : n ≡ v = eqb-true n v (⊎-elim (λ r. r) (λ r. absurd (false≢true r)) (or-cases (eqb n v) false q)) in (omega arith, rw (← here) f)
+    last false f q = absurd (false≢true q)

@@ -17,7 +17,7 @@ use Rattle.packing.proofs.Lists.{front-at}
 use Rattle.packing.proofs.Prefixes.{order-whole}
 use Rattle.packing.proofs.Below.{grouping-below, difference-below}
 use Rattle.stars.specs.Stars.{leaderList}
-use Rattle.choke.specs.ChokeSet.{inChoke, chokeByte}
+use Rattle.search.specs.ChokeSet.{inChoke, chokeByte}
 use Rattle.planner.specs.Calls.{byNumber, readAnswer, readLeaders, readChoke}
 use Rattle.planner.specs.Told.{Call, Told, link, order, place, read, beginning, refuses, accepted, tellOne, tell}
 use Rattle.planner.specs.Run.{State, answers}

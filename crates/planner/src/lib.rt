@@ -128,6 +128,7 @@ impl Small {
             };
         }
         let end = 2 * (m as usize);
+        // The answer is true: the next of a sound record may be placed.
         search::place(n, t, order[k as usize], &links[..end], holders);
         Answer {
             refusal: 0,
@@ -166,7 +167,8 @@ impl Small {
         }
         let end = 2 * (m as usize);
         stars::leaders(n, holders, leaders);
-        choke::choke_set(n, &links[..end], holders, choke);
+        // The answer is true: the lengths were tested above.
+        search::choke::choke_set(n, &links[..end], holders, choke);
         Answer {
             refusal: 0,
             small: self,

@@ -1,7 +1,7 @@
 -- `byte` meets its contract.
-use Rattle.choke.proofs.Seen.{byte-none, byte-some}
-use Rattle.choke.proofs.bytes.byte.Statement.{statement}
-use Rattle.choke.proofs.bytes.byte.Tie as tie
+use Rattle.search.proofs.Seen.{byte-none, byte-some}
+use Rattle.search.proofs.bytes.byte.Statement.{statement}
+use Rattle.search.proofs.bytes.byte.Tie as tie
 
 returns : tie.Need-returns
 returns c = byte-none (c .if1 .taken)

@@ -12,10 +12,10 @@ use Rattle.packing.specs.Choke.{ChokeDifference}
 use Rattle.packing.proofs.Links.{memberOf, linked-sym}
 use Rattle.packing.proofs.Tight.{Tight}
 use Rattle.packing.proofs.Barrier.{barrier-difference}
 use Rattle.search.specs.Search.{Search, found, more, seen}
 use Rattle.search.proofs.Reach.{Exhausted, walk-exhausted, walk-runs-out}
-use Rattle.choke.specs.ChokeSet.{withoutHolder, chokeWalk, seenIn, inChoke}
-use Rattle.choke.proofs.Left.{left-in, left-out, left-startable}
+use Rattle.search.specs.ChokeSet.{withoutHolder, chokeWalk, seenIn, inChoke}
+use Rattle.search.proofs.Left.{left-in, left-out, left-startable}
 
 -- all that a walk whose queue ran out had queued
 unfoldable pub queuedIn : Search → ℕ → Bool
@@ -76,10 +76,6 @@ module _ (n : ℕ) (ls hs : List ℕ) where
         let (queue, from, e) = choke-runs-out few in
         let both = exhausted e .least R S (λ x m. let b = left-out n hs x m in c .left x (b .0) (b .1)) (c .closed) (c .owned) in
         ((λ x l r. both .0 x (sym (reached-queue e x) ∙ r)), λ u l s. both .1 u l (sym (choke-seen e u) ∙ s))
-
-    -- what the walk queued are gateways
-    pub reached-below : (x : ℕ) → reached n ls hs x ≡ true → x < n
-    reached-below x r = let (queue, from, e) = choke-runs-out few in exhausted e .below x (sym (reached-queue e x) ∙ r)
 
     -- Where some tight pair has every gateway without holder, ..
     module _

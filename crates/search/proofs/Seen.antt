@@ -1,23 +1,24 @@
 -- From the lists that the walk works in to the choke bytes.
-use Prim.Native.Nat.{ℕ, zero, suc, _≤_}
-use mathlib.Core.Path.{_≡_, refl, ap, _∙_}
+use Prim.Native.Nat.{ℕ, _≤_}
+use mathlib.Core.Path.{_≡_, ap, _∙_}
 use mathlib.Core.Bool.{Bool, not}
-use mathlib.Core.List.{List, _∷_, _++_}
+use mathlib.Core.List.{List}
 use native.Mathlib.Omega.{arith}
 use lib.Dec.{eqb}
-use lib.ListN.{length, take, drop, replicate, length-replicate}
+use lib.ListN.{length, take, replicate, length-replicate}
 use borrow.Author.Tests.{eq-eqb, ne-eqb}
 use Rattle.packing.specs.Count.{pick}
-use Rattle.packing.specs.Lists.{listOf}
+use Rattle.packing.specs.Lists.{listOf, written}
 use Rattle.packing.specs.Plant.{NONE, at, common}
 use Rattle.search.specs.Search.{Search, seen, walk}
 use Rattle.search.specs.declared.Walked.{Walked}
 use Rattle.search.specs.declared.Walked.the-variants.{Found, RanOut}
-use Rattle.search.specs.Pre.{outcome, Is, Walkable}
-use Rattle.choke.specs.ChokeSet.{chokeWalk, seenIn, inChoke, chokeByte}
-use Rattle.choke.specs.Pre.{Lent, Queued, Workable, seenByte}
+use Rattle.search.specs.Pre.{outcome, Is, Lent, Walkable}
+use Rattle.search.specs.ChokeSet.{chokeWalk, seenIn, inChoke, chokeByte}
+use Rattle.search.specs.ChokePre.{Queued, Workable, seenByte}
 use Rattle.packing.proofs.Lists.{listOf-ext}
-use Rattle.choke.proofs.Left.{left-startable}
+use Rattle.search.proofs.Turns.{workspace}
+use Rattle.search.proofs.Left.{left-startable}
 
 -- a byte of one that is not seen, and of one that is
 pub byte-none : {k : ℕ} → k ≡ NONE → 0 ≡ pick (not (eqb k NONE)) 1
@@ -43,14 +44,13 @@ module _ {n : ℕ} {hs queue from out queue' : List ℕ} {tail : ℕ} (w : Worka
       record {
         start = rw (q .state) (left-startable n hs (w .lent .few));
         holders = w .lent .holders;
-        places = omega (arith, w .queued);
         within = q .within;
-        unseen = w .unseen;
+        space = record { places = omega (arith, w .space .places); unseen = w .space .unseen };
       }
 
   -- the marks keep their number, which is n
   marks-long : {m : ℕ} → m ≡ length from → m ≡ n
-  marks-long same = same ∙ rw (w .unseen) (length-replicate n NONE)
+  marks-long same = same ∙ rw (w .space .unseen) (length-replicate n NONE)
 
   -- .. so there is a byte for each
   pub set-places : {m : ℕ} → m ≡ length from → m ≤ length out
@@ -58,19 +58,13 @@ module _ {n : ℕ} {hs queue from out queue' : List ℕ} {tail : ℕ} (w : Worka
 
   -- the bytes of those seen in a walk with a limit of 0 are the choke bytes
   pub set-written : (t : ℕ) (ls : List ℕ) {r : Walked} {queue'' from' new : List ℕ} → Is r queue'' from' (walk n (common t) ls hs (take tail queue')) → t ≡ 0 → length from' ≡ length from
-      → new ≡ listOf (length from') (seenByte from') ++ drop (length from') out → new ≡ listOf n (chokeByte n ls hs) ++ drop n out
+      → new ≡ written (length from') (listOf (length from') (seenByte from')) out → new ≡ written n (listOf n (chokeByte n ls hs)) out
   unfolding chokeByte inChoke chokeWalk seenByte
   set-written t ls {r} {queue''} {from'} d none same e =
       (rw (marks-long same) at e)
-      ∙ ap (λ (l : List ℕ). l ++ drop n out)
+      ∙ ap (λ (l : List ℕ). written n l out)
       (listOf-ext n (seenByte from') (chokeByte n ls hs) (λ v l. ap (λ (b : Bool). pick b 1) (walked-seen r queue'' from' (rw (q .state, none) at (d .state)) v)))
-
--- the first n of a list of equal entries
-take-replicate : (n m a : ℕ) → n ≤ m → take n (replicate m a) ≡ replicate n a
-take-replicate zero m a h = refl
-take-replicate (suc n) zero a h = absurd (omega arith)
-take-replicate (suc n) (suc m) a h = ap {B = List ℕ} (λ l. a ∷ l) (take-replicate n m a (omega arith))
 
 -- the arrays to work in
 pub lent-workable : {n : ℕ} {hs out : List ℕ} → Lent n hs out → Workable n hs (replicate 1024 0) (take n (replicate 1024 NONE)) out
-lent-workable {n} l = record { lent = l; queued = rw length-replicate (l .few); unseen = take-replicate n 1024 NONE (l .few) }
+lent-workable {n} l = record { lent = l; space = workspace n (l .few) }

@@ -3,9 +3,9 @@ use Prim.Native.Nat.{_-_}
 use borrow.Author.Needs.{needs}
 use mathlib.Core.Path.{refl}
 use mathlib.Core.Logic.{⊎-elim}
-use Rattle.choke.proofs.Left.{Queueing, queue-start, queue-one, queue-pass, queue-end}
-use Rattle.choke.proofs.start.queue_left.Statement.{statement}
-use Rattle.choke.proofs.start.queue_left.Tie as tie
+use Rattle.search.proofs.Left.{Queueing, queue-start, queue-one, queue-pass, queue-end}
+use Rattle.search.proofs.start.queue_left.Statement.{statement}
+use Rattle.search.proofs.start.queue_left.Tie as tie
 
 abbrev Inv-loop : tie.InvT-loop
 Inv-loop n holders queue₀ end₀ v₀ queue end v = Queueing n holders queue₀ queue end v

@@ -5,8 +5,8 @@ use Rattle.packing.specs.Count.{sum, count}
 use Rattle.packing.specs.Lists.{listOf, listWhere}
 use Rattle.packing.specs.Plant.{common, neighbours}
 use Rattle.packing.specs.Holders.{holds}
 use Rattle.search.specs.Search.{heldBy, look, visit, turn, turns, walk}
-use Rattle.choke.specs.ChokeSet.{withoutHolder, chokeWalk, seenIn, inChoke, chokeByte}
+use Rattle.search.specs.ChokeSet.{withoutHolder, chokeWalk, seenIn, inChoke, chokeByte}
 
 -- 01, "The plant file and the listing": all are held, so nobody is in the set
 listing : listOf 5 (chokeByte 5 (0 ∷ 2 ∷ 0 ∷ 3 ∷ 0 ∷ 4 ∷ 1 ∷ 2 ∷ []) (2 ∷ 2 ∷ 1 ∷ 0 ∷ 0 ∷ [])) ≡ 0 ∷ 0 ∷ 0 ∷ 0 ∷ 0 ∷ []

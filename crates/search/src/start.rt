@@ -1,9 +1,10 @@
 // The gateways without holder.
-ghost use Rattle.choke.specs.Pre.{Room, Queued};
+ghost use Rattle.search.specs.Pre.{Lent};
+ghost use Rattle.search.specs.ChokePre.{Queued};
 
 // Queues all gateways without holder, ascending. Returns how many are queued.
 pub fn queue_left(n: u16, holders: &[u16], queue: &mut [u16]) -> usize
-    requires { ⌜ Room n (now holders) (now queue) ⌝ }
+    requires { ⌜ Lent n (now holders) (now queue) ⌝ }
     ensures { λ r. ⌜ Queued n (now (holders .entry)) (now (queue .exit)) r ⌝ }
 {
     let mut end: usize = 0;

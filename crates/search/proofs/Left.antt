@@ -1,56 +1,25 @@
 -- The gateways without holder, as a list and in a queue.
-use Prim.Native.Nat.{ℕ, zero, suc, _+_, _<_, _≤_}
-use mathlib.Core.Path.{_≡_, refl, sym, ap, _∙_}
-use mathlib.Core.Logic.{⊎-elim}
-use mathlib.Core.Bool.{Bool, true, false, not, cond, false≢true}
-use mathlib.Core.List.{List, [], _∷_, append-nil}
-use native.Mathlib.Nat.{not-suc-le-zero, le-antisymm}
+use Prim.Native.Nat.{ℕ, _+_, _<_, _≤_}
+use mathlib.Core.Path.{_≡_, refl, ap, _∙_}
+use mathlib.Core.Bool.{true, false, not}
+use mathlib.Core.List.{List, append-nil}
+use native.Mathlib.Nat.{le-antisymm}
 use native.Mathlib.Numerals.{add-one}
 use native.Mathlib.Omega.{arith}
-use lib.Dec.{eqb}
-use lib.ListN.{length, set, take, length-append, length-set}
+use lib.ListN.{length, set, take, length-set}
 use lib.Seq.{take-suc-set}
-use borrow.Author.Tests.{eqb-true, eq-eqb, lt-ltb, le-ltb, not-true}
-use Rattle.packing.specs.Count.{pick, sum, count}
+use borrow.Author.Tests.{lt-ltb, le-ltb, not-true}
 use Rattle.packing.specs.Lists.{listWhere}
 use Rattle.packing.specs.Plant.{at}
 use Rattle.packing.specs.Holders.{held}
-use Rattle.packing.proofs.Tests.{below-suc, or-cases, or-l, or-r, not-i}
+use Rattle.packing.proofs.Tests.{not-i}
 use Rattle.packing.proofs.Sums.{count-split, count-all}
+use Rattle.packing.proofs.Lists.{listWhere-length, listWhere-in, listWhere-out}
 use Rattle.packing.proofs.Links.{memberOf}
-use Rattle.search.proofs.Queue.{member-at, member-append}
-use Rattle.search.specs.Pre.{Startable}
-use Rattle.choke.specs.ChokeSet.{withoutHolder}
-use Rattle.choke.specs.Pre.{Room, Queued}
-
--- those below n with p: their number, and who they are
-pub listWhere-length : (n : ℕ) (p : ℕ → Bool) → length (listWhere n p) ≡ count n p
-unfolding listWhere count sum
-listWhere-length zero p = refl
-listWhere-length (suc n) p = length-append (listWhere n p) _ ∙ rw (listWhere-length n p) (last (p n))
-  where
-    last : (b : Bool) → count n p + length (cond b (n ∷ []) []) ≡ count n p + pick b 1
-    last true = refl
-    last false = refl
-
-pub listWhere-in : (n : ℕ) (p : ℕ → Bool) (v : ℕ) → v < n → p v ≡ true → memberOf (listWhere n p) v ≡ true
-unfolding listWhere memberOf
-listWhere-in zero p v h e = absurd (not-suc-le-zero h)
-listWhere-in (suc n) p v h e =
-    let two = member-append (listWhere n p) (cond (p n) (n ∷ []) []) v in
-    below-suc v n h (λ q. two ∙ or-r (memberOf (listWhere n p) v) _ (rw (← q, e) (or-l (eqb v v) false (eq-eqb v v refl))))
-    (λ q. two ∙ or-l (memberOf (listWhere n p) v) _ (listWhere-in n p v q e))
-
-pub listWhere-out : (n : ℕ) (p : ℕ → Bool) (v : ℕ) → memberOf (listWhere n p) v ≡ true → (v < n) × (p v ≡ true)
-unfolding listWhere memberOf
-listWhere-out zero p v e = absurd (false≢true e)
-listWhere-out (suc n) p v e =
-    ⊎-elim (λ q. let r = listWhere-out n p v q in (omega (arith, r .0), r .1)) (λ q. last (p n) refl q)
-    (or-cases (memberOf (listWhere n p) v) _ (sym (member-append (listWhere n p) (cond (p n) (n ∷ []) []) v) ∙ e))
-  where
-    last : (b : Bool) → p n ≡ b → memberOf (cond b (n ∷ []) []) v ≡ true → (v < suc n) × (p v ≡ true)
-    last true f q = let here : n ≡ v = eqb-true n v (⊎-elim (λ r. r) (λ r. absurd (false≢true r)) (or-cases (eqb n v) false q)) in (omega arith, rw (← here) f)
-    last false f q = absurd (false≢true q)
+use Rattle.search.proofs.Queue.{member-at}
+use Rattle.search.specs.Pre.{Lent, Startable}
+use Rattle.search.specs.ChokeSet.{withoutHolder}
+use Rattle.search.specs.ChokePre.{Queued}
 
 -- who is without holder
 pub left-in : (n : ℕ) (hs : List ℕ) (v : ℕ) → v < n → held n (at hs) v ≡ false → memberOf (withoutHolder n hs) v ≡ true
@@ -84,7 +53,7 @@ pub record Queueing (n : ℕ) (hs queue₀ queue : List ℕ) (end v : ℕ) : Typ
   pub state : take end queue ≡ listWhere v (λ w. not (held n (at hs) w))
   pub ends : end ≤ v
 
-module _ (n : ℕ) (hs queue₀ : List ℕ) (r : Room n hs queue₀) where
+module _ (n : ℕ) (hs queue₀ : List ℕ) (r : Lent n hs queue₀) where
   pub queue-start : Queueing n hs queue₀ queue₀ 0 0
   unfolding listWhere
   queue-start = record { upto = omega arith; same = refl; state = refl; ends = omega arith }

@@ -1,9 +1,9 @@
 -- `write_set` meets its contract: the laws of Seen.
 use mathlib.Core.Path.{refl}
 use borrow.Author.Needs.{needs}
-use Rattle.choke.proofs.Seen.{set-walkable, set-places, set-written}
-use Rattle.choke.proofs.write_set.Statement.{statement}
-use Rattle.choke.proofs.write_set.Tie as tie
+use Rattle.search.proofs.Seen.{set-walkable, set-places, set-written}
+use Rattle.search.proofs.choke.write_set.Statement.{statement}
+use Rattle.search.proofs.choke.write_set.Tie as tie
 
 queue-left-requires : tie.Need-queue-left-requires
 queue-left-requires c κs = search needs
