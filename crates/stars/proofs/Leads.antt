@@ -1,6 +1,6 @@
 -- Rule 1 as a fixpoint: n rounds are enough, over the arcs of the trees and over the arcs that are kept.
 use Prim.Native.Nat.{ℕ, zero, suc, _+_, _-_, _<_, _≤_}
-use mathlib.Core.Path.{_≡_, refl, sym, ap, _∙_}
+use mathlib.Core.Path.{_≡_, refl, sym, _∙_}
 use mathlib.Core.Logic.{_↔_}
 use mathlib.Core.Bool.{Bool, true, false, not, _&&_, and-comm}
 use mathlib.Core.List.{List}
@@ -10,13 +10,10 @@ use borrow.Author.Tests.{eqb-true, eq-eqb, ltb-true, ltb-false, leb-true, le-leb
 use Rattle.packing.specs.Count.{any}
 use Rattle.packing.specs.Plant.{NONE, at}
 use Rattle.packing.proofs.Tests.{by-bool, below-suc, clash, and-l, and-r, and-i, not-i, not-test, all-elim, all-intro, any-intro, any-elim, any-none}
-use Rattle.stars.specs.Stars.{holder, back, onCycle, leadsIn, leadsInTrees, begins, cut, leads}
-use Rattle.stars.proofs.Cycles.{pigeonhole, holder-at, back-add, back-gap, round-met, back-below, round-cycle, cycle-round, cycle-back, cycle-holder}
-
-pub any-ext : (n : ℕ) (p q : ℕ → Bool) → ((i : ℕ) → i < n → p i ≡ q i) → any n p ≡ any n q
-unfolding any
-any-ext zero p q h = refl
-any-ext (suc n) p q h = rw (any-ext n p q (λ i l. h i (omega arith)), h n (omega arith))
+use Rattle.stars.specs.Stars.{back, onCycle, leadsIn, leadsInTrees, begins, cut, leads}
+use Rattle.stars.proofs.Loops.{any-ext}
+use Rattle.stars.proofs.Cycles.{back-add, round-met, round-cycle, cycle-round, cycle-back, cycle-holder}
+use Rattle.stars.proofs.Upwards.{upwards}
 
 -- of some numbers one is lowest
 lowest : (m : ℕ) (f : ℕ → ℕ) → (k : ℕ) × (k ≤ m) × ((i : ℕ) → i ≤ m → f k ≤ f i)
@@ -32,39 +29,16 @@ module _
     (n : ℕ) (hs : List ℕ) (few : n ≤ NONE) (kept : ℕ → Bool)
     (broken : (z i : ℕ) → z < n → back n hs (suc i) z ≡ z → ((k : ℕ) → kept (back n hs k z) ≡ true) → ⊥)
   where
-    -- f rounds are enough for u where no f + 1 kept arcs in a row end in u
-    settled : (f u : ℕ) → u < n → ((y : ℕ) → y < n → back n hs (suc f) y ≡ u → ((k : ℕ) → k ≤ f → kept (back n hs k y) ≡ true) → ⊥)
-        → leadsIn f n hs kept u ≡ leadsIn (suc f) n hs kept u
-    unfolding leadsIn back
-    settled zero u l none =
-        sym (any-none n (λ w. eqb (at hs w) u && kept w && true) (λ w k. not-test _ (λ t.
-        none w k (holder-at n hs w k ∙ eqb-true (at hs w) u (and-l _ _ (and-l _ _ t))) (λ j z. let q : j ≡ 0 = omega arith in rw q (and-r (eqb (at hs w) u) (kept w) (and-l _ _ t))))))
-    settled (suc f) u l none =
-        any-ext n (λ w. eqb (at hs w) u && kept w && not (leadsIn f n hs kept w)) (λ w. eqb (at hs w) u && kept w && not (leadsIn (suc f) n hs kept w))
-        (λ w k. by-bool (eqb (at hs w) u && kept w)
-        (λ t. let same = settled f w k (λ y m e all-kept. none y m (ap (holder n hs) e ∙ holder-at n hs w k ∙ eqb-true (at hs w) u (and-l _ _ t)) (λ j z. below-suc j (suc f) (omega arith) (λ q. rw (q, e) (and-r (eqb (at hs w) u) (kept w) t)) (λ q. all-kept j (omega arith)))) in
-        rw (t, same))
-        (λ t. rw t))
-
-    -- going back n + 1 kept arcs would meet a gateway twice
     rounds : (u : ℕ) → u < n → leadsIn n n hs kept u ≡ leadsIn (suc n) n hs kept u
-    rounds u l = settled n u l (λ y m e all-kept. pigeonhole n (λ k. back n hs k y) (below y e) (apart y e all-kept))
-      where
-        below : (y : ℕ) → back n hs (suc n) y ≡ u → (i : ℕ) → i ≤ n → back n hs i y < n
-        below y e i k = back-below n hs few (suc n - i) (back n hs i y) (rw (← back-add n hs (suc n - i) i y, whole, e) l)
-          where
-            whole : suc n - i + i ≡ suc n
-            whole = omega arith
-
-        apart : (y : ℕ) → back n hs (suc n) y ≡ u → ((k : ℕ) → k ≤ n → kept (back n hs k y) ≡ true) → (i j : ℕ) → i < j → j ≤ n → back n hs i y ≡ back n hs j y → ⊥
-        apart y e all-kept i j a b q =
-            let z : ℕ = back n hs i y in
-            let round = back-gap n hs i j y a q in
-            broken z (j - suc i) (below y e i (omega arith)) round
-            (λ k. let (m, c, r) = round-met n hs z (j - suc i) round k in rw (r, ← back-add n hs m i y) (all-kept (m + i) (omega arith)))
+    unfolding leadsIn
+    rounds =
+        upwards n hs few kept broken (λ f u. leadsIn f n hs kept u ≡ leadsIn (suc f) n hs kept u)
+        (λ u l none. sym (any-none n (λ w. eqb (at hs w) u && kept w && true) (λ w k. not-test _ (λ t. none w k (eqb-true (at hs w) u (and-l _ _ (and-l _ _ t))) (and-r (eqb (at hs w) u) (kept w) (and-l _ _ t))))))
+        (λ f u l same. any-ext n (λ w. eqb (at hs w) u && kept w && not (leadsIn f n hs kept w)) (λ w. eqb (at hs w) u && kept w && not (leadsIn (suc f) n hs kept w))
+        (λ w k. by-bool (eqb (at hs w) u && kept w) (λ t. rw (t, same w k (eqb-true (at hs w) u (and-l _ _ t)) (and-r (eqb (at hs w) u) (kept w) t))) (λ t. rw t)))
 
 -- a cycle has no arc of the trees
-trees-broken : (n : ℕ) (hs : List ℕ) (few : n ≤ NONE) (z i : ℕ) → z < n → back n hs (suc i) z ≡ z → ((k : ℕ) → not (onCycle n hs (back n hs k z)) ≡ true) → ⊥
+pub trees-broken : (n : ℕ) (hs : List ℕ) (few : n ≤ NONE) (z i : ℕ) → z < n → back n hs (suc i) z ≡ z → ((k : ℕ) → not (onCycle n hs (back n hs k z)) ≡ true) → ⊥
 unfolding back
 trees-broken n hs few z i l round kept = clash _ (round-cycle n hs few z i l round) (not-true _ (kept zero))
 

@@ -1,6 +1,6 @@
 -- 01, "Reading", rules 1 to 5. hs are the holders of n gateways; the arc into w comes from its holder.
 -- Pairing a run of a cycle from its start, with the first of an odd run joining the gateway before it, gives the same groups as rule 1 once the arcs into
--- certain cycle gateways are cut: a run then ends in a leaf. proofs/Rules.antt states each rule as 01 writes it.
+-- certain cycle gateways are cut: a run then ends in a leaf. specs/Rules.antt states each rule as 01 writes it; proofs/Rules.antt and proofs/Only.antt prove that they fix this list.
 use Prim.Native.Nat.{ℕ, zero, suc}
 use mathlib.Core.Bool.{Bool, false, not, cond, _&&_, _||_}
 use mathlib.Core.List.{List}
