@@ -1,14 +1,16 @@
 -- Laws of lists of values, and of a loop that writes one to the front of a lent list, an entry a turn.
 use Prim.Native.Nat.{ℕ, zero, suc, _+_, _<_, _≤_}
 use mathlib.Core.Path.{_≡_, refl, sym, ap, _∙_}
+use mathlib.Core.Bool.{true}
 use mathlib.Core.List.{List, [], _∷_, _++_}
 use native.Mathlib.Nat.{not-suc-le-zero}
 use native.Mathlib.Numerals.{add-one}
 use native.Mathlib.Omega.{arith}
 use lib.ListN.{length, getD, set, drop, length-append, length-set, List·getD-append}
 use lib.Seq.{getD-at, drop-cons, set-at, append-snoc, ext-getD, length-front}
-use Rattle.packing.specs.Lists.{listOf}
-use Rattle.packing.proofs.Tests.{below-suc}
+use borrow.Author.Tests.{leb-true}
+use Rattle.packing.specs.Lists.{listOf, fits}
+use Rattle.packing.proofs.Tests.{tests, below-suc}
 
 pub listOf-length : (n : ℕ) (f : ℕ → ℕ) → length (listOf n f) ≡ n
 unfolding listOf
@@ -66,3 +68,8 @@ module _ (n : ℕ) (f : ℕ → ℕ) (old : List ℕ) where
     where
       last : Listed n f old new v → n ≤ v → v ≡ n
       last r k = omega arith
+
+-- what the test of n and the lengths says
+pub fits-means : (n : ℕ) (read out : List ℕ) → fits n read out ≡ true → (n ≤ 1024) × (n ≤ length read) × (n ≤ length out)
+unfolding fits
+fits-means n read out e = search (tests, leb-true)

@@ -2,11 +2,10 @@
 use Prim.Native.Nat.{ℕ, _<_}
 use mathlib.Core.Path.{_≡_, sym, ap, _∙_}
 use mathlib.Core.Bool.{Bool, true, false, not, cond}
-use mathlib.Core.List.{List, _++_}
+use mathlib.Core.List.{List}
 use lib.Dec.{ltb}
-use lib.ListN.{drop}
 use Rattle.packing.specs.Plant.{NONE, at}
-use Rattle.packing.specs.Lists.{listOf}
+use Rattle.packing.specs.Lists.{listOf, written}
 use Rattle.stars.specs.Stars.{onCycle, nextOnCycle, leadsIn, leadsInTrees, cut, leads, leaderOf, ruleFive, leaderList}
 use Rattle.stars.specs.Pre.{Table, Marks, Ruled, marked}
 use Rattle.stars.proofs.Tables.{read-mark, mark}
@@ -47,8 +46,8 @@ module _ {n : ℕ} {hs cs ds ls : List ℕ} (r : Ruled n hs cs ds ls) (v : ℕ) 
   leader-holder e f g q s t = rw (sym (leading e) ∙ f, sym (cutting g) ∙ q) (rw s at t)
 
 -- the list by rule 5 over the array of leaders is the leader list
-pub list-joined : (n : ℕ) (hs old : List ℕ) {gs new : List ℕ} → Table n (leaderOf n hs) gs → new ≡ listOf n (ruleFive ltb n (at gs)) ++ drop n old
-    → new ≡ listOf n (leaderList n hs) ++ drop n old
+pub list-joined : (n : ℕ) (hs old : List ℕ) {gs new : List ℕ} → Table n (leaderOf n hs) gs → new ≡ written n (listOf n (ruleFive ltb n (at gs))) old
+    → new ≡ written n (listOf n (leaderList n hs)) old
 unfolding leaderList
 list-joined n hs old {gs} t e =
-    e ∙ ap (λ (l : List ℕ). l ++ drop n old) (listOf-ext n (ruleFive ltb n (at gs)) (ruleFive ltb n (leaderOf n hs)) (five-ext ltb n (at gs) (leaderOf n hs) (t .entry)))
+    e ∙ ap (λ (l : List ℕ). written n l old) (listOf-ext n (ruleFive ltb n (at gs)) (ruleFive ltb n (leaderOf n hs)) (five-ext ltb n (at gs) (leaderOf n hs) (t .entry)))

@@ -18,3 +18,4 @@ pub mod Begins
 pub mod Passes
 pub mod RuleFive
 pub mod Joined
+pub mod Written
