@@ -12,11 +12,11 @@ use Rattle.packing.specs.Grouping.{Grouping, follows, memberCount, covered}
 use Rattle.packing.specs.Holders.{held, holds, Feasible}
 use Rattle.packing.proofs.Tests.{by-bool, clash, and-l, and-r, and-i, not-i, not-test, any-elim, any-fails}
 use Rattle.packing.proofs.Sums.{count-mono, count-split, count-some, count-unique}
-use Rattle.packing.proofs.Groupings.{Sym, Loopless}
+use Rattle.packing.proofs.Groupings.{Sym, Loopless, follows-is, follows-means}
 use Rattle.stars.specs.Stars.{back, onCycle, nextOnCycle, leadsInTrees, cut, leads, leaderOf, leaderList}
 use Rattle.stars.proofs.Cycles.{holder-at, back-holder, cycle-round, cycle-only, next-held, next-only}
 use Rattle.stars.proofs.Leads.{Begins, begins-means, cut-begins, trees-child, leads-child, leads-tree, leads-more}
-use Rattle.stars.proofs.Five.{Kind, alone-is, leader-is, member-is, follows-is, follows-means, ruleFive-covered, ruleFive-grouping}
+use Rattle.stars.proofs.Five.{Kind, alone-is, leader-is, member-is, ruleFive-covered, ruleFive-grouping}
 
 -- the entry by rules 1 to 4, case by case
 module _ (n : ℕ) (hs : List ℕ) (v : ℕ) where
@@ -133,19 +133,19 @@ module _ (n : ℕ) (hs : List ℕ) (few : n ≤ NONE) where
               (by, by-bool (onCycle n hs w) (λ t. t) (λ t. clash _ (trees-child n hs few u l .1 (w, a, by, t, sym (leads-tree n hs few w t) ∙ member-quiet w u a l (means w mw .0) (means w mw .1))) (rw r at (b .none i))))
 
   -- who is held gets a gateway for its entry
-  pub leaderOf-below : (v : ℕ) → v < n → held n (at hs) v ≡ true → leaderOf n hs v < n
+  leaderOf-below : (v : ℕ) → v < n → held n (at hs) v ≡ true → leaderOf n hs v < n
   leaderOf-below v l h =
       by-bool (leads n hs v) (λ e. rw (entry-leads n hs v e) l)
       (λ e. by-bool (cut n hs v) (λ c. rw (entry-cut n hs v e c) (next-held n hs few v l (cut-starts v l e c .on) .0)) (λ c. let k = ltb-true (at hs v) n h in rw (entry-held n hs v e c k) k))
 
-  pub leaderOf-covers : (v : ℕ) → v < n → held n (at hs) v ≡ true → covered (leaderOf n hs) v ≡ true
+  leaderOf-covers : (v : ℕ) → v < n → held n (at hs) v ≡ true → covered (leaderOf n hs) v ≡ true
   leaderOf-covers v l h = not-i _ (ne-eqb (leaderOf n hs v) NONE (λ q. omega (arith, leaderOf-below v l h)))
 
 module _
     (n : ℕ) (hs : List ℕ) (few : n ≤ NONE) (limit : ℕ → ℕ) (adj : ℕ → ℕ → Bool) (feasible : Feasible n limit adj (at hs)) (symmetric : Sym n adj) (two : (u : ℕ) → u < n → 2 ≤ limit u)
   where
     -- the entries by rules 1 to 4 are a grouping
-    pub leaderOf-grouping : Grouping n limit adj (leaderOf n hs)
+    leaderOf-grouping : Grouping n limit adj (leaderOf n hs)
     unfolding Grouping memberCount
     leaderOf-grouping v l = by-bool (leads n hs v) leader (λ e. by-bool (cut n hs v) (first e) (λ c. by-bool (ltb (at hs v) n) (held-by e c) (λ h. alone-is n limit adj (leaderOf n hs) v (entry-none n hs v e c h))))
       where

@@ -10,7 +10,7 @@ use Rattle.stars.specs.Stars.{onCycle, nextOnCycle, leadsIn, leadsInTree
 use Rattle.stars.specs.Pre.{Table, Marks, Ruled, marked}
 use Rattle.stars.proofs.Tables.{read-mark, mark}
 use Rattle.stars.proofs.Passes.{leadsIn-ext}
-use Rattle.stars.proofs.RuleFive.{five-ext}
+use Rattle.stars.proofs.Five.{five-ext}
 use Rattle.packing.proofs.Lists.{listOf-ext}
 
 -- who leads over the arcs that an array does not stop, for the test that the array holds
@@ -50,4 +50,4 @@ pub list-joined : (n : ℕ) (hs old : List ℕ) {gs new : List ℕ} → Table n 
     → new ≡ written n (listOf n (leaderList n hs)) old
 unfolding leaderList
 list-joined n hs old {gs} t e =
-    e ∙ ap (λ (l : List ℕ). written n l old) (listOf-ext n (ruleFive ltb n (at gs)) (ruleFive ltb n (leaderOf n hs)) (five-ext ltb n (at gs) (leaderOf n hs) (t .entry)))
+    e ∙ ap (λ (l : List ℕ). written n l old) (listOf-ext n (ruleFive ltb n (at gs)) (ruleFive ltb n (leaderOf n hs)) (five-ext n (at gs) (leaderOf n hs) (t .entry) ltb))

@@ -12,7 +12,7 @@ use Rattle.packing.specs.Plant.{NONE, at}
 use Rattle.packing.proofs.Tests.{by-bool, below-suc, clash, and-l, and-r, and-i, not-i, not-test, all-elim, all-intro, any-intro, any-elim, any-none}
 use Rattle.stars.specs.Stars.{back, onCycle, leadsIn, leadsInTrees, begins, cut, leads}
 use Rattle.stars.proofs.Loops.{any-ext}
-use Rattle.stars.proofs.Cycles.{back-add, round-met, round-cycle, cycle-round, cycle-back, cycle-holder}
+use Rattle.stars.proofs.Cycles.{back-add, round-met, round-cycle, cycle-met, cycle-back, cycle-holder}
 use Rattle.stars.proofs.Upwards.{upwards}
 
 -- of some numbers one is lowest
@@ -24,18 +24,41 @@ lowest (suc m) f =
     (λ q. (suc m, omega arith, λ i j. below-suc i (suc m) (omega arith) (λ e. rw e (omega arith)) (λ e. omega (arith, ltb-true (f (suc m)) (f k) q, h i (omega arith)))))
     (λ q. (k, omega arith, λ i j. below-suc i (suc m) (omega arith) (λ e. rw e (ltb-false (f (suc m)) (f k) q)) (λ e. h i (omega arith))))
 
--- Where every cycle has an arc that is not kept, n rounds are enough.
+-- a child of u that leads nobody: held by u, by an arc that is not out, and not busy
+abbrev Child : ℕ → List ℕ → (ℕ → Bool) → (ℕ → Bool) → ℕ → Type 0
+Child n hs out busy u = (w : ℕ) × (w < n) × (at hs w ≡ u) × (out w ≡ false) × (busy w ≡ false)
+
+-- Where every cycle has an arc that is out, n rounds are enough: then u leads if it has a child that leads nobody, and not else.
 module _
-    (n : ℕ) (hs : List ℕ) (few : n ≤ NONE) (kept : ℕ → Bool)
-    (broken : (z i : ℕ) → z < n → back n hs (suc i) z ≡ z → ((k : ℕ) → kept (back n hs k z) ≡ true) → ⊥)
+    (n : ℕ) (hs : List ℕ) (few : n ≤ NONE) (out : ℕ → Bool)
+    (broken : (z i : ℕ) → z < n → back n hs (suc i) z ≡ z → ((k : ℕ) → not (out (back n hs k z)) ≡ true) → ⊥)
   where
-    rounds : (u : ℕ) → u < n → leadsIn n n hs kept u ≡ leadsIn (suc n) n hs kept u
-    unfolding leadsIn
+    in-round : ℕ → ℕ → Bool
+    in-round f = leadsIn f n hs (λ w. not (out w))
+
+    led : ℕ → ℕ → ℕ → Bool
+    led f u w = eqb (at hs w) u && not (out w) && not (in-round f w)
+
+    rounds : (u : ℕ) → u < n → in-round n u ≡ any n (led n u)
+    unfolding in-round led leadsIn
     rounds =
-        upwards n hs few kept broken (λ f u. leadsIn f n hs kept u ≡ leadsIn (suc f) n hs kept u)
-        (λ u l none. sym (any-none n (λ w. eqb (at hs w) u && kept w && true) (λ w k. not-test _ (λ t. none w k (eqb-true (at hs w) u (and-l _ _ (and-l _ _ t))) (and-r (eqb (at hs w) u) (kept w) (and-l _ _ t))))))
-        (λ f u l same. any-ext n (λ w. eqb (at hs w) u && kept w && not (leadsIn f n hs kept w)) (λ w. eqb (at hs w) u && kept w && not (leadsIn (suc f) n hs kept w))
-        (λ w k. by-bool (eqb (at hs w) u && kept w) (λ t. rw (t, same w k (eqb-true (at hs w) u (and-l _ _ t)) (and-r (eqb (at hs w) u) (kept w) t))) (λ t. rw t)))
+        upwards n hs few (λ w. not (out w)) broken (λ f u. in-round f u ≡ any n (led f u))
+        (λ u l none. sym (any-none n (led 0 u) (λ w k. not-test _ (λ t. let (e, o) = arc 0 u w t in none w k e o))))
+        (λ f u l same. any-ext n (led f u) (led (suc f) u)
+        (λ w k. by-bool (eqb (at hs w) u && not (out w)) (λ t. rw (t, same w k (eqb-true (at hs w) u (and-l _ _ t)) (and-r (eqb (at hs w) u) _ t))) (λ t. rw t)))
+      where
+        arc : (f u w : ℕ) → led f u w ≡ true → (at hs w ≡ u) × (not (out w) ≡ true)
+        arc f u w t = (eqb-true (at hs w) u (and-l _ _ (and-l _ _ t)), and-r (eqb (at hs w) u) (not (out w)) (and-l _ _ t))
+
+    leads-by : (u : ℕ) → u < n → in-round n u ≡ true ↔ Child n hs out (in-round n) u
+    unfolding led
+    leads-by u l = (λ e. found (sym (rounds u l) ∙ e), λ (w, k, e, f, g). rounds u l ∙ any-intro n (led n u) w k (rw (eq-eqb (at hs w) u e, f, g)))
+      where
+        found : any n (led n u) ≡ true → Child n hs out (in-round n) u
+        found e =
+            let (w, k, t) = any-elim n (led n u) e in
+            let first : (eqb (at hs w) u && not (out w)) ≡ true = and-l _ _ t in
+            (w, k, eqb-true (at hs w) u (and-l _ _ first), not-true (out w) (and-r (eqb (at hs w) u) _ first), not-true (in-round n w) (and-r (eqb (at hs w) u && not (out w)) _ t))
 
 -- a cycle has no arc of the trees
 pub trees-broken : (n : ℕ) (hs : List ℕ) (few : n ≤ NONE) (z i : ℕ) → z < n → back n hs (suc i) z ≡ z → ((k : ℕ) → not (onCycle n hs (back n hs k z)) ≡ true) → ⊥
@@ -43,26 +66,9 @@ unfolding back
 trees-broken n hs few z i l round kept = clash _ (round-cycle n hs few z i l round) (not-true _ (kept zero))
 
 -- who leads by rule 1: whoever has a child, not the next on a cycle, that leads nobody
-pub trees-lead : (n : ℕ) (hs : List ℕ) → n ≤ NONE → (u : ℕ) → u < n → leadsInTrees n hs u ≡ any n (λ w. eqb (at hs w) u && not (onCycle n hs w) && not (leadsInTrees n hs w))
-unfolding leadsInTrees leadsIn
-trees-lead n hs few u l = rounds n hs few (λ w. not (onCycle n hs w)) (trees-broken n hs few) u l
-
--- such a child of u: held by u, with neither of two marks
-abbrev pub Child : ℕ → List ℕ → (ℕ → Bool) → (ℕ → Bool) → ℕ → Type 0
-Child n hs out busy u = (w : ℕ) × (w < n) × (at hs w ≡ u) × (out w ≡ false) × (busy w ≡ false)
-
-module _ (n : ℕ) (hs : List ℕ) (out busy : ℕ → Bool) (u : ℕ) where
-  child-found : any n (λ w. eqb (at hs w) u && not (out w) && not (busy w)) ≡ true → Child n hs out busy u
-  child-found e =
-      let (w, l, t) = any-elim n (λ w. eqb (at hs w) u && not (out w) && not (busy w)) e in
-      let first : (eqb (at hs w) u && not (out w)) ≡ true = and-l _ _ t in
-      (w, l, eqb-true (at hs w) u (and-l _ _ first), not-true (out w) (and-r (eqb (at hs w) u) _ first), not-true (busy w) (and-r (eqb (at hs w) u && not (out w)) _ t))
-
-  child-any : Child n hs out busy u → any n (λ w. eqb (at hs w) u && not (out w) && not (busy w)) ≡ true
-  child-any (w, l, e, f, g) = any-intro n (λ w. eqb (at hs w) u && not (out w) && not (busy w)) w l (rw (eq-eqb (at hs w) u e, f, g))
-
 pub trees-child : (n : ℕ) (hs : List ℕ) → n ≤ NONE → (u : ℕ) → u < n → leadsInTrees n hs u ≡ true ↔ Child n hs (onCycle n hs) (leadsInTrees n hs) u
-trees-child n hs few u l = (λ e. child-found n hs (onCycle n hs) (leadsInTrees n hs) u (sym (trees-lead n hs few u l) ∙ e), λ c. trees-lead n hs few u l ∙ child-any n hs (onCycle n hs) (leadsInTrees n hs) u c)
+unfolding leadsInTrees in-round
+trees-child n hs few = leads-by n hs few (onCycle n hs) (trees-broken n hs few)
 
 -- v begins a cycle: none on it leads in trees, and v is the lowest
 pub record Begins (n : ℕ) (hs : List ℕ) (v : ℕ) : Type 0 where
@@ -73,16 +79,13 @@ pub record Begins (n : ℕ) (hs : List ℕ) (v : ℕ) : Type 0 where
 module _ (n : ℕ) (hs : List ℕ) where
   pub begins-means : {v : ℕ} → begins n hs v ≡ true → Begins n hs v
   unfolding begins
-  begins-means {v} e = record { on = on; none = λ j. let (k, l, r) = met j in rw r (not-true _ (and-l _ _ (each k l))); low = λ j. let (k, l, r) = met j in rw r (leb-true v _ (and-r (not (leadsInTrees n hs (back n hs k v))) _ (each k l))) }
+  begins-means {v} e = record { on = on; none = λ j. let (k, l, r) = cycle-met n hs v on j in rw r (not-true _ (and-l _ _ (each k l))); low = λ j. let (k, l, r) = cycle-met n hs v on j in rw r (leb-true v _ (and-r (not (leadsInTrees n hs (back n hs k v))) _ (each k l))) }
     where
       on : onCycle n hs v ≡ true
       on = and-l _ _ e
 
       each : (i : ℕ) → i < n → (not (leadsInTrees n hs (back n hs i v)) && leb v (back n hs i v)) ≡ true
       each = all-elim n (λ i. not (leadsInTrees n hs (back n hs i v)) && leb v (back n hs i v)) (and-r (onCycle n hs v) _ e)
-
-      met : (j : ℕ) → (k : ℕ) × (k < n) × (back n hs j v ≡ back n hs k v)
-      met j = let (i, m, round, _) = cycle-round n hs v on in let (k, l, r) = round-met n hs v i round j in (k, omega arith, r)
 
   pub begins-is : {v : ℕ} → Begins n hs v → begins n hs v ≡ true
   unfolding begins
@@ -132,12 +135,9 @@ module _ (n : ℕ) (hs : List ℕ) (few : n ≤ NONE) where
       quiet j = not-test (leadsInTrees n hs (back n hs j z)) (λ t. uncut j (cut-leads n hs (back n hs j z) (cycle-back n hs z on j) t))
 
   -- who leads by rules 1 to 4: whoever has a kept arc to one that leads nobody
-  pub leads-kept : (u : ℕ) → u < n → leads n hs u ≡ any n (λ w. eqb (at hs w) u && not (cut n hs w) && not (leads n hs w))
-  unfolding leads leadsIn
-  leads-kept u l = rounds n hs few (λ w. not (cut n hs w)) cut-broken u l
-
   pub leads-child : (u : ℕ) → u < n → leads n hs u ≡ true ↔ Child n hs (cut n hs) (leads n hs) u
-  leads-child u l = (λ e. child-found n hs (cut n hs) (leads n hs) u (sym (leads-kept u l) ∙ e), λ c. leads-kept u l ∙ child-any n hs (cut n hs) (leads n hs) u c)
+  unfolding leads in-round
+  leads-child = leads-by n hs few (cut n hs) cut-broken
 
   -- outside the cycles rules 3 and 4 change nothing
   pub leads-tree : (v : ℕ) → onCycle n hs v ≡ false → leads n hs v ≡ leadsInTrees n hs v

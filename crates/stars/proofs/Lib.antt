@@ -16,6 +16,6 @@ pub mod Tables
 pub mod Backs
 pub mod Begins
 pub mod Passes
-pub mod RuleFive
+pub mod Pairing
 pub mod Joined
 pub mod Written

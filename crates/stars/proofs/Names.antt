@@ -11,7 +11,7 @@ use Rattle.packing.specs.Holders.{held}
 use Rattle.packing.proofs.Tests.{by-bool, not-i, iff-test, any-elim, any-fails}
 use Rattle.stars.specs.Stars.{back, onCycle, leadsInTrees, leaderOf}
 use Rattle.stars.specs.Rules.{RuleOne, RuleTwo, Leaderless, Run, Itself, OneToFour}
-use Rattle.stars.proofs.Cycles.{round-met, cycle-round}
+use Rattle.stars.proofs.Cycles.{cycle-met}
 use Rattle.stars.proofs.Upwards.{upwards}
 use Rattle.stars.proofs.Leads.{trees-broken, trees-child}
 use Rattle.stars.proofs.Rules.{entries-hold}
@@ -111,10 +111,7 @@ module _ (n : ℕ) (hs : List ℕ) (few : n ≤ NONE) where
       behind j = leadsInTrees n hs (back n hs j v)
 
       none : any n behind ≡ false → (j : ℕ) → behind j ≡ false
-      none t j =
-          let (d, m, round, _) = cycle-round n hs v on in
-          let (k, a, e) = round-met n hs v d round j in
-          rw e (any-fails n behind t k (omega arith))
+      none t j = let (k, l, e) = cycle-met n hs v on j in rw e (any-fails n behind t k l)
 
   -- rules 1 to 4 name the entry of each gateway
   names : (v : ℕ) → v < n → Named n hs v

@@ -9,6 +9,10 @@ use Rattle.packing.proofs.Lists.{fits-means}
 use Rattle.stars.specs.Stars.{leaderList, leadersWritten}
 use Rattle.stars.specs.Pre.{Lent}
 
+pub leaders-written : (n : ℕ) (hs out : List ℕ) → fits n hs out ≡ true → leadersWritten n hs out ≡ written n (listOf n (leaderList n hs)) out
+unfolding leadersWritten
+leaders-written n hs out e = rw e
+
 module _ (n : ℕ) (hs out : List ℕ) {b : Bool} (e : b ≡ fits n hs out) where
   pub leaders-lent : not b ≡ false → Lent n hs out
   leaders-lent t = let (few, held, room) = fits-means n hs out (sym e ∙ not-false b t) in record { few = few; held = held; room = room }
@@ -18,5 +22,4 @@ module _ (n : ℕ) (hs out : List ℕ) {b : Bool} (e : b ≡ fits n hs out) wher
   leaders-refused t = (sym (not-true b t) ∙ e, rw (sym e ∙ not-true b t))
 
   pub leaders-done : {new : List ℕ} → not b ≡ false → new ≡ written n (listOf n (leaderList n hs)) out → (true ≡ fits n hs out) × (new ≡ leadersWritten n hs out)
-  unfolding leadersWritten
-  leaders-done t h = (sym (not-false b t) ∙ e, rw (sym e ∙ not-false b t) h)
+  leaders-done t h = let fit : true ≡ fits n hs out = sym (not-false b t) ∙ e in (fit, h ∙ sym (leaders-written n hs out (sym fit)))
