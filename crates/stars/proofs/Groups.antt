@@ -1,7 +1,7 @@
 -- The leader list is a grouping that covers every held gateway: by rules 1 to 4, and after rule 5.
 use Prim.Native.Nat.{ℕ, zero, suc, _<_, _≤_}
 use mathlib.Core.Path.{_≡_, refl, sym, ap, _∙_}
-use mathlib.Core.Bool.{Bool, true, false, not, _&&_}
+use mathlib.Core.Bool.{Bool, true, false, not, cond, _&&_}
 use mathlib.Core.List.{List}
 use native.Mathlib.Omega.{arith}
 use lib.Dec.{eqb, ltb}
@@ -28,13 +28,15 @@ module _ (n : ℕ) (hs : List ℕ) (v : ℕ) where
   unfolding leaderOf
   entry-cut e f = rw (e, f)
 
-  pub entry-held : leads n hs v ≡ false → cut n hs v ≡ false → at hs v < n → leaderOf n hs v ≡ at hs v
+  pub entry-kept : leads n hs v ≡ false → cut n hs v ≡ false → leaderOf n hs v ≡ cond (ltb (at hs v) n) (at hs v) NONE
   unfolding leaderOf
-  entry-held e f l = rw (e, f, lt-ltb (at hs v) n l)
+  entry-kept e f = rw (e, f)
+
+  pub entry-held : leads n hs v ≡ false → cut n hs v ≡ false → at hs v < n → leaderOf n hs v ≡ at hs v
+  entry-held e f l = rw (lt-ltb (at hs v) n l) at (entry-kept e f)
 
   pub entry-none : leads n hs v ≡ false → cut n hs v ≡ false → held n (at hs) v ≡ false → leaderOf n hs v ≡ NONE
-  unfolding leaderOf
-  entry-none e f g = rw (e, f, g)
+  entry-none e f g = rw g at (entry-kept e f)
 
 module _ (n : ℕ) (hs : List ℕ) (few : n ≤ NONE) where
   -- whose arc is cut and who leads nobody begins a cycle

@@ -11,6 +11,7 @@ use Rattle.stars.specs.Pre.{Table, Marks, Ruled, marked}
 use Rattle.stars.proofs.Tables.{read-mark, mark}
 use Rattle.stars.proofs.Passes.{leadsIn-ext}
 use Rattle.stars.proofs.Five.{five-ext}
+use Rattle.stars.proofs.Groups.{entry-leads, entry-cut, entry-kept}
 use Rattle.packing.proofs.Lists.{listOf-ext}
 
 -- who leads over the arcs that an array does not stop, for the test that the array holds
@@ -34,16 +35,13 @@ module _ {n : ℕ} {hs cs ds ls : List ℕ} (r : Ruled n hs cs ds ls) (v : ℕ) 
   cutting e = e ∙ read-mark (cut n hs) (r .cuts) v h
 
   pub leader-self : {b : Bool} → b ≡ marked ls v → b ≡ true → v ≡ leaderOf n hs v
-  unfolding leaderOf
-  leader-self e f = rw (sym (leading e) ∙ f)
+  leader-self e f = sym (entry-leads n hs v (sym (leading e) ∙ f))
 
   pub leader-next : {b k : Bool} {u : ℕ} → b ≡ marked ls v → b ≡ false → k ≡ marked ds v → k ≡ true → u ≡ nextOnCycle n hs v → u ≡ leaderOf n hs v
-  unfolding leaderOf
-  leader-next e f g q s = rw (sym (leading e) ∙ f, sym (cutting g) ∙ q) s
+  leader-next e f g q s = s ∙ sym (entry-cut n hs v (sym (leading e) ∙ f) (sym (cutting g) ∙ q))
 
   pub leader-holder : {b k : Bool} {w u : ℕ} → b ≡ marked ls v → b ≡ false → k ≡ marked ds v → k ≡ false → w ≡ at hs v → u ≡ cond (ltb w n) w NONE → u ≡ leaderOf n hs v
-  unfolding leaderOf
-  leader-holder e f g q s t = rw (sym (leading e) ∙ f, sym (cutting g) ∙ q) (rw s at t)
+  leader-holder e f g q s t = rw s at t ∙ sym (entry-kept n hs v (sym (leading e) ∙ f) (sym (cutting g) ∙ q))
 
 -- the list by rule 5 over the array of leaders is the leader list
 pub list-joined : (n : ℕ) (hs old : List ℕ) {gs new : List ℕ} → Table n (leaderOf n hs) gs → new ≡ written n (listOf n (ruleFive ltb n (at gs))) old
