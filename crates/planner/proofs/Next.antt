@@ -16,6 +16,8 @@ use Rattle.search.specs.Pre.{Placeable}
 use Rattle.search.proofs.Tested.{holders-placed, bytes-written}
 use Rattle.sound.specs.Sound.{isSound}
 use Rattle.sound.proofs.Meaning.{Sound, sound-means}
+use Rattle.stars.specs.Stars.{leaderList, leadersWritten}
+use Rattle.stars.proofs.Written.{leaders-written}
 use Rattle.planner.specs.Refusals.{placeConditions}
 
 -- a record that passed the test of soundness
@@ -41,7 +43,11 @@ pub next-placed : (n t m k : ℕ) (ls os hs : List ℕ) {hs' : List ℕ} → Sou
     → hs' ≡ placedHolders n (common t) (firstLinks m ls) hs (at os k)
 next-placed n t m k ls os hs s more e = e ∙ holders-placed (common t) (firstLinks m ls) (next-placeable n t m k ls os hs s more)
 
--- the choke bytes fit where there is a place for each, and so they are written
+-- the leader list and the choke bytes fit where there is a place for each, and so they are written
+pub leaders-placed : (n t m k : ℕ) (ls os hs leaders : List ℕ) {leaders' : List ℕ} → Sound n t m k ls os hs → n ≤ length leaders → leaders' ≡ leadersWritten n hs leaders
+    → leaders' ≡ written n (listOf n (leaderList n hs)) leaders
+leaders-placed n t m k ls os hs leaders s room e = e ∙ leaders-written n hs leaders (fits-holds n hs leaders (s .few) (s .holders-long) room)
+
 pub choke-placed : (n t m k : ℕ) (ls os hs choke : List ℕ) {choke' : List ℕ} → Sound n t m k ls os hs → n ≤ length choke → choke' ≡ chokeWritten n (firstLinks m ls) hs choke
     → choke' ≡ written n (listOf n (chokeByte n (firstLinks m ls) hs)) choke
 choke-placed n t m k ls os hs choke s room e = e ∙ bytes-written n (firstLinks m ls) hs choke (fits-holds n hs choke (s .few) (s .holders-long) room)

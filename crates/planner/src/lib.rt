@@ -166,8 +166,8 @@ impl Small {
             };
         }
         let end = 2 * (m as usize);
+        // Both answers are true: the lengths were tested above.
         stars::leaders(n, holders, leaders);
-        // The answer is true: the lengths were tested above.
         search::choke::choke_set(n, &links[..end], holders, choke);
         Answer {
             refusal: 0,
