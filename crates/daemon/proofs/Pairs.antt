@@ -9,7 +9,7 @@ use lib.Seq.{sets, sets-eq, drop-cons}
 use Rattle.packing.specs.Lists.{written}
 use Rattle.daemon.specs.Plan.{lowFirst}
 
-pub low-long : (l : List ℕ) → length (lowFirst l) ≡ 2 * length l
+low-long : (l : List ℕ) → length (lowFirst l) ≡ 2 * length l
 unfolding lowFirst
 low-long [] = refl
 low-long (x ∷ xs) = omega (arith, low-long xs)

@@ -27,7 +27,7 @@ use Rattle.plant_file.proofs.Accepted.{file-fits}
 use Rattle.daemon.specs.Plan.{fileCalls, fileState}
 use Rattle.daemon.specs.Pre.{stateOf, linkStep, Fits}
 
-pub run-append : (s : State) (a b : List Call) → run s (a ++ b) ≡ run (run s a) b
+run-append : (s : State) (a b : List Call) → run s (a ++ b) ≡ run (run s a) b
 unfolding run
 run-append s [] b = refl
 run-append s (c ∷ a) b = run-append (step s c) a b
@@ -78,9 +78,12 @@ loaded file {links} {numbers} {new} f e g =
 pub fits-order : (file : List ℕ) {numbers : List ℕ} → fileRefusal file ≡ 0 → numbers ≡ replicate 1024 0 → Fits file numbers
 fits-order file z e = record { fine = z; room = rw (e, length-replicate) (file-fits file z .few) }
 
-pub order-room : (file lent : List ℕ) {n : ℕ} {l : List ℕ} → n ≡ fileN file → l ≡ written (fileN file) (fileOrder file) lent → n ≤ length l
+pub written-room : (n : ℕ) (front lent : List ℕ) {l : List ℕ} → length front ≡ n → l ≡ written n front lent → n ≤ length l
 unfolding written
-order-room file lent {n} {l} e f = rw f (omega (arith, length-append (fileOrder file) (drop (fileN file) lent), order-long file))
+written-room n front lent e f = rw f (omega (arith, length-append front (drop n lent)))
+
+pub order-room : (file lent : List ℕ) {n : ℕ} {l : List ℕ} → n ≡ fileN file → l ≡ written (fileN file) (fileOrder file) lent → n ≤ length l
+order-room file lent e f = rw e (written-room (fileN file) (fileOrder file) lent (order-long file) f)
 
 pub ordered : (file lent : List ℕ) (s : Small) (ls os hs : List ℕ) {n : ℕ} {l os' : List ℕ} {r : Answer} → n ≡ fileN file → l ≡ written (fileN file) (fileOrder file) lent
     → r ≡ orderAnswer s ls os hs (take n l) → os' ≡ orderOrder s ls os hs (take n l) → stateOf (r .small) ls os' hs ≡ step (stateOf s ls os hs) (order (fileOrder file))

@@ -74,7 +74,7 @@ module _ (file out : List ℕ) {a b : List ℕ} (ea : a ≡ replicate 1024 0) (e
   write-listing z en et el ec p q = let same = listing-is z en et el ec in (p ∙ ap length same, q ∙ ap (λ (l : List ℕ). sets out 0 l) same)
 
 -- it has room in a list of 16,437 entries
-pub text-short : (file : List ℕ) → length (fileText file) ≤ 16437
+text-short : (file : List ℕ) → length (fileText file) ≤ 16437
 unfolding fileText
 text-short file = by (planRefusal file 1024 1024) refl
   where

@@ -1,7 +1,7 @@
 -- Laws of the digits and of numbers listed.
 use Prim.Native.Nat.{ℕ, zero, suc, _+_, _*_, _/_, _%_, _<_, _≤_}
 use mathlib.Core.Path.{_≡_, refl, sym, ap, _∙_}
-use mathlib.Core.Bool.{Bool, cond}
+use mathlib.Core.Bool.{Bool, true, false, cond}
 use mathlib.Core.List.{List, [], _∷_, _++_, append-assoc, append-nil}
 use native.Mathlib.Numerals.{add-one}
 use native.Mathlib.Omega.{arith}
@@ -11,8 +11,7 @@ use borrow.Author.Tests.{lt-ltb, le-ltb}
 use Rattle.packing.proofs.Tests.{by-bool}
 use Rattle.packing.specs.Lists.{listWhere}
 use Rattle.report.specs.Text.{digitsIn, digits, spaced}
-use Rattle.report.specs.Pre.{Put}
-use Rattle.report.proofs.Puts.{Growing, put-is, put-then, put-within}
+use Rattle.report.proofs.Puts.{Growing}
 
 -- 10, 100, ..: the first number that has one digit more than suc places
 power : ℕ → ℕ
@@ -27,7 +26,7 @@ places-enough (suc places) x h =
     by-bool (ltb x 10) (λ e. simp e)
     (λ e. simp e (ap (λ (l : List ℕ). l ++ ((48 + x % 10) ∷ [])) (places-enough places (x / 10) (omega arith))))
 
-pub digits-four : (x : ℕ) → x < 10000 → digits x ≡ digitsIn 4 x
+digits-four : (x : ℕ) → x < 10000 → digits x ≡ digitsIn 4 x
 unfolding digits power
 digits-four x h = sym (places-enough 3 x h)
 
@@ -60,19 +59,6 @@ digits-short x = digitsIn-short 5 x
 pub digits-short-four : (x : ℕ) → x < 10000 → length (digits x) ≤ 4
 digits-short-four x h = rw (digits-four x h) (digitsIn-short 4 x)
 
--- what the writer of a number puts
-pub digits-put-last : {x : ℕ} {l l' : List ℕ} {p q : ℕ} → x < 10 → Put 1 ((48 + x % 10) ∷ []) l p l' q → Put 5 (digits x) l p l' q
-digits-put-last {x} h f = put-within 5 (omega arith) (put-is (digits-last x h) f)
-
-pub digits-room : {x : ℕ} {l l' : List ℕ} {p q : ℕ} → 10 ≤ x → x < 65536 → Put 5 (digits (x / 10)) l p l' q → q + 1 ≤ p + 5
-digits-room {x} h k f =
-    omega (arith, ap length (digits-more x h k), length-append (digits (x / 10)) ((48 + x % 10) ∷ []), digits-short x)
-
-pub digits-put-more : {x : ℕ} {l l' l'' : List ℕ} {p q r : ℕ} → 10 ≤ x → x < 65536 → Put 5 (digits (x / 10)) l p l' q → Put 1 ((48 + x % 10) ∷ []) l' q l'' r → Put 5 (digits x) l p l'' r
-digits-put-more {x} h k f g =
-    let both = put-is (digits-more x h k) (put-then f g) in
-    record { short = digits-short x; end = both .end; list = both .list }
-
 pub spaced-append : (a b : List ℕ) → spaced (a ++ b) ≡ spaced a ++ spaced b
 unfolding spaced
 spaced-append [] b = refl
@@ -81,6 +67,13 @@ spaced-append (x ∷ a) b = ap (λ (l : List ℕ). (32 ∷ digits x) ++ l) (spac
 pub spaced-one : (x : ℕ) → (32 ∷ []) ++ digits x ≡ spaced (x ∷ [])
 unfolding spaced
 spaced-one x = sym (append-nil (32 ∷ digits x))
+
+pub spaced-wanted : (x : ℕ) {b : Bool} → b ≡ true → spaced (x ∷ []) ≡ spaced (cond b (x ∷ []) [])
+spaced-wanted x e = rw e
+
+pub spaced-unwanted : (x : ℕ) {b : Bool} → b ≡ false → [] ≡ spaced (cond b (x ∷ []) [])
+unfolding spaced
+spaced-unwanted x e = rw e
 
 -- the numbers with p, listed: one more at each i, if it has p
 pub listed-grows : (n : ℕ) (p : ℕ → Bool) → Growing n (λ i. spaced (listWhere i p)) (λ i. spaced (cond (p i) (i ∷ []) []))

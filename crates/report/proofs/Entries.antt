@@ -11,6 +11,8 @@ use borrow.Author.Tests.{eq-eqb, ne-eqb}
 use Rattle.packing.specs.Count.{pick, count}
 use Rattle.packing.specs.Plant.{NONE, at}
 use Rattle.packing.proofs.Sums.{count-suc}
+use Rattle.report.specs.declared.lists.Which.{Which}
+use Rattle.report.specs.Pre.{isListed}
 
 -- an entry past the end
 pub entry-past : (l : List ℕ) (i : ℕ) → length l ≤ i → 0 ≡ at l i
@@ -25,6 +27,10 @@ member-own {y = y} {u = u} e h = rw (eq-eqb y u (sym e ∙ h))
 
 pub member-other : {x y u : ℕ} (b : Bool) → x ≡ y → (x ≡ u → ⊥) → false ≡ (eqb y u && b)
 member-other {y = y} {u = u} b e h = rw (ne-eqb y u (λ q. h (e ∙ q)))
+
+-- a test by what a line lists
+pub listed-as : {w x : Which} (leaders choke : List ℕ) (v : ℕ) {b : Bool} → w ≡ x → b ≡ isListed x leaders choke v → b ≡ isListed w leaders choke v
+listed-as leaders choke v e f = rw e f
 
 -- c of the first i gateways are covered
 pub record Counted (n : ℕ) (leaders : List ℕ) (c i : ℕ) : Type 0 where

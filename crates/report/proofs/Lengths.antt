@@ -12,14 +12,24 @@ use borrow.Author.Tests.{eqb-true, eq-eqb, ne-eqb, ltb-true, ltb-false}
 use Rattle.packing.specs.Count.{pick, sum}
 use Rattle.packing.specs.Lists.{listWhere}
 use Rattle.packing.specs.Plant.{NONE, at}
+use Rattle.packing.specs.Grouping.{follows, membersOf, isAlone, covered}
 use Rattle.packing.proofs.Tests.{by-bool}
 use Rattle.packing.proofs.Sums.{sum-ext, sum-mono, sum-zero, sum-add, sum-swap, sum-single, count-bound}
-use Rattle.report.specs.Text.{digits, spaced, coveredCount, lineOne, membersListed, leadLine, leadLines, aloneLine, chokeLine, listing, refusedLine}
+use Rattle.report.specs.Text.{digits, spaced, field, line, coveredCount, lineOne, leadLine, leadLines, aloneLine, chokeLine, listing, refusedLine}
+use Rattle.report.specs.Pre.{Room}
 use Rattle.report.proofs.Digits.{spaced-append, digits-short, digits-short-four}
 
 -- a number listed, with its space
 width : ℕ → ℕ
 width v = suc (length (digits v))
+
+width-four : (v : ℕ) → v < 10000 → width v ≤ 5
+unfolding width
+width-four v h = omega (arith, digits-short-four v h)
+
+width-five : (v : ℕ) → width v ≤ 6
+unfolding width
+width-five v = omega (arith, digits-short v)
 
 one-length : (x : ℕ) → length (spaced (x ∷ [])) ≡ width x
 unfolding spaced width
@@ -38,22 +48,28 @@ spaced-length (suc n) p =
     ∙ length-append (spaced (listWhere n p)) (spaced (cond (p n) (n ∷ []) []))
     ∙ rw (spaced-length n p, cond-length (p n) n)
 
+field-length : (word : List ℕ) (x : ℕ) → length (field word x) ≡ length word + width x
+unfolding field
+field-length word x = length-append word (spaced (x ∷ [])) ∙ rw (one-length x)
+
+line-length : (word numbers : List ℕ) → length (line word numbers) ≡ length word + length (spaced numbers) + 1
+unfolding line
+line-length word numbers = simp length-append
+
 -- what u's members take
 membersWidth : ℕ → List ℕ → ℕ → ℕ
-membersWidth n leaders u = sum n (λ w. pick (eqb (at leaders w) u && not (eqb w u)) (width w))
+membersWidth n leaders u = sum n (λ w. pick (follows (at leaders) u w) (width w))
 
 lead-length : (n : ℕ) (leaders : List ℕ) (u : ℕ) → length (leadLine n leaders u) ≤ pick (eqb (at leaders u) u) (6 + width u) + membersWidth n leaders u
-unfolding leadLine membersListed membersWidth
+unfolding leadLine membersOf membersWidth
 lead-length n leaders u =
     by-bool (eqb (at leaders u) u)
     (λ e. rw e (omega (
       arith,
-      length-append (108 ∷ 101 ∷ 97 ∷ 100 ∷ []) (spaced (u ∷ [])),
-      length-append ((108 ∷ 101 ∷ 97 ∷ 100 ∷ []) ++ spaced (u ∷ [])) (58 ∷ []),
-      length-append ((108 ∷ 101 ∷ 97 ∷ 100 ∷ []) ++ spaced (u ∷ []) ++ (58 ∷ [])) (spaced (listWhere n (λ w. eqb (at leaders w) u && not (eqb w u)))),
-      length-append ((108 ∷ 101 ∷ 97 ∷ 100 ∷ []) ++ spaced (u ∷ []) ++ (58 ∷ []) ++ spaced (listWhere n (λ w. eqb (at leaders w) u && not (eqb w u)))) (10 ∷ []),
-      one-length u,
-      spaced-length n (λ w. eqb (at leaders w) u && not (eqb w u)),
+      length-append (field (108 ∷ 101 ∷ 97 ∷ 100 ∷ []) u) (line (58 ∷ []) (membersOf n (at leaders) u)),
+      field-length (108 ∷ 101 ∷ 97 ∷ 100 ∷ []) u,
+      line-length (58 ∷ []) (membersOf n (at leaders) u),
+      spaced-length n (follows (at leaders) u),
     )))
     (λ e. rw e (omega arith))
 
@@ -104,8 +120,7 @@ module _ (n a v k : ℕ) where
       apart (inr x) = omega (arith, member-never x)
 
 -- the leaders' lines and the alone
-groups-length : (n : ℕ) (leaders : List ℕ) → n ≤ 65535
-    → length (leadLines n n leaders) + length (spaced (listWhere n (λ v. eqb (at leaders v) NONE))) ≤ sum n (λ v. 6 + width v)
+groups-length : (n : ℕ) (leaders : List ℕ) → n ≤ 65535 → length (leadLines n n leaders) + length (spaced (listWhere n (isAlone (at leaders)))) ≤ sum n (λ v. 6 + width v)
 unfolding membersWidth asMember
 groups-length n leaders few =
     omega (
@@ -125,63 +140,55 @@ unfolding sum
 sum-most zero most f h = omega arith
 sum-most (suc n) most f h = rw mul-suc (omega (arith, sum-most n most f (λ i l. h i (omega arith)), h n (omega arith)))
 
-width-four : (v : ℕ) → v < 10000 → width v ≤ 5
-unfolding width
-width-four v h = omega (arith, digits-short-four v h)
-
-width-five : (v : ℕ) → width v ≤ 6
-unfolding width
-width-five v = omega (arith, digits-short v)
-
 one-line-length : (n t : ℕ) (leaders : List ℕ) → length (lineOne n t leaders) ≡ 23 + width n + width t + width (coveredCount n leaders)
 unfolding lineOne
-one-line-length n t leaders = seven (103 ∷ 97 ∷ 116 ∷ 101 ∷ 119 ∷ 97 ∷ 121 ∷ 115 ∷ []) (spaced (n ∷ [])) (32 ∷ 108 ∷ 105 ∷ 109 ∷ 105 ∷ 116 ∷ []) (spaced (t ∷ []))
-    (32 ∷ 99 ∷ 111 ∷ 118 ∷ 101 ∷ 114 ∷ 101 ∷ 100 ∷ []) (spaced (coveredCount n leaders ∷ [])) (10 ∷ [])
-    ∙ rw (one-length n, one-length t, one-length (coveredCount n leaders)) (omega arith)
-  where
-    seven : (a b c d e f g : List ℕ) → length (a ++ b ++ c ++ d ++ e ++ f ++ g) ≡ length a + length b + length c + length d + length e + length f + length g
-    seven a b c d e f g = simp length-append
+one-line-length n t leaders =
+    omega (
+      arith,
+      length-append (field (103 ∷ 97 ∷ 116 ∷ 101 ∷ 119 ∷ 97 ∷ 121 ∷ 115 ∷ []) n) (field (32 ∷ 108 ∷ 105 ∷ 109 ∷ 105 ∷ 116 ∷ []) t),
+      length-append (field (103 ∷ 97 ∷ 116 ∷ 101 ∷ 119 ∷ 97 ∷ 121 ∷ 115 ∷ []) n ++ field (32 ∷ 108 ∷ 105 ∷ 109 ∷ 105 ∷ 116 ∷ []) t) (line (32 ∷ 99 ∷ 111 ∷ 118 ∷ 101 ∷ 114 ∷ 101 ∷ 100 ∷ []) (coveredCount n leaders ∷ [])),
+      field-length (103 ∷ 97 ∷ 116 ∷ 101 ∷ 119 ∷ 97 ∷ 121 ∷ 115 ∷ []) n,
+      field-length (32 ∷ 108 ∷ 105 ∷ 109 ∷ 105 ∷ 116 ∷ []) t,
+      line-length (32 ∷ 99 ∷ 111 ∷ 118 ∷ 101 ∷ 114 ∷ 101 ∷ 100 ∷ []) (coveredCount n leaders ∷ []),
+      one-length (coveredCount n leaders),
+    )
 
--- a text, the numbers with a test, and the line feed
-numbers-length : (n : ℕ) (p : ℕ → Bool) (word : List ℕ) → length (word ++ spaced (listWhere n p) ++ (10 ∷ [])) ≡ length word + length (spaced (listWhere n p)) + 1
-numbers-length n p word = simp length-append
-
--- at most 16 bytes for each gateway, and 53
-pub listing-length : (n t : ℕ) (leaders choke : List ℕ) → n < 10000 → length (listing n t leaders choke) ≤ 53 + 16 * n
+-- with numbers of at most so many bytes, the space counted
+listing-length : (most n t : ℕ) (leaders choke : List ℕ) → n ≤ 65535 → ((v : ℕ) → v ≤ n → width v ≤ most) → length (listing n t leaders choke) ≤ 43 + 2 * most + (6 + most) * n + most * n
 unfolding listing aloneLine chokeLine coveredCount
-listing-length n t leaders choke few =
+listing-length most n t leaders choke few narrow =
     omega (
       arith,
       length-append (lineOne n t leaders) (leadLines n n leaders),
       length-append (lineOne n t leaders ++ leadLines n n leaders) (aloneLine n leaders),
       length-append (lineOne n t leaders ++ leadLines n n leaders ++ aloneLine n leaders) (chokeLine n choke),
       one-line-length n t leaders,
-      numbers-length n (λ v. eqb (at leaders v) NONE) (97 ∷ 108 ∷ 111 ∷ 110 ∷ 101 ∷ 58 ∷ []),
-      numbers-length n (λ v. eqb (at choke v) 1) (99 ∷ 104 ∷ 111 ∷ 107 ∷ 101 ∷ 58 ∷ []),
-      groups-length n leaders (omega arith),
+      line-length (97 ∷ 108 ∷ 111 ∷ 110 ∷ 101 ∷ 58 ∷ []) (listWhere n (isAlone (at leaders))),
+      line-length (99 ∷ 104 ∷ 111 ∷ 107 ∷ 101 ∷ 58 ∷ []) (listWhere n (λ v. eqb (at choke v) 1)),
+      groups-length n leaders few,
       spaced-length n (λ v. eqb (at choke v) 1),
-      sum-most n 11 (λ v. 6 + width v) (λ v l. omega (arith, width-four v (omega arith))),
-      sum-most n 5 (λ v. pick (eqb (at choke v) 1) (width v)) (λ v l. picked (eqb (at choke v) 1) (width v) (width-four v (omega arith))),
-      width-four n few,
+      sum-most n (6 + most) (λ v. 6 + width v) (λ v l. omega (arith, narrow v (omega arith))),
+      sum-most n most (λ v. pick (eqb (at choke v) 1) (width v)) (λ v l. picked (eqb (at choke v) 1) (width v) (narrow v (omega arith))),
+      narrow n (omega arith),
       width-five t,
-      width-four (coveredCount n leaders) (omega (arith, count-bound n (λ v. not (eqb (at leaders v) NONE)))),
+      narrow (coveredCount n leaders) (count-bound n (covered (at leaders))),
     )
   where
-    picked : (b : Bool) (k : ℕ) → k ≤ 5 → pick b k ≤ 5
+    picked : (b : Bool) (k : ℕ) → k ≤ most → pick b k ≤ most
     picked true k h = h
     picked false k h = omega arith
 
+-- of 16 bits, as the code has n
+pub listing-far : (n t : ℕ) (leaders choke : List ℕ) → n < 65536 → Room 0 (listing n t leaders choke)
+listing-far n t leaders choke few = record { fits = omega (arith, listing-length 6 n t leaders choke (omega arith) (λ v l. width-five v)) }
+
 -- of a plant, whose n is at most 1,024
 pub listing-short : (n t : ℕ) (leaders choke : List ℕ) → n ≤ 1024 → length (listing n t leaders choke) ≤ 16437
-listing-short n t leaders choke few = omega (arith, listing-length n t leaders choke (omega arith))
+listing-short n t leaders choke few = omega (arith, listing-length 5 n t leaders choke (omega arith) (λ v l. width-four v (omega arith)))
 
 pub refused-length : (e : ℕ) → length (refusedLine e) ≤ 14
 unfolding refusedLine
-refused-length e =
-    omega (
-      arith,
-      length-append (114 ∷ 101 ∷ 102 ∷ 117 ∷ 115 ∷ 101 ∷ 100 ∷ []) (spaced (e ∷ [])),
-      length-append ((114 ∷ 101 ∷ 102 ∷ 117 ∷ 115 ∷ 101 ∷ 100 ∷ []) ++ spaced (e ∷ [])) (10 ∷ []),
-      one-length e,
-      width-five e,
-    )
+refused-length e = omega (arith, line-length (114 ∷ 101 ∷ 102 ∷ 117 ∷ 115 ∷ 101 ∷ 100 ∷ []) (e ∷ []), one-length e, width-five e)
+
+pub refused-far : (e : ℕ) → Room 0 (refusedLine e)
+refused-far e = record { fits = omega (arith, refused-length e) }

@@ -1,16 +1,31 @@
 -- What the writers of a text ask and give. Each writes its text into a lent list from a place on, and hands on the place after it.
 use Prim.Native.Nat.{ℕ, _+_, _≤_}
 use mathlib.Core.Path.{_≡_}
+use mathlib.Core.Bool.{Bool}
 use mathlib.Core.List.{List}
+use lib.Dec.{eqb}
 use lib.ListN.{length}
 use lib.Seq.{sets}
+use Rattle.packing.specs.Plant.{at}
+use Rattle.packing.specs.Grouping.{follows, isAlone}
+use Rattle.report.specs.declared.lists.Which.{Which}
+use Rattle.report.specs.declared.lists.Which.the-variants.{Members, Alone, Choke}
 
--- a place that no listing reaches; the code can count to it
+-- No listing is longer: at most 18 bytes for each of 65,535 gateways, and 55 (proofs/Lengths: listing-far).
 abbrev pub FAR : ℕ
-FAR = 1000000000000
+FAR = 1179685
 
--- a text of at most so many bytes stands in the list from a place on, as far as the list goes, and next is the place after it
-pub record Put (most : ℕ) (text before : List ℕ) (place : ℕ) (after : List ℕ) (next : ℕ) : Type 0 where
-  pub short : length text ≤ most
+-- the text from a place on ends by then, so the code can count its places
+pub record Room (place : ℕ) (text : List ℕ) : Type 0 where
+  pub fits : place + length text ≤ FAR
+
+-- the text stands in the list from a place on, as far as the list goes, and next is the place after it
+pub record Put (text before : List ℕ) (place : ℕ) (after : List ℕ) (next : ℕ) : Type 0 where
   pub end : next ≡ place + length text
   pub list : after ≡ sets before place text
+
+-- whether a line lists a gateway
+abbrev pub isListed : Which → List ℕ → List ℕ → ℕ → Bool
+isListed (Members u) leaders choke v = follows (at leaders) u v
+isListed Alone leaders choke v = isAlone (at leaders) v
+isListed Choke leaders choke v = eqb (at choke v) 1

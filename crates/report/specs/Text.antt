@@ -1,11 +1,12 @@
 -- 01, "The plant file and the listing": the listing as bytes. leaders and choke are the leader list and the choke bytes of n gateways.
 use Prim.Native.Nat.{ℕ, zero, suc, _+_, _/_, _%_}
-use mathlib.Core.Bool.{Bool, not, cond, _&&_}
+use mathlib.Core.Bool.{cond}
 use mathlib.Core.List.{List, [], _∷_, _++_}
 use lib.Dec.{eqb, ltb}
 use Rattle.packing.specs.Count.{count}
 use Rattle.packing.specs.Lists.{listWhere}
-use Rattle.packing.specs.Plant.{NONE, at}
+use Rattle.packing.specs.Plant.{at}
+use Rattle.packing.specs.Grouping.{membersOf, isAlone, covered}
 
 -- a number in decimal digits; five digits are enough for 16 bits
 unfoldable pub digitsIn : ℕ → ℕ → List ℕ
@@ -20,25 +21,28 @@ unfoldable pub spaced : List ℕ → List ℕ
 spaced [] = []
 spaced (x ∷ xs) = (32 ∷ digits x) ++ spaced xs
 
+-- a word and a number listed after it
+unfoldable pub field : List ℕ → ℕ → List ℕ
+field word x = word ++ spaced (x ∷ [])
+
+-- a word, the numbers listed after it, and "a line feed after each line"
+unfoldable pub line : List ℕ → List ℕ → List ℕ
+line word numbers = word ++ spaced numbers ++ (10 ∷ [])
+
 -- "covered": counted from the leader list
 unfoldable pub coveredCount : ℕ → List ℕ → ℕ
-coveredCount n leaders = count n (λ v. not (eqb (at leaders v) NONE))
+coveredCount n leaders = count n (covered (at leaders))
 
 -- "Line one: n, T, number covered."  gateways N limit T covered C
 unfoldable pub lineOne : ℕ → ℕ → List ℕ → List ℕ
 lineOne n t leaders =
-    (103 ∷ 97 ∷ 116 ∷ 101 ∷ 119 ∷ 97 ∷ 121 ∷ 115 ∷ []) ++ spaced (n ∷ [])
-    ++ (32 ∷ 108 ∷ 105 ∷ 109 ∷ 105 ∷ 116 ∷ []) ++ spaced (t ∷ [])
-    ++ (32 ∷ 99 ∷ 111 ∷ 118 ∷ 101 ∷ 114 ∷ 101 ∷ 100 ∷ []) ++ spaced (coveredCount n leaders ∷ []) ++ (10 ∷ [])
-
--- u's members, ascending
-unfoldable pub membersListed : ℕ → List ℕ → ℕ → List ℕ
-membersListed n leaders u = listWhere n (λ w. eqb (at leaders w) u && not (eqb w u))
+    field (103 ∷ 97 ∷ 116 ∷ 101 ∷ 119 ∷ 97 ∷ 121 ∷ 115 ∷ []) n
+    ++ field (32 ∷ 108 ∷ 105 ∷ 109 ∷ 105 ∷ 116 ∷ []) t
+    ++ line (32 ∷ 99 ∷ 111 ∷ 118 ∷ 101 ∷ 114 ∷ 101 ∷ 100 ∷ []) (coveredCount n leaders ∷ [])
 
 -- a line for u, if u leads:  lead U: members
 unfoldable pub leadLine : ℕ → List ℕ → ℕ → List ℕ
-leadLine n leaders u =
-    cond (eqb (at leaders u) u) ((108 ∷ 101 ∷ 97 ∷ 100 ∷ []) ++ spaced (u ∷ []) ++ (58 ∷ []) ++ spaced (membersListed n leaders u) ++ (10 ∷ [])) []
+leadLine n leaders u = cond (eqb (at leaders u) u) (field (108 ∷ 101 ∷ 97 ∷ 100 ∷ []) u ++ line (58 ∷ []) (membersOf n (at leaders) u)) []
 
 -- "a line a group by ascending leader, members ascending": the lines of the leaders below i
 unfoldable pub leadLines : ℕ → ℕ → List ℕ → List ℕ
@@ -47,11 +51,11 @@ leadLines (suc i) n leaders = leadLines i n leaders ++ leadLine n leaders i
 
 -- "then the alone":  alone: numbers
 unfoldable pub aloneLine : ℕ → List ℕ → List ℕ
-aloneLine n leaders = (97 ∷ 108 ∷ 111 ∷ 110 ∷ 101 ∷ 58 ∷ []) ++ spaced (listWhere n (λ v. eqb (at leaders v) NONE)) ++ (10 ∷ [])
+aloneLine n leaders = line (97 ∷ 108 ∷ 111 ∷ 110 ∷ 101 ∷ 58 ∷ []) (listWhere n (isAlone (at leaders)))
 
 -- "then the choke set":  choke: numbers
 unfoldable pub chokeLine : ℕ → List ℕ → List ℕ
-chokeLine n choke = (99 ∷ 104 ∷ 111 ∷ 107 ∷ 101 ∷ 58 ∷ []) ++ spaced (listWhere n (λ v. eqb (at choke v) 1)) ++ (10 ∷ [])
+chokeLine n choke = line (99 ∷ 104 ∷ 111 ∷ 107 ∷ 101 ∷ 58 ∷ []) (listWhere n (λ v. eqb (at choke v) 1))
 
 -- the listing
 unfoldable pub listing : ℕ → ℕ → List ℕ → List ℕ → List ℕ
@@ -59,4 +63,4 @@ listing n t leaders choke = lineOne n t leaders ++ leadLines n n leaders ++ alon
 
 -- A refused file: "the one line "refused", a space and the number"
 unfoldable pub refusedLine : ℕ → List ℕ
-refusedLine e = (114 ∷ 101 ∷ 102 ∷ 117 ∷ 115 ∷ 101 ∷ 100 ∷ []) ++ spaced (e ∷ []) ++ (10 ∷ [])
+refusedLine e = line (114 ∷ 101 ∷ 102 ∷ 117 ∷ 115 ∷ 101 ∷ 100 ∷ []) (e ∷ [])

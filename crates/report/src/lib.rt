@@ -3,6 +3,7 @@ mod lines;
 mod lists;
 mod put;
 
+use crate::lists::Which;
 ghost use mathlib.Core.Path.{_≡_};
 ghost use lib.ListN.{length};
 ghost use lib.Seq.{sets};
@@ -15,9 +16,9 @@ pub fn listing(n: u16, t: u8, leaders: &[u16], choke: &[u8], out: &mut [u8]) -> 
     ensures out { λ _. ⌜ now (out .exit) ≡ sets (now (out .entry)) 0 (text.listing n t (now (leaders .entry)) (now (choke .entry))) ⌝ }
 {
     let mut next = lines::one(n, t, leaders, out, 0);
-    next = lines::leads(n, leaders, out, next);
-    next = lines::alone(n, leaders, out, next);
-    lines::choke(n, choke, out, next)
+    next = lines::leads(n, leaders, choke, out, next);
+    next = lines::line(b"alone:", Which::Alone, n, leaders, choke, out, next);
+    lines::line(b"choke:", Which::Choke, n, leaders, choke, out, next)
 }
 
 // The same for a refused file's one line.
@@ -25,7 +26,6 @@ pub fn refused(e: u16, out: &mut [u8]) -> usize
     ensures count { λ r. ⌜ r ≡ length (text.refusedLine e) ⌝ }
     ensures out { λ _. ⌜ now (out .exit) ≡ sets (now (out .entry)) 0 (text.refusedLine e) ⌝ }
 {
-    let mut next = put::text(b"refused", out, 0);
-    next = put::listed(e, out, next);
+    let next = put::field(b"refused", e, out, 0);
     put::byte(b'\n', out, next)
 }

@@ -1,18 +1,26 @@
 // What the listing reads off the lists. Entries past a list's end count as 0.
 ghost use mathlib.Core.Path.{_≡_};
-ghost use mathlib.Core.Bool.{not, _&&_};
 ghost use lib.Dec.{eqb};
-ghost use Rattle.packing.specs.Plant.{NONE, at};
+ghost use Rattle.packing.specs.Plant.{at};
+ghost use Rattle.packing.specs.Grouping.{follows, isAlone};
 ghost use Rattle.report.specs.Text.{coveredCount};
+ghost use Rattle.report.specs.Pre.{isListed};
 
-pub fn leader(leaders: &[u16], v: u16) -> u16
+// The gateways that a line lists: the members of a leader, those alone, or the choke set.
+pub enum Which {
+    Members(u16),
+    Alone,
+    Choke,
+}
+
+fn leader(leaders: &[u16], v: u16) -> u16
     ensures { λ r. ⌜ r ≡ at (now (leaders .entry)) v ⌝ }
 {
     let i = v as usize;
     if i < leaders.len() { leaders[i] } else { 0 }
 }
 
-pub fn is_choke(choke: &[u8], v: u16) -> bool
+fn is_choke(choke: &[u8], v: u16) -> bool
     ensures { λ r. ⌜ r ≡ eqb (at (now (choke .entry)) v) 1 ⌝ }
 {
     let i = v as usize;
@@ -22,8 +30,8 @@ pub fn is_choke(choke: &[u8], v: u16) -> bool
     false
 }
 
-pub fn is_alone(leaders: &[u16], v: u16) -> bool
-    ensures { λ r. ⌜ r ≡ eqb (at (now (leaders .entry)) v) NONE ⌝ }
+fn is_alone(leaders: &[u16], v: u16) -> bool
+    ensures { λ r. ⌜ r ≡ isAlone (at (now (leaders .entry))) v ⌝ }
 {
     leader(leaders, v) == 65535
 }
@@ -35,13 +43,24 @@ pub fn is_leader(leaders: &[u16], u: u16) -> bool
 }
 
 // Whether w is a member of u's group, and not u itself.
-pub fn is_member(leaders: &[u16], u: u16, w: u16) -> bool
-    ensures { λ r. ⌜ r ≡ (eqb (at (now (leaders .entry)) w) u && not (eqb w u)) ⌝ }
+fn is_member(leaders: &[u16], u: u16, w: u16) -> bool
+    ensures { λ r. ⌜ r ≡ follows (at (now (leaders .entry))) u w ⌝ }
 {
     if leader(leaders, w) == u {
         return w != u;
     }
     false
+}
+
+// Whether a line lists v.
+pub fn is_listed(which: Which, leaders: &[u16], choke: &[u8], v: u16) -> bool
+    ensures { λ r. ⌜ r ≡ isListed which (now (leaders .entry)) (now (choke .entry)) v ⌝ }
+{
+    match which {
+        Which::Members(u) => is_member(leaders, u, v),
+        Which::Alone => is_alone(leaders, v),
+        Which::Choke => is_choke(choke, v),
+    }
 }
 
 // The number covered.

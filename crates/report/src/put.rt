@@ -1,14 +1,13 @@
 // Each writes a text into out from a place on and returns the place after it. What would stand past out's end is left out.
-ghost use Prim.Native.Nat.{_+_, _%_, _≤_};
+ghost use Prim.Native.Nat.{_+_, _%_};
 ghost use mathlib.Core.Bool.{cond};
 ghost use mathlib.Core.List.{[], _∷_};
-ghost use lib.ListN.{length};
-ghost use Rattle.report.specs.Text.{digits, spaced};
-ghost use Rattle.report.specs.Pre.{FAR, Put};
+ghost use Rattle.report.specs.Text.{digits, spaced, field};
+ghost use Rattle.report.specs.Pre.{Room, Put};
 
 pub fn byte(b: u8, out: &mut [u8], place: usize) -> usize
-    requires { ⌜ place + 1 ≤ FAR ⌝ }
-    ensures { λ r. ⌜ Put 1 (b ∷ []) (now (out .entry)) place (now (out .exit)) r ⌝ }
+    requires { ⌜ Room place (b ∷ []) ⌝ }
+    ensures { λ r. ⌜ Put (b ∷ []) (now (out .entry)) place (now (out .exit)) r ⌝ }
 {
     if out.len() <= place {
         return place + 1;
@@ -18,8 +17,8 @@ pub fn byte(b: u8, out: &mut [u8], place: usize) -> usize
 }
 
 pub fn text(text: &[u8], out: &mut [u8], place: usize) -> usize
-    requires { ⌜ place + length (now text) ≤ FAR ⌝ }
-    ensures { λ r. ⌜ Put (length (now (text .entry))) (now (text .entry)) (now (out .entry)) place (now (out .exit)) r ⌝ }
+    requires { ⌜ Room place (now text) ⌝ }
+    ensures { λ r. ⌜ Put (now (text .entry)) (now (out .entry)) place (now (out .exit)) r ⌝ }
 {
     let mut next = place;
     let mut i: usize = 0;
@@ -31,16 +30,16 @@ pub fn text(text: &[u8], out: &mut [u8], place: usize) -> usize
 }
 
 fn last_digit(x: u16, out: &mut [u8], place: usize) -> usize
-    requires { ⌜ place + 1 ≤ FAR ⌝ }
-    ensures { λ r. ⌜ Put 1 ((48 + x % 10) ∷ []) (now (out .entry)) place (now (out .exit)) r ⌝ }
+    requires { ⌜ Room place ((48 + x % 10) ∷ []) ⌝ }
+    ensures { λ r. ⌜ Put ((48 + x % 10) ∷ []) (now (out .entry)) place (now (out .exit)) r ⌝ }
 {
     byte(b'0' + (x % 10) as u8, out, place)
 }
 
 // A number in decimal: the digits of its tens, then the last.
-pub fn number(x: u16, out: &mut [u8], place: usize) -> usize
-    requires { ⌜ place + 5 ≤ FAR ⌝ }
-    ensures { λ r. ⌜ Put 5 (digits x) (now (out .entry)) place (now (out .exit)) r ⌝ }
+fn number(x: u16, out: &mut [u8], place: usize) -> usize
+    requires { ⌜ Room place (digits x) ⌝ }
+    ensures { λ r. ⌜ Put (digits x) (now (out .entry)) place (now (out .exit)) r ⌝ }
 {
     if x < 10 {
         return last_digit(x, out, place);
@@ -50,9 +49,9 @@ pub fn number(x: u16, out: &mut [u8], place: usize) -> usize
 }
 
 // A number listed: with one space before it.
-pub fn listed(x: u16, out: &mut [u8], place: usize) -> usize
-    requires { ⌜ place + 6 ≤ FAR ⌝ }
-    ensures { λ r. ⌜ Put 6 (spaced (x ∷ [])) (now (out .entry)) place (now (out .exit)) r ⌝ }
+fn listed(x: u16, out: &mut [u8], place: usize) -> usize
+    requires { ⌜ Room place (spaced (x ∷ [])) ⌝ }
+    ensures { λ r. ⌜ Put (spaced (x ∷ [])) (now (out .entry)) place (now (out .exit)) r ⌝ }
 {
     let next = byte(b' ', out, place);
     number(x, out, next)
@@ -60,11 +59,20 @@ pub fn listed(x: u16, out: &mut [u8], place: usize) -> usize
 
 // A number listed if it is wanted.
 pub fn listed_if(wanted: bool, x: u16, out: &mut [u8], place: usize) -> usize
-    requires { ⌜ place + 6 ≤ FAR ⌝ }
-    ensures { λ r. ⌜ Put 6 (spaced (cond wanted (x ∷ []) [])) (now (out .entry)) place (now (out .exit)) r ⌝ }
+    requires { ⌜ Room place (spaced (cond wanted (x ∷ []) [])) ⌝ }
+    ensures { λ r. ⌜ Put (spaced (cond wanted (x ∷ []) [])) (now (out .entry)) place (now (out .exit)) r ⌝ }
 {
     if wanted {
         return listed(x, out, place);
     }
     place
+}
+
+// A word, and a number listed after it.
+pub fn field(word: &[u8], x: u16, out: &mut [u8], place: usize) -> usize
+    requires { ⌜ Room place (field (now word) x) ⌝ }
+    ensures { λ r. ⌜ Put (field (now (word .entry)) x) (now (out .entry)) place (now (out .exit)) r ⌝ }
+{
+    let next = text(word, out, place);
+    listed(x, out, next)
 }

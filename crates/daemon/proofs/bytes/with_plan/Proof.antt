@@ -1,6 +1,6 @@
 -- `with_plan` meets its contract: the laws of FilePlan.
 use native.Mathlib.Omega.{arith}
-use Rattle.daemon.proofs.FilePlan.{leaders-room, leaders-long, choke-room, choke-long, bytes-written}
+use Rattle.daemon.proofs.FilePlan.{leaders-front, choke-front, bytes-written}
 use borrow.Author.Needs.{needs}
 use Rattle.daemon.proofs.bytes.with_plan.Statement.{statement}
 use Rattle.daemon.proofs.bytes.with_plan.Tie as tie
@@ -27,31 +27,38 @@ plan-lists-requires : tie.Need-plan-lists-requires
 plan-lists-requires c κs = search needs
 
 array-share-prefix-leaders : tie.Need-array-share-prefix-leaders
-array-share-prefix-leaders c = leaders-room _ (c .before .before .before .before .before .before .before .before .before .before .pre .fine) (c .before .before .before .before .before .before .before .gateways .ensures) (c .before .before .before .before .before .before .numbers .ensures) (c .before .before .before .before .before .bytes .ensures) (c .before .before .plan-lists .ensures .1 .0)
+array-share-prefix-leaders c = let planned = c .before .before in
+    leaders-front _ (planned .before .before .before .before .before .before .before .before .pre .fine) (planned .before .before .before .before .before .gateways .ensures) (planned .before .before .before .before .numbers .ensures) (planned .before .before .before .bytes .ensures) (planned .plan-lists .ensures .1 .0) .room
 
 slice-aggregate-with-numbers : tie.Need-slice-aggregate-with-numbers
-slice-aggregate-with-numbers c = leaders-long _ (c .before .before .before .before .before .before .before .before .before .before .before .pre .fine) (c .before .before .before .before .before .before .before .before .gateways .ensures) (c .before .before .before .before .before .before .before .numbers .ensures) (c .before .before .before .before .before .before .bytes .ensures) (c .before .before .before .plan-lists .ensures .1 .0)
+slice-aggregate-with-numbers c = let planned = c .before .before .before in
+    leaders-front _ (planned .before .before .before .before .before .before .before .before .pre .fine) (planned .before .before .before .before .before .gateways .ensures) (planned .before .before .before .before .numbers .ensures) (planned .before .before .before .bytes .ensures) (planned .plan-lists .ensures .1 .0) .long
 
 with-numbers-requires : tie.Need-with-numbers-requires
-with-numbers-requires c κs = omega (arith, leaders-long _ (c .before .before .before .before .before .before .before .before .before .before .before .before .pre .fine) (c .before .before .before .before .before .before .before .before .before .gateways .ensures) (c .before .before .before .before .before .before .before .before .numbers .ensures) (c .before .before .before .before .before .before .before .bytes .ensures) (c .before .before .before .before .plan-lists .ensures .1 .0), c .before .before .before .before .before .before .before .before .before .before .before .before .pre .room, c .before .before .before .before .before .before .before .before .before .gateways .ensures)
+with-numbers-requires c κs = let planned = c .before .before .before .before in
+    omega (arith, leaders-front _ (planned .before .before .before .before .before .before .before .before .pre .fine) (planned .before .before .before .before .before .gateways .ensures) (planned .before .before .before .before .numbers .ensures) (planned .before .before .before .bytes .ensures) (planned .plan-lists .ensures .1 .0) .long, planned .before .before .before .before .before .before .before .before .pre .room, planned .before .before .before .before .before .gateways .ensures)
 
 array-share-prefix-choke : tie.Need-array-share-prefix-choke
-array-share-prefix-choke c = choke-room _ (c .before .before .before .before .before .before .before .before .before .before .before .before .before .before .before .pre .fine) (c .before .before .before .before .before .before .before .before .before .before .before .before .gateways .ensures) (c .before .before .before .before .before .before .before .before .before .before .before .numbers .ensures) (c .before .before .before .before .before .before .before .before .before .before .bytes .ensures) (c .before .before .before .before .before .before .before .plan-lists .ensures .1 .1)
+array-share-prefix-choke c = let planned = c .before .before .before .before .before .before .before in
+    choke-front _ (planned .before .before .before .before .before .before .before .before .pre .fine) (planned .before .before .before .before .before .gateways .ensures) (planned .before .before .before .before .numbers .ensures) (planned .before .before .before .bytes .ensures) (planned .plan-lists .ensures .1 .1) .room
 
 slice-aggregate-with-bytes : tie.Need-slice-aggregate-with-bytes
-slice-aggregate-with-bytes c = choke-long _ (c .before .before .before .before .before .before .before .before .before .before .before .before .before .before .before .before .pre .fine) (c .before .before .before .before .before .before .before .before .before .before .before .before .before .gateways .ensures) (c .before .before .before .before .before .before .before .before .before .before .before .before .numbers .ensures) (c .before .before .before .before .before .before .before .before .before .before .before .bytes .ensures) (c .before .before .before .before .before .before .before .before .plan-lists .ensures .1 .1)
+slice-aggregate-with-bytes c = let planned = c .before .before .before .before .before .before .before .before in
+    choke-front _ (planned .before .before .before .before .before .before .before .before .pre .fine) (planned .before .before .before .before .before .gateways .ensures) (planned .before .before .before .before .numbers .ensures) (planned .before .before .before .bytes .ensures) (planned .plan-lists .ensures .1 .1) .long
 
 mul-with-bytes : tie.Need-mul-with-bytes
 mul-with-bytes c = search needs
 
 with-bytes-requires : tie.Need-with-bytes-requires
-with-bytes-requires c κs = omega (arith, choke-long _ (c .before .before .before .before .before .before .before .before .before .before .before .before .before .before .before .before .before .pre .fine) (c .before .before .before .before .before .before .before .before .before .before .before .before .before .before .gateways .ensures) (c .before .before .before .before .before .before .before .before .before .before .before .before .before .numbers .ensures) (c .before .before .before .before .before .before .before .before .before .before .before .before .bytes .ensures) (c .before .before .before .before .before .before .before .before .before .plan-lists .ensures .1 .1), c .before .before .before .before .before .before .before .before .before .before .before .before .before .before .before .before .before .pre .room, c .before .before .before .before .before .before .before .before .before .before .before .before .before .before .gateways .ensures)
+with-bytes-requires c κs = let planned = c .before .before .before .before .before .before .before .before .before in
+    omega (arith, choke-front _ (planned .before .before .before .before .before .before .before .before .pre .fine) (planned .before .before .before .before .before .gateways .ensures) (planned .before .before .before .before .numbers .ensures) (planned .before .before .before .bytes .ensures) (planned .plan-lists .ensures .1 .1) .long, planned .before .before .before .before .before .before .before .before .pre .room, planned .before .before .before .before .before .gateways .ensures)
 
 same-length : tie.Need-same-length
 same-length c = search needs
 
 returns : tie.Need-returns
-returns c = bytes-written _ (c .before .before .before .before .before .before .before .before .before .before .before .before .before .before .before .before .before .before .before .before .pre .fine) (c .before .before .before .before .before .before .before .before .before .before .before .before .before .before .before .before .before .gateways .ensures) (c .before .before .before .before .before .before .before .before .before .before .before .before .before .before .before .before .numbers .ensures) (c .before .before .before .before .before .before .before .before .before .before .before .before .before .before .before .bytes .ensures) _ (c .before .before .before .before .before .before .before .before .before .before .before .before .plan-lists .ensures .1 .0) (c .before .before .before .before .before .before .before .before .before .before .before .before .plan-lists .ensures .1 .1) (c .before .before .before .before .before .before .before .before .before .before .before .before .before .before .before .before .before .before .before .before .pre .room) (c .before .before .before .before .before .before .before .with-numbers .ensures) (c .before .before .with-bytes .ensures)
+returns c = let planned = c .before .before .before .before .before .before .before .before .before .before .before .before in
+    bytes-written _ (planned .before .before .before .before .before .before .before .before .pre .fine) (planned .before .before .before .before .before .gateways .ensures) (planned .before .before .before .before .numbers .ensures) (planned .before .before .before .bytes .ensures) _ (planned .plan-lists .ensures .1 .0) (planned .plan-lists .ensures .1 .1) (planned .before .before .before .before .before .before .before .before .pre .room) (c .before .before .before .before .before .before .before .with-numbers .ensures) (c .before .before .with-bytes .ensures)
 
 pub with-plan-spec : {M : Type 1} → statement M
 with-plan-spec =

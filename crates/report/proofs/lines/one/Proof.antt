@@ -1,71 +1,64 @@
 -- `one` meets its contract: its parts put one after the other.
-use Rattle.report.proofs.Puts.{put-then}
-use Rattle.report.proofs.Composed.{one-put}
 use borrow.Author.Needs.{needs}
+use Rattle.report.specs.Text.{lineOne}
+use Rattle.report.proofs.Puts.{put-is, put-then, room-is, room-first, room-next}
+use Rattle.report.proofs.Composed.{one-is}
 use Rattle.report.proofs.lines.one.Statement.{statement}
 use Rattle.report.proofs.lines.one.Tie as tie
 
-slice-aggregate-text : tie.Need-slice-aggregate-text
-slice-aggregate-text c = search needs
+slice-aggregate-field : tie.Need-slice-aggregate-field
+slice-aggregate-field c = search needs
 
-text-requires : tie.Need-text-requires
-text-requires c κs = search needs
+field-requires : tie.Need-field-requires
+unfolding lineOne
+field-requires c κs = room-first _ _ (room-first _ _ (c .before .before .before .before .pre))
 
-listed-requires : tie.Need-listed-requires
-listed-requires c κs = search needs
+slice-aggregate-field-2 : tie.Need-slice-aggregate-field-2
+slice-aggregate-field-2 c = search needs
 
-slice-aggregate-text-2 : tie.Need-slice-aggregate-text-2
-slice-aggregate-text-2 c = search needs
+field-requires-2 : tie.Need-field-requires-2
+unfolding lineOne
+field-requires-2 c κs = let first = c .before .before .before .before in
+    room-next _ (first .field .ensures) (room-first _ _ (first .before .before .before .before .before .pre))
 
-text-requires-2 : tie.Need-text-requires-2
-text-requires-2 c κs = search needs
-
-listed-requires-2 : tie.Need-listed-requires-2
-listed-requires-2 c κs = search needs
-
-slice-aggregate-text-3 : tie.Need-slice-aggregate-text-3
-slice-aggregate-text-3 c = search needs
-
-text-requires-3 : tie.Need-text-requires-3
-text-requires-3 c κs = search needs
+slice-aggregate-field-3 : tie.Need-slice-aggregate-field-3
+slice-aggregate-field-3 c = search needs
 
 covered-requires : tie.Need-covered-requires
 covered-requires c κs = search needs
 
-listed-requires-3 : tie.Need-listed-requires-3
-listed-requires-3 c κs = search needs
+field-requires-3 : tie.Need-field-requires-3
+field-requires-3 c κs = let second = c .before .before .before .before .before in
+    let first = second .before .before .before .before .before in
+    room-first _ _ (room-next _ (put-then (first .field .ensures) (second .field2 .ensures)) (room-is (one-is _ _ _ (c .before .covered .ensures)) (first .before .before .before .before .before .pre)))
 
 byte-requires : tie.Need-byte-requires
-byte-requires c κs = search needs
+byte-requires c κs = let third = c .before .before .before in
+    let second = third .before .before .before .before .before .before in
+    let first = second .before .before .before .before .before in
+    room-next _ (third .field3 .ensures) (room-next _ (put-then (first .field .ensures) (second .field2 .ensures)) (room-is (one-is _ _ _ (third .before .before .covered .ensures)) (first .before .before .before .before .before .pre)))
 
 same-length : tie.Need-same-length
 same-length c = search needs
 
 returns : tie.Need-returns
-returns c = let seventh = c .before .before in
-    let sixth = seventh .before .before .before .before in
-    let count = sixth .before .before in
-    let fifth = count .before .before .before in
-    let fourth = fifth .before .before .before .before .before in
+returns c = let fourth = c .before .before in
     let third = fourth .before .before .before .before in
-    let second = third .before .before .before .before .before in
-    let first = second .before .before .before .before in
-    one-put _ _ _ (count .covered .ensures) (put-then (put-then (put-then (put-then (put-then (put-then (first .text .ensures) (second .listed .ensures)) (third .text2 .ensures)) (fourth .listed2 .ensures)) (fifth .text3 .ensures)) (sixth .listed3 .ensures)) (seventh .byte .ensures))
+    let second = third .before .before .before .before .before .before in
+    let first = second .before .before .before .before .before in
+    put-is (one-is _ _ _ (third .before .before .covered .ensures)) (put-then (put-then (first .field .ensures) (second .field2 .ensures)) (put-then (third .field3 .ensures) (fourth .byte .ensures)))
 
 pub one-spec : {M : Type 1} → statement M
 one-spec =
     tie.close
     (tie.spec
-    slice-aggregate-text
-    text-requires
-    listed-requires
-    slice-aggregate-text-2
-    text-requires-2
-    listed-requires-2
-    slice-aggregate-text-3
-    text-requires-3
+    slice-aggregate-field
+    field-requires
+    slice-aggregate-field-2
+    field-requires-2
+    slice-aggregate-field-3
     covered-requires
-    listed-requires-3
+    field-requires-3
     byte-requires
     same-length
     returns)

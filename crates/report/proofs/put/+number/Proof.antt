@@ -4,7 +4,8 @@ use borrow.Fn.Kinds.{In}
 use borrow.Fn.PlainCycle.{Measures, is, falls, and}
 use native.Mathlib.Omega.{arith}
 use borrow.Author.Needs.{needs}
-use Rattle.report.proofs.Digits.{digits-put-last, digits-room, digits-put-more}
+use Rattle.report.proofs.Digits.{digits-last, digits-more}
+use Rattle.report.proofs.Puts.{put-is, put-then, room-is, room-first, room-next}
 use Rattle.report.proofs.put.number.Reads as number
 use Rattle.report.proofs.put.number.Kinds as number-kinds
 use Rattle.report.proofs.put.+number.Lts-number as number-lts
@@ -27,7 +28,7 @@ number-last-digit-requires : (t : ℕ) → number-lts.Need-last-digit-requires (
   number-below t,
   number.Post,
 ) (number-at t) number.Post
-number-last-digit-requires t c κs = omega (arith, c .before .before .before .pre .1)
+number-last-digit-requires t c κs = room-is (digits-last _ (c .before .if1 .taken)) (c .before .before .before .pre .1)
 
 number-same-length : (t : ℕ) → number-lts.Need-same-length (
   last-digit-reads.Asked,
@@ -43,7 +44,7 @@ number-returns : (t : ℕ) → number-lts.Need-returns (
   number-below t,
   number.Post,
 ) (number-at t) number.Post
-number-returns t c = digits-put-last (c .before .before .before .before .if1 .taken) (c .before .before .last-digit .ensures)
+number-returns t c = put-is (digits-last _ (c .before .before .before .before .if1 .taken)) (c .before .before .last-digit .ensures)
 
 number-number-requires : (t : ℕ) → number-lts.Need-number-requires (
   last-digit-reads.Asked,
@@ -51,7 +52,7 @@ number-number-requires : (t : ℕ) → number-lts.Need-number-requires (
   number-below t,
   number.Post,
 ) (number-at t) number.Post
-number-number-requires t c κs = (omega (arith, c .before .before .before .pre .0, c .before .if1 .left), c .before .before .before .pre .1)
+number-number-requires t c κs = (omega (arith, c .before .before .before .pre .0, c .before .if1 .left), room-first _ _ (room-is (digits-more _ (c .before .if1 .left) (c .before .before .before .fits .x .fits)) (c .before .before .before .pre .1)))
 
 number-last-digit-requires-2 : (t : ℕ) → number-lts.Need-last-digit-requires-2 (
   last-digit-reads.Asked,
@@ -60,7 +61,7 @@ number-last-digit-requires-2 : (t : ℕ) → number-lts.Need-last-digit-requires
   number.Post,
 ) (number-at t) number.Post
 number-last-digit-requires-2 t c κs = let start = c .before .before .before .before .before .before .before in
-    omega (arith, start .pre .1, digits-room (c .before .before .before .before .before .if1 .left) (start .fits .x .fits) (c .before .before .before .number .ensures))
+    room-next _ (c .before .before .before .number .ensures) (room-is (digits-more _ (c .before .before .before .before .before .if1 .left) (start .fits .x .fits)) (start .pre .1))
 
 number-same-length-2 : (t : ℕ) → number-lts.Need-same-length-2 (
   last-digit-reads.Asked,
@@ -77,7 +78,7 @@ number-returns-2 : (t : ℕ) → number-lts.Need-returns-2 (
   number.Post,
 ) (number-at t) number.Post
 number-returns-2 t c = let called = c .before .before .before .before .before .before in
-    digits-put-more (called .before .before .if1 .left) (called .before .before .before .before .fits .x .fits) (called .number .ensures) (c .before .before .last-digit2 .ensures)
+    put-is (digits-more _ (called .before .before .if1 .left) (called .before .before .before .before .fits .x .fits)) (put-then (called .number .ensures) (c .before .before .last-digit2 .ensures))
 
 pub +number-spec : {M : Type 1} → statement M
 +number-spec = close μ-number λ t. number-lts.spec (
