@@ -3,11 +3,11 @@ use Prim.Native.Nat.{ℕ, _+_, _*_, _≤_}
 use mathlib.Core.Path.{_≡_, refl, sym, ap, _∙_}
 use mathlib.Core.List.{List, _++_, append-nil}
 use native.Mathlib.Omega.{arith}
-use lib.ListN.{length, take, drop, replicate, length-append, length-replicate, drop-of-length-le}
-use lib.Seq.{take-at, sets}
+use lib.ListN.{length, take, drop, replicate, length-replicate, drop-of-length-le}
+use lib.Seq.{sets}
 use Rattle.packing.specs.Lists.{listOf, written}
 use Rattle.packing.specs.Plant.{at}
-use Rattle.packing.proofs.Lists.{listOf-length}
+use Rattle.packing.proofs.Lists.{listOf-length, written-room, written-front}
 use Rattle.stars.specs.Stars.{leaderList}
 use Rattle.choke.specs.ChokeSet.{chokeByte}
 use Rattle.planner.specs.Refusals.{openRefusal}
@@ -84,12 +84,10 @@ module _ (file : List ℕ) (z : fileRefusal file ≡ 0) where
   choke-whole = plan-choke (replicate (fileN file) 0) (replicate (fileN file) 0) zeros zeros ∙ whole (chokeByte (fileN file) (fileLinks file) (fileState file .holders))
 
   front : (f : ℕ → ℕ) (lent : List ℕ) → take (fileN file) (written (fileN file) (listOf (fileN file) f) lent) ≡ listOf (fileN file) f
-  unfolding written
-  front f lent = take-at (listOf (fileN file) f) (drop (fileN file) lent) (fileN file) (listOf-length (fileN file) f)
+  front f lent = written-front (fileN file) (listOf (fileN file) f) lent (listOf-length (fileN file) f)
 
-  written-room : (f : ℕ → ℕ) (lent : List ℕ) → fileN file ≤ length (written (fileN file) (listOf (fileN file) f) lent)
-  unfolding written
-  written-room f lent = omega (arith, length-append (listOf (fileN file) f) (drop (fileN file) lent), listOf-length (fileN file) f)
+  room : (f : ℕ → ℕ) (lent : List ℕ) → fileN file ≤ length (written (fileN file) (listOf (fileN file) f) lent)
+  room f lent = written-room (fileN file) (listOf (fileN file) f) lent (listOf-length (fileN file) f)
 
 -- the lists of 1,024 entries that the daemon's call writes from
 module _ (file : List ℕ) (z : fileRefusal file ≡ 0) {n : ℕ} (is : n ≡ fileN file) {a b : List ℕ} (ea : a ≡ own) (eb : b ≡ own) where
@@ -101,7 +99,7 @@ module _ (file : List ℕ) (z : fileRefusal file ≡ 0) {n : ℕ} (is : n ≡ fi
 
   module _ {l : List ℕ} (e : l ≡ planLeaders file a b) where
     pub leaders-room : n ≤ length l
-    leaders-room = rw (is, e, plan-leaders file z a b long-a long-b) (written-room file z _ a)
+    leaders-room = rw (is, e, plan-leaders file z a b long-a long-b) (room file z _ a)
 
     pub leaders-front : take n l ≡ fileLeaders file
     leaders-front = rw (is, e, plan-leaders file z a b long-a long-b, leaders-whole file z) (front file z _ a)
@@ -111,7 +109,7 @@ module _ (file : List ℕ) (z : fileRefusal file ≡ 0) {n : ℕ} (is : n ≡ fi
 
   module _ {l : List ℕ} (e : l ≡ planChoke file a b) where
     pub choke-room : n ≤ length l
-    choke-room = rw (is, e, plan-choke file z a b long-a long-b) (written-room file z _ b)
+    choke-room = rw (is, e, plan-choke file z a b long-a long-b) (room file z _ b)
 
     pub choke-front : take n l ≡ fileChoke file
     choke-front = rw (is, e, plan-choke file z a b long-a long-b, choke-whole file z) (front file z _ b)

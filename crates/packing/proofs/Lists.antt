@@ -1,13 +1,15 @@
--- Laws of lists of values, and of a loop that writes one to the front of a lent list, an entry a turn.
+-- Laws of lists of values and of those with a property, and of a loop that writes the front of a lent list, an entry a turn.
 use Prim.Native.Nat.{ℕ, zero, suc, _+_, _<_, _≤_}
 use mathlib.Core.Path.{_≡_, refl, sym, ap, _∙_}
-use mathlib.Core.List.{List, [], _∷_, _++_}
+use mathlib.Core.Bool.{Bool, true, false, cond}
+use mathlib.Core.List.{List, [], _∷_, _++_, append-nil}
 use native.Mathlib.Nat.{not-suc-le-zero}
 use native.Mathlib.Numerals.{add-one}
 use native.Mathlib.Omega.{arith}
-use lib.ListN.{length, getD, set, drop, length-append, length-set, List·getD-append}
-use lib.Seq.{getD-at, drop-cons, set-at, append-snoc, ext-getD, length-front}
-use Rattle.packing.specs.Lists.{listOf}
+use lib.ListN.{length, getD, set, take, drop, replicate, length-append, length-drop, length-set, replicate-append-replicate, List·getD-append}
+use lib.Seq.{getD-at, drop-cons, set-at, take-at, append-snoc, ext-getD}
+use Rattle.packing.specs.Count.{pick, sum, count}
+use Rattle.packing.specs.Lists.{listOf, listWhere, written}
 use Rattle.packing.proofs.Tests.{below-suc}
 
 pub listOf-length : (n : ℕ) (f : ℕ → ℕ) → length (listOf n f) ≡ n
@@ -27,41 +29,84 @@ listOf-at (suc n) f i l =
     below-suc i n l (λ q. rw q (getD-at (listOf n f) (f n) [] 0 n (listOf-length n f)))
     (λ q. List·getD-append (listOf n f) (f n ∷ []) 0 i (omega (arith, listOf-length n f)) ∙ listOf-at n f i q)
 
--- .. where the list is the front of a longer one
-pub front-at : (n : ℕ) (f : ℕ → ℕ) (rest : List ℕ) (i : ℕ) → i < n → getD (listOf n f ++ rest) i 0 ≡ f i
-front-at n f rest i l = List·getD-append (listOf n f) rest 0 i (omega (arith, listOf-length n f)) ∙ listOf-at n f i l
+-- the list of a constant
+pub listOf-same : (n x : ℕ) → listOf n (λ i. x) ≡ replicate n x
+unfolding listOf
+listOf-same zero x = refl
+listOf-same (suc n) x = rw (listOf-same n x) (replicate-append-replicate n 1 x ∙ ap (λ (k : ℕ). replicate k x) (add-one n))
 
 -- a list is the list of its entries
 pub list-is : (l : List ℕ) → l ≡ listOf (length l) (λ i. getD l i 0)
 list-is l = ext-getD 0 l (listOf (length l) (λ i. getD l i 0)) (sym (listOf-length (length l) (λ i. getD l i 0))) (λ i h. sym (listOf-at (length l) (λ i. getD l i 0) i h))
 
-pub front-length : (n : ℕ) (f : ℕ → ℕ) (old : List ℕ) → n ≤ length old → length (listOf n f ++ drop n old) ≡ length old
-front-length n f old h = omega (arith, length-append (listOf n f) (drop n old), listOf-length n f, lib.ListN.length-drop n old)
+-- those below n with p: their number, and one more below n + 1
+pub listWhere-length : (n : ℕ) (p : ℕ → Bool) → length (listWhere n p) ≡ count n p
+unfolding listWhere count sum
+listWhere-length zero p = refl
+listWhere-length (suc n) p = length-append (listWhere n p) (cond (p n) (n ∷ []) []) ∙ rw (listWhere-length n p) (ap (λ (k : ℕ). count n p + k) (one (p n)))
+  where
+    one : (b : Bool) → length (cond b (n ∷ []) []) ≡ pick b 1
+    one true = refl
+    one false = refl
+
+pub listWhere-more : (n : ℕ) (p : ℕ → Bool) → p n ≡ true → listWhere (n + 1) p ≡ listWhere n p ++ (n ∷ [])
+unfolding listWhere
+listWhere-more n p e = rw (add-one, e)
+
+pub listWhere-same : (n : ℕ) (p : ℕ → Bool) → p n ≡ false → listWhere (n + 1) p ≡ listWhere n p
+unfolding listWhere
+listWhere-same n p e = rw (add-one, e) (append-nil (listWhere n p))
+
+-- A lent list whose first n entries are written, by any front of n entries: its length, its entries there, and that front
+module _ (n : ℕ) (front lent : List ℕ) (long : length front ≡ n) where
+  pub written-length : n ≤ length lent → length (written n front lent) ≡ length lent
+  unfolding written
+  written-length room = omega (arith, long, length-append front (drop n lent), length-drop n lent)
+
+  pub written-room : n ≤ length (written n front lent)
+  unfolding written
+  written-room = omega (arith, long, length-append front (drop n lent))
+
+  pub written-at : (i : ℕ) → i < n → getD (written n front lent) i 0 ≡ getD front i 0
+  unfolding written
+  written-at i l = List·getD-append front (drop n lent) 0 i (omega arith)
+
+  pub written-front : take n (written n front lent) ≡ front
+  unfolding written
+  written-front = take-at front (drop n lent) n long
+
+  -- one entry more
+  pub written-more : (x : ℕ) → n < length lent → set (written n front lent) n x ≡ written (n + 1) (front ++ (x ∷ [])) lent
+  unfolding written
+  written-more x h = rw (add-one, drop-cons lent n 0 h) (set-at front (getD lent n 0) (drop (suc n) lent) x n long ∙ sym (append-snoc front x (drop (suc n) lent)))
+
+-- .. where the front is a list of values
+pub listed-at : (n : ℕ) (f : ℕ → ℕ) (lent : List ℕ) (i : ℕ) → i < n → getD (written n (listOf n f) lent) i 0 ≡ f i
+listed-at n f lent i l = written-at n (listOf n f) lent (listOf-length n f) i l ∙ listOf-at n f i l
 
 -- the first v values were written over old
 pub record Listed (n : ℕ) (f : ℕ → ℕ) (old new : List ℕ) (v : ℕ) : Type 0 where
   pub upto : v ≤ n
   pub same : length new ≡ length old
-  pub list : new ≡ listOf v f ++ drop v old
+  pub list : new ≡ written v (listOf v f) old
 
 module _ (n : ℕ) (f : ℕ → ℕ) (old : List ℕ) where
   pub list-start : Listed n f old old 0
-  unfolding listOf
+  unfolding listOf written
   list-start = record { upto = omega arith; same = refl; list = refl }
 
   pub list-turn : {new : List ℕ} {v x : ℕ} → n ≤ length old → Listed n f old new v → v < n → x ≡ f v → Listed n f old (set new v x) (v + 1)
-  unfolding listOf
   list-turn {new} {v} {x} room t h e =
-      let inside : v < length old = omega arith in
       record {
         upto = omega arith;
         same = length-set new v x ∙ t .same;
-        list =
-            rw (add-one, t .list, drop-cons old v 0 inside)
-            (set-at (listOf v f) (getD old v 0) (drop (suc v) old) x v (listOf-length v f) ∙ rw e (sym (append-snoc (listOf v f) (f v) (drop (suc v) old))));
+        list = rw (t .list, e) (written-more v (listOf v f) old (listOf-length v f) (f v) (omega arith) ∙ ap (λ (l : List ℕ). written (v + 1) l old) next);
       }
+    where
+      next : listOf v f ++ (f v ∷ []) ≡ listOf (v + 1) f
+      next = unfold listOf in rw add-one
 
-  pub list-end : {new : List ℕ} {v : ℕ} → Listed n f old new v → n ≤ v → new ≡ listOf n f ++ drop n old
+  pub list-end : {new : List ℕ} {v : ℕ} → Listed n f old new v → n ≤ v → new ≡ written n (listOf n f) old
   list-end {new} {v} t h = rw (last t h) at (t .list)
     where
       last : Listed n f old new v → n ≤ v → v ≡ n

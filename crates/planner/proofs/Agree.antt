@@ -7,7 +7,7 @@ use native.Mathlib.Omega.{arith}
 use lib.ListN.{length, set, drop, replicate, length-set, List·getD-append}
 use Rattle.packing.specs.Lists.{listOf, written}
 use Rattle.packing.specs.Plant.{NONE, at, common, firstLinks, linked}
-use Rattle.packing.proofs.Lists.{front-at, listOf-at}
+use Rattle.packing.proofs.Lists.{listOf-at, written-at, listed-at}
 use Rattle.packing.proofs.Prefixes.{IsOrder}
 use Rattle.search.specs.Search.{placedHolders}
 use Rattle.sound.specs.Sound.{isSound}
@@ -68,12 +68,9 @@ module _ {s : State} {p : Told} (a : Agrees s p) where
         small = rw (z, a .small);
         links = a .links;
         room = a .room;
-        order = λ i l. rw (z, a .small) (front i l (f .1));
+        order = λ i l. rw (z, a .small) (written-at (p .n) numbers (s .order) (f .1) i l);
         made = rw (z, a .small) (made-order (a .made) numbers (f .0) (f .1) (order-right (p .n) numbers (f .2)));
       }
-    where
-      front : (i : ℕ) → i < p .n → length numbers ≡ p .n → at (written (p .n) numbers (s .order)) i ≡ at numbers i
-      front i l long = unfold written in List·getD-append numbers (drop (p .n) (s .order)) 0 i (omega arith)
   accepted-agrees place told z =
       record {
         small = rw (z, a .small);
@@ -114,13 +111,13 @@ same-numbers {s} {p} a (c ∷ calls) = ap (λ (e : ℕ). e ∷ runNumbers (step 
 
 -- an accepted open begins it
 pub open-agrees : (n t : ℕ) (ls os hs : List ℕ) → openRefusal n t os hs ≡ 0 → Agrees (afterOpen n t ls os hs) (beginning n t (length ls))
-unfolding afterOpen beginning openAnswer openOrder openHolders firstLinks upTo written
+unfolding afterOpen beginning openAnswer openOrder openHolders firstLinks upTo
 open-agrees n t ls os hs z =
     let f = open-fits n t os hs refl z in
     record {
       small = rw z;
       links = refl;
       room = refl;
-      order = λ i l. rw z (front-at n (λ j. j) (drop n os) i l ∙ sym (listOf-at n (λ j. j) i l));
-      made = rw z (unfold written upTo in made-open n t ls os hs (f .0) (f .1) (f .2) (f .3) (f .4));
+      order = λ i l. rw z (listed-at n (λ j. j) os i l ∙ sym (listOf-at n (λ j. j) i l));
+      made = rw z (unfold upTo in made-open n t ls os hs (f .0) (f .1) (f .2) (f .3) (f .4));
     }

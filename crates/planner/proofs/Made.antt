@@ -16,7 +16,7 @@ use Rattle.packing.specs.Plant.{NONE, at, common, firstLinks, linked, joins}
 use Rattle.packing.specs.Holders.{held, holds, Feasible}
 use Rattle.packing.proofs.Tests.{by-bool, clash, and-l, and-r, or-l, or-r, or-cases, or-none, or-false-l, not-test, below-suc}
 use Rattle.packing.proofs.Sums.{count-none}
-use Rattle.packing.proofs.Lists.{front-at, front-length}
+use Rattle.packing.proofs.Lists.{listOf-length, written-length, written-at, listed-at}
 use Rattle.packing.proofs.Links.{linked-append}
 use Rattle.packing.proofs.Tight.{Blocked}
 use Rattle.packing.proofs.Pairs.{transfer-blocked}
@@ -46,7 +46,7 @@ unheld-feasible n limit adj hs few none =
 module _ (n t : ℕ) (ls os hs : List ℕ) where
   -- what open leaves
   pub made-open : n ≤ 1024 → 2 ≤ t → t ≤ 16 → n ≤ length os → n ≤ length hs → Made n t 0 0 ls (written n (upTo n) os) (written n (replicate n NONE) hs)
-  unfolding written upTo firstLinks linked
+  unfolding upTo firstLinks linked
   made-open few low high order holders =
       record {
         sound =
@@ -57,22 +57,22 @@ module _ (n t : ℕ) (ls os hs : List ℕ) where
               few-links = omega arith;
               placed = omega arith;
               links-long = omega arith;
-              order-long = omega (arith, front-length n (λ i. i) os order);
-              holders-long = omega (arith, length-append (replicate n NONE) (drop n hs), length-replicate n NONE, length-drop n hs);
+              order-long = omega (arith, written-length n (listOf n (λ i. i)) os (listOf-length n (λ i. i)) order);
+              holders-long = omega (arith, written-length n (replicate n NONE) hs (length-replicate n NONE) holders);
               ends = λ x y e. absurd (false≢true e);
               order = record { below = λ i l. omega (arith, place i l); once = λ i j l p e. omega (arith, place i l, place j p) };
               range = λ v l. inl (none v l);
-              feasible = unheld-feasible n (common t) (linked []) (replicate n NONE ++ drop n hs) few none;
-              free = λ i p l. none (at (listOf n (λ j. j) ++ drop n os) i) (omega (arith, place i l));
+              feasible = unheld-feasible n (common t) (linked []) (written n (replicate n NONE) hs) few none;
+              free = λ i p l. none (at (written n (listOf n (λ j. j)) os) i) (omega (arith, place i l));
             };
         left = λ i l e. absurd (not-suc-le-zero l);
       }
     where
-      place : (i : ℕ) → i < n → at (listOf n (λ j. j) ++ drop n os) i ≡ i
-      place i l = front-at n (λ j. j) (drop n os) i l
+      place : (i : ℕ) → i < n → at (written n (listOf n (λ j. j)) os) i ≡ i
+      place i l = listed-at n (λ j. j) os i l
 
-      none : (v : ℕ) → v < n → at (replicate n NONE ++ drop n hs) v ≡ NONE
-      none v l = List·getD-append (replicate n NONE) (drop n hs) 0 v (omega (arith, length-replicate n NONE)) ∙ getD-replicate n v NONE 0 l
+      none : (v : ℕ) → v < n → at (written n (replicate n NONE) hs) v ≡ NONE
+      none v l = written-at n (replicate n NONE) hs (length-replicate n NONE) v l ∙ getD-replicate n v NONE 0 l
 
 length-first : (m : ℕ) (ls : List ℕ) → 2 * m ≤ length ls → length (firstLinks m ls) ≡ 2 * m
 unfolding firstLinks
@@ -134,7 +134,6 @@ module _ {n t m k : ℕ} {ls os hs : List ℕ} (made : Made n t m k ls os hs) wh
 
   -- order keeps it
   pub made-order : (numbers : List ℕ) → k ≡ 0 → length numbers ≡ n → IsOrder n (at numbers) → Made n t m k ls (written n numbers os) hs
-  unfolding written
   made-order numbers z long right =
       record {
         sound =
@@ -145,19 +144,19 @@ module _ {n t m k : ℕ} {ls os hs : List ℕ} (made : Made n t m k ls os hs) wh
               few-links = made .sound .few-links;
               placed = made .sound .placed;
               links-long = made .sound .links-long;
-              order-long = omega (arith, length-append numbers (drop n os));
+              order-long = omega (arith, made .sound .order-long, written-length n numbers os long (made .sound .order-long));
               holders-long = made .sound .holders-long;
               ends = made .sound .ends;
               order = record { below = λ i l. rw (same i l) (right .below i l); once = λ i j p q e. right .once i j p q (sym (same i p) ∙ e ∙ same j q) };
               range = made .sound .range;
               feasible = made .sound .feasible;
-              free = λ i p l. none-held z (at (numbers ++ drop n os) i) (rw (same i l) (right .below i l));
+              free = λ i p l. none-held z (at (written n numbers os) i) (rw (same i l) (right .below i l));
             };
         left = λ i l e. absurd (omega arith);
       }
     where
-      same : (i : ℕ) → i < n → at (numbers ++ drop n os) i ≡ at numbers i
-      same i l = List·getD-append numbers (drop n os) 0 i (omega arith)
+      same : (i : ℕ) → i < n → at (written n numbers os) i ≡ at numbers i
+      same = written-at n numbers os long
 
   -- a held gateway stands among the placed
   held-placed : (x : ℕ) → x < n → held n (at hs) x ≡ true → (j : ℕ) × (j < k) × (at os j ≡ x)

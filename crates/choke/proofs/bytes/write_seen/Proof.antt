@@ -4,6 +4,7 @@ use borrow.Author.Needs.{needs}
 use lib.ListN.{length}
 use Rattle.choke.specs.Pre.{seenByte}
 use Rattle.choke.proofs.Seen.{byte-seen}
+use Rattle.packing.specs.Lists.{written}
 use Rattle.packing.proofs.Lists.{Listed, list-start, list-turn, list-end}
 use Rattle.choke.proofs.bytes.write_seen.Statement.{statement}
 use Rattle.choke.proofs.bytes.write_seen.Tie as tie
@@ -42,6 +43,7 @@ same-length : tie.Need-same-length Inv-loop μ-loop
 same-length c = search needs
 
 returns : tie.Need-returns Inv-loop μ-loop
+unfolding written
 returns c = list-end _ _ _ (c .before .loop .inv) (c .loop-test .left)
 
 pub write-seen-spec : {M : Type 1} → statement M
