@@ -1,4 +1,4 @@
--- Laws of lists of values and of those with a property, and of a loop that writes the front of a lent list, an entry a turn.
+-- Laws of lists of values and of those with a property, and of the loops that write one to the front of a lent list.
 use Prim.Native.Nat.{ℕ, zero, suc, _+_, _<_, _≤_}
 use mathlib.Core.Path.{_≡_, refl, sym, ap, _∙_}
 use mathlib.Core.Bool.{Bool, true, false, cond}
@@ -11,6 +11,7 @@ use lib.Seq.{getD-at, drop-cons, set-at, take-at, append-snoc, ext-getD}
 use Rattle.packing.specs.Count.{pick, sum, count}
 use Rattle.packing.specs.Lists.{listOf, listWhere, written}
 use Rattle.packing.proofs.Tests.{below-suc}
+use Rattle.packing.proofs.Counting.{Tallied, tally-start, tally-more, tally-same, tally-less, tally-end}
 
 pub listOf-length : (n : ℕ) (f : ℕ → ℕ) → length (listOf n f) ≡ n
 unfolding listOf
@@ -111,3 +112,36 @@ module _ (n : ℕ) (f : ℕ → ℕ) (old : List ℕ) where
     where
       last : Listed n f old new v → n ≤ v → v ≡ n
       last r k = omega arith
+
+-- those of the first w with p, k in number, were written over old
+pub record Gathered (n : ℕ) (p : ℕ → Bool) (old new : List ℕ) (k w : ℕ) : Type 0 where
+  pub tallied : Tallied n p k w
+  pub same : length new ≡ length old
+  pub list : new ≡ written k (listWhere w p) old
+
+module _ (n : ℕ) (p : ℕ → Bool) (old : List ℕ) where
+  pub gather-start : Gathered n p old old 0 0
+  unfolding listWhere written
+  gather-start = record { tallied = tally-start n p; same = refl; list = refl }
+
+  module _ {new : List ℕ} {k w : ℕ} {b : Bool} (g : Gathered n p old new k w) (h : w < n) (e : b ≡ p w) where
+    -- where w has p, there is a place for it
+    pub gather-place : length (listWhere n p) ≤ length old → b ≡ true → k < length old
+    gather-place room f = omega (arith, listWhere-length n p, tally-less n p (g .tallied) h e f)
+
+    pub gather-more : length (listWhere n p) ≤ length old → b ≡ true → Gathered n p old (set new k w) (k + 1) (w + 1)
+    gather-more room f =
+        record {
+          tallied = tally-more n p (g .tallied) h e f;
+          same = length-set new k w ∙ g .same;
+          list = rw (g .list, listWhere-more w p (sym e ∙ f)) (written-more k (listWhere w p) old (listWhere-length w p ∙ sym (g .tallied .counted)) w (gather-place room f));
+        }
+
+    pub gather-same : b ≡ false → Gathered n p old new k (w + 1)
+    gather-same f = record { tallied = tally-same n p (g .tallied) h e f; same = g .same; list = rw (listWhere-same w p (sym e ∙ f)) (g .list) }
+
+  pub gather-end : {new : List ℕ} {k w : ℕ} → Gathered n p old new k w → n ≤ w → (k ≡ length (listWhere n p)) × (new ≡ written k (listWhere n p) old)
+  gather-end {new} {k} {w} g h = (tally-end n p (g .tallied) h ∙ sym (listWhere-length n p), rw (last g h) at (g .list))
+    where
+      last : Gathered n p old new k w → n ≤ w → w ≡ n
+      last r l = omega (arith, r .tallied .upto)
