@@ -7,7 +7,8 @@ use native.Mathlib.Omega.{arith}
 use lib.ListN.{length, set, take}
 use Rattle.packing.specs.Lists.{written}
 use Rattle.packing.proofs.Lists.{Listed, written-front, list-start, list-turn, list-end}
-use Rattle.sound.specs.Sound.{onceEach}
+use Rattle.sound.specs.Sound.{onceEach, isOrder}
+use Rattle.sound.proofs.Meaning.{order-is}
 use Rattle.plant_file.specs.PlantFile.{number, fileN, fileM, fileLinks, fileOrder}
 use Rattle.plant_file.specs.Walk.{linkAt}
 use Rattle.plant_file.specs.Pre.{withEnds}
@@ -58,5 +59,5 @@ module _ (file lent : List ℕ) {n : ℕ} {l : List ℕ} (is : n ≡ fileN file)
   pub order-front-long : n ≡ length (take n l)
   order-front-long = is ∙ sym (order-long file) ∙ sym (ap length order-front)
 
-  pub order-tested : {r : Bool} → r ≡ onceEach n (take n l) → r ≡ onceEach (fileN file) (fileOrder file)
-  order-tested f = rw (order-front, is) at f
+  pub order-tested : {r : Bool} → fileN file ≤ 1024 → r ≡ isOrder n (take n l) → r ≡ onceEach (fileN file) (fileOrder file)
+  order-tested few f = (rw (order-front, is) at f) ∙ order-is (fileN file) (fileOrder file) few (omega (arith, order-long file))

@@ -14,7 +14,7 @@ use Rattle.packing.specs.Holders.{held, holds, Feasible}
 use Rattle.packing.proofs.Tests.{tests, by-bool, and-l, and-r, and-i, or-l, or-r, or-cases, iff-test, clash, all-elim, all-intro}
 use Rattle.packing.proofs.Sums.{count-ext, count-one, count-unique, count-some, count-same, count-all, fibre, sumOver-ext, sumOver-const}
 use Rattle.packing.proofs.Prefixes.{IsOrder, order-place}
-use Rattle.sound.specs.Sound.{numbersSound, listsLong, endsSound, onceEach, holdersLinked, holdersWithin, onlyPlacedHeld, isSound}
+use Rattle.sound.specs.Sound.{numbersSound, listsLong, endsSound, onceEach, isOrder, holdersLinked, holdersWithin, onlyPlacedHeld, isSound}
 
 pub record Sound (n t m k : ℕ) (ls os hs : List ℕ) : Type 0 where
   pub few : n ≤ 1024
@@ -75,6 +75,11 @@ mean-ends n (a ∷ []) h = refl
 mean-ends n (a ∷ b ∷ l) h =
     let f = h a b (or-l (joins a b a b) (linked l a b) (or-l (eqb a a && eqb b b) (eqb a b && eqb b a) (and-i (eqb a a) (eqb b b) (eq-eqb a a refl) (eq-eqb b b refl)))) in
     rw (ne-eqb a b (f .2), lt-ltb a n (f .0), lt-ltb b n (f .1)) (mean-ends n l (λ x y j. h x y (or-r (joins a b x y) (linked l x y) j)))
+
+-- where n is in range and there are n numbers, only whether each stands once is asked
+pub order-is : (n : ℕ) (l : List ℕ) → n ≤ 1024 → n ≤ length l → isOrder n l ≡ onceEach n l
+unfolding isOrder
+order-is n l few long = rw (le-leb n 1024 few, le-leb n (length l) long)
 
 pub once-mean : (n : ℕ) (os : List ℕ) → onceEach n os ≡ true → IsOrder n (at os)
 unfolding onceEach
