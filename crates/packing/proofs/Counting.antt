@@ -2,6 +2,7 @@
 use Prim.Native.Nat.{ℕ, _+_, _<_, _≤_}
 use mathlib.Core.Path.{_≡_, refl, sym, ap, _∙_}
 use mathlib.Core.Bool.{Bool, true, false}
+use native.Mathlib.Nat.{add-zero, le-antisymm}
 use native.Mathlib.Numerals.{add-one}
 use native.Mathlib.Omega.{arith}
 use Rattle.packing.specs.Count.{pick, sum, count}
@@ -28,17 +29,11 @@ module _ (n : ℕ) (p : ℕ → Bool) where
   tally-more t h e f = tally-turn t h (ap (λ (b : Bool). pick b 1) (sym f ∙ e))
 
   pub tally-same : {k w : ℕ} {b : Bool} → Tallied n p k w → w < n → b ≡ p w → b ≡ false → Tallied n p k (w + 1)
-  tally-same {k} t h e f = rw (none k) at (tally-turn t h (ap (λ (b : Bool). pick b 1) (sym f ∙ e)))
-    where
-      none : (i : ℕ) → i + 0 ≡ i
-      none i = omega arith
+  tally-same {k} t h e f = rw (add-zero k) at (tally-turn t h (ap (λ (b : Bool). pick b 1) (sym f ∙ e)))
 
   -- where w has p, it is one of those not yet counted
   pub tally-less : {k w : ℕ} {b : Bool} → Tallied n p k w → w < n → b ≡ p w → b ≡ true → k < count n p
   tally-less {k} {w} t h e f = omega (arith, tally-more t h e f .counted, count-longer (w + 1) n p (omega arith))
 
   pub tally-end : {k w : ℕ} → Tallied n p k w → n ≤ w → k ≡ count n p
-  tally-end {k} {w} t h = t .counted ∙ ap (λ (i : ℕ). count i p) (last t h)
-    where
-      last : Tallied n p k w → n ≤ w → w ≡ n
-      last r l = omega arith
+  tally-end t h = t .counted ∙ ap (λ (i : ℕ). count i p) (le-antisymm (t .upto) h)

@@ -3,7 +3,7 @@ use Prim.Native.Nat.{ℕ, zero, suc, _+_, _<_, _≤_}
 use mathlib.Core.Path.{_≡_, refl, sym, ap, _∙_}
 use mathlib.Core.Bool.{Bool, true, false, cond}
 use mathlib.Core.List.{List, [], _∷_, _++_, append-nil}
-use native.Mathlib.Nat.{not-suc-le-zero}
+use native.Mathlib.Nat.{not-suc-le-zero, le-antisymm}
 use native.Mathlib.Numerals.{add-one}
 use native.Mathlib.Omega.{arith}
 use lib.ListN.{length, getD, set, take, drop, replicate, length-append, length-drop, length-set, replicate-append-replicate, List·getD-append}
@@ -108,10 +108,7 @@ module _ (n : ℕ) (f : ℕ → ℕ) (old : List ℕ) where
       next = unfold listOf in rw add-one
 
   pub list-end : {new : List ℕ} {v : ℕ} → Listed n f old new v → n ≤ v → new ≡ written n (listOf n f) old
-  list-end {new} {v} t h = rw (last t h) at (t .list)
-    where
-      last : Listed n f old new v → n ≤ v → v ≡ n
-      last r k = omega arith
+  list-end t h = rw (le-antisymm (t .upto) h) at (t .list)
 
 -- those of the first w with p, k in number, were written over old
 pub record Gathered (n : ℕ) (p : ℕ → Bool) (old new : List ℕ) (k w : ℕ) : Type 0 where
@@ -141,7 +138,4 @@ module _ (n : ℕ) (p : ℕ → Bool) (old : List ℕ) where
     gather-same f = record { tallied = tally-same n p (g .tallied) h e f; same = g .same; list = rw (listWhere-same w p (sym e ∙ f)) (g .list) }
 
   pub gather-end : {new : List ℕ} {k w : ℕ} → Gathered n p old new k w → n ≤ w → (k ≡ length (listWhere n p)) × (new ≡ written k (listWhere n p) old)
-  gather-end {new} {k} {w} g h = (tally-end n p (g .tallied) h ∙ sym (listWhere-length n p), rw (last g h) at (g .list))
-    where
-      last : Gathered n p old new k w → n ≤ w → w ≡ n
-      last r l = omega (arith, r .tallied .upto)
+  gather-end g h = (tally-end n p (g .tallied) h ∙ sym (listWhere-length n p), rw (le-antisymm (g .tallied .upto) h) at (g .list))

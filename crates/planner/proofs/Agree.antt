@@ -1,24 +1,20 @@
 -- A record run through a list of calls agrees with what the calls tell, and is one made by accepted calls.
 use Prim.Native.Nat.{ℕ, zero, suc, _+_, _*_, _<_, _≤_}
 use mathlib.Core.Path.{_≡_, refl, sym, ap, _∙_}
-use mathlib.Core.Bool.{Bool, true, false, not}
+use mathlib.Core.Bool.{true}
 use mathlib.Core.List.{List, [], _∷_, _++_}
-use native.Mathlib.Omega.{arith}
-use lib.ListN.{length, set, drop, replicate, length-set, List·getD-append}
-use Rattle.packing.specs.Lists.{listOf, written}
-use Rattle.packing.specs.Plant.{NONE, at, common, firstLinks, linked}
+use lib.ListN.{length, length-set}
+use Rattle.packing.specs.Plant.{at, firstLinks}
 use Rattle.packing.proofs.Lists.{listOf-at, written-at, listed-at}
-use Rattle.packing.proofs.Prefixes.{IsOrder}
-use Rattle.search.specs.Search.{placedHolders}
 use Rattle.sound.specs.Sound.{isSound}
 use Rattle.sound.proofs.Meaning.{means-sound}
 use Rattle.planner.specs.declared.Small.{Small}
 use Rattle.planner.specs.Lists.{upTo}
-use Rattle.planner.specs.Refusals.{refuse, openRefusal, linkConditions, orderConditions, placeConditions, readConditions}
-use Rattle.planner.specs.Calls.{byNumber, opened, openAnswer, openOrder, openHolders, linkRefusal, linkAnswer, linkLinks, orderRefusal, orderAnswer, orderOrder, placeRefusal, placeAnswer, placeHolders, readRefusal, readAnswer}
+use Rattle.planner.specs.Refusals.{openRefusal}
+use Rattle.planner.specs.Calls.{byNumber, openAnswer, openOrder, openHolders, linkRefusal, linkAnswer, linkLinks, orderRefusal, orderAnswer, orderOrder, placeRefusal, placeAnswer, placeHolders, readRefusal, readAnswer}
 use Rattle.planner.specs.Told.{Call, link, order, place, read, Told, beginning, refuses, accepted, tellOne, tell, toldNumbers}
 use Rattle.planner.specs.Run.{State, afterOpen, answers, step, run, runNumbers}
-use Rattle.planner.proofs.Answers.{open-fits, link-fits, order-fits, place-fits}
+use Rattle.planner.proofs.Answers.{sound-number, open-fits, link-fits, order-fits, place-fits}
 use Rattle.planner.proofs.Orders.{order-right}
 use Rattle.planner.proofs.Made.{Made, links-appended, made-open, made-link, made-order, made-place}
 
@@ -33,10 +29,6 @@ pub record Agrees (s : State) (p : Told) : Type 0 where
   pub order : (i : ℕ) → i < p .n → at (s .order) i ≡ at (p .order) i
   pub made : Made (p .n) (p .t) (p .m) (p .placed) (s .links) (s .order) (s .holders)
 
--- a sound record gives no 26
-past-26 : {b : Bool} (rest : ℕ) → b ≡ true → refuse (not b) 26 rest ≡ rest
-past-26 rest e = rw e
-
 module _ {s : State} {p : Told} (a : Agrees s p) where
   sound : isSound (s .small .n) (s .small .t) (s .small .m) (s .small .k) (s .links) (s .order) (s .holders) ≡ true
   sound = rw (a .small) (means-sound _ _ _ _ _ _ _ (a .made .sound))
@@ -44,13 +36,13 @@ module _ {s : State} {p : Told} (a : Agrees s p) where
   -- the record gives the numbers that were told
   pub same-number : (c : Call) → answers s c ≡ refuses p c
   unfolding answers refuses linkAnswer orderAnswer placeAnswer readAnswer linkRefusal orderRefusal placeRefusal readRefusal
-  same-number (link x y) = past-26 _ sound ∙ rw (a .small, a .links, a .room)
-  same-number (order numbers) = past-26 _ sound ∙ rw (a .small)
-  same-number place = past-26 _ sound ∙ rw (a .small)
-  same-number (read leaders choke) = past-26 _ sound ∙ rw (a .small)
+  same-number (link x y) = sym (sound-number refl sound refl) ∙ rw (a .small, a .links, a .room)
+  same-number (order numbers) = sym (sound-number refl sound refl) ∙ rw (a .small)
+  same-number place = sym (sound-number refl sound refl) ∙ rw (a .small)
+  same-number (read leaders choke) = sym (sound-number refl sound refl) ∙ rw (a .small)
 
   -- an accepted call takes the record to what it tells
-  pub accepted-agrees : (c : Call) → refuses p c ≡ 0 → answers s c ≡ 0 → Agrees (step s c) (accepted p c)
+  accepted-agrees : (c : Call) → refuses p c ≡ 0 → answers s c ≡ 0 → Agrees (step s c) (accepted p c)
   unfolding answers step accepted refuses linkAnswer linkLinks orderAnswer orderOrder placeAnswer placeHolders readAnswer
   accepted-agrees (link x y) told z =
       let f = link-fits (p .n) (p .placed) (p .m) (p .links) (p .room) x y refl told in
@@ -90,7 +82,7 @@ step-refused s place e f = rw f
 step-refused s (read leaders choke) e f = rw f
 
 -- one call, accepted or refused
-pub step-agrees : {s : State} {p : Told} → Agrees s p → (c : Call) → Agrees (step s c) (tellOne p c)
+step-agrees : {s : State} {p : Told} → Agrees s p → (c : Call) → Agrees (step s c) (tellOne p c)
 unfolding tellOne
 step-agrees {s} {p} a c = go (refuses p c) refl
   where

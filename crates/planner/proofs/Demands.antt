@@ -1,13 +1,12 @@
 -- The claims of specs/Claims.antt.
-use Prim.Native.Nat.{ℕ, zero, suc, _+_, _<_, _≤_}
+use Prim.Native.Nat.{ℕ, zero, suc, _<_, _≤_}
 use mathlib.Core.Path.{_≡_, refl, sym, ap, _∙_}
 use mathlib.Core.Bool.{Bool, true, false, not}
-use mathlib.Core.List.{List, [], _∷_, _++_}
+use mathlib.Core.List.{List, [], _∷_}
 use native.Mathlib.Omega.{arith}
 use lib.Dec.{eqb}
-use lib.ListN.{length, drop}
+use lib.ListN.{length}
 use Rattle.packing.specs.Count.{pick, count}
-use Rattle.packing.specs.Lists.{listOf, written}
 use Rattle.packing.specs.Plant.{NONE, at, common, linked}
 use Rattle.packing.specs.Grouping.{Grouping, covered, countFirst, coveredFirst}
 use Rattle.packing.specs.Holders.{held}

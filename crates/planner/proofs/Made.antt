@@ -1,20 +1,20 @@
 -- The invariant of a record made by accepted calls, and that each accepted call keeps it.
-use Prim.Native.Nat.{ℕ, zero, suc, _+_, _*_, _<_, _≤_}
+use Prim.Native.Nat.{ℕ, suc, _+_, _*_, _<_, _≤_}
 use mathlib.Core.Path.{_≡_, refl, sym, ap, _∙_}
 use mathlib.Core.Logic.{_⊎_, inl, inr, ⊎-elim}
-use mathlib.Core.Bool.{Bool, true, false, _&&_, _||_, false≢true}
+use mathlib.Core.Bool.{Bool, true, false, _||_, false≢true}
 use mathlib.Core.List.{List, [], _∷_, _++_, append-assoc}
 use native.Mathlib.Nat.{not-suc-le-zero}
+use native.Mathlib.Numerals.{add-one}
 use native.Mathlib.Omega.{arith}
 use lib.Dec.{eqb, ltb}
-use lib.ListN.{length, getD, set, take, drop, replicate, length-set, length-append, length-drop, length-replicate, getD-replicate, List·getD-append}
-use lib.Seq.{length-take-le, take-suc-set, take-set-le}
-use borrow.Author.Tests.{eqb-true, eqb-false, eq-eqb, ne-eqb, ltb-true, ltb-false, lt-ltb, le-ltb}
-use Rattle.packing.specs.Count.{count}
+use lib.ListN.{length, set, take, replicate, length-set, length-replicate, getD-replicate}
+use lib.Seq.{length-take-le, take-suc-set}
+use borrow.Author.Tests.{eqb-true, eq-eqb, ne-eqb, ltb-true, ltb-false, lt-ltb}
 use Rattle.packing.specs.Lists.{listOf, written}
 use Rattle.packing.specs.Plant.{NONE, at, common, firstLinks, linked, joins}
 use Rattle.packing.specs.Holders.{held, holds, Feasible}
-use Rattle.packing.proofs.Tests.{by-bool, clash, and-l, and-r, or-l, or-r, or-cases, or-none, or-false-l, not-test, below-suc}
+use Rattle.packing.proofs.Tests.{by-bool, clash, or-l, or-r, or-cases, or-none, or-false-l, below-suc}
 use Rattle.packing.proofs.Sums.{count-none}
 use Rattle.packing.proofs.Lists.{listOf-length, written-length, written-at, listed-at}
 use Rattle.packing.proofs.Links.{linked-append}
@@ -25,7 +25,7 @@ use Rattle.search.specs.Search.{placedHolders}
 use Rattle.search.specs.Pre.{Placeable}
 use Rattle.search.proofs.Shifting.{Kept}
 use Rattle.search.proofs.Placing.{Left, place-cases, placed-range, placed-length}
-use Rattle.sound.proofs.Meaning.{Sound}
+use Rattle.sound.proofs.Meaning.{Sound, joined-ends}
 use Rattle.planner.specs.Lists.{upTo}
 use Rattle.planner.proofs.Next.{none-unheld, next-placeable}
 
@@ -84,14 +84,11 @@ unfolding firstLinks
 links-appended m ls a b room =
     ap (λ (i : ℕ). take i (set (set ls (2 * m) a) (2 * m + 1) b)) two
     ∙ take-suc-set (set ls (2 * m) a) (2 * m + 1) b (rw length-set (omega arith))
-    ∙ ap (λ (l : List ℕ). l ++ (b ∷ [])) (ap (λ (i : ℕ). take i (set ls (2 * m) a)) one ∙ take-suc-set ls (2 * m) a (omega arith))
+    ∙ ap (λ (l : List ℕ). l ++ (b ∷ [])) (ap (λ (i : ℕ). take i (set ls (2 * m) a)) (add-one (2 * m)) ∙ take-suc-set ls (2 * m) a (omega arith))
     ∙ append-assoc (take (2 * m) ls) (a ∷ []) (b ∷ [])
   where
     two : 2 * (m + 1) ≡ suc (2 * m + 1)
     two = omega arith
-
-    one : 2 * m + 1 ≡ suc (2 * m)
-    one = omega arith
 
 module _ {n t m k : ℕ} {ls os hs : List ℕ} (made : Made n t m k ls os hs) where
   -- before the first placing nobody is held
@@ -113,7 +110,7 @@ module _ {n t m k : ℕ} {ls os hs : List ℕ} (made : Made n t m k ls os hs) wh
               links-long = simp length-set (omega arith);
               order-long = made .sound .order-long;
               holders-long = made .sound .holders-long;
-              ends = λ x y e. ⊎-elim (made .sound .ends x y) (new x y) (or-cases (linked (firstLinks m ls) x y) (joins a b x y) (sym (appended x y) ∙ e));
+              ends = λ x y e. ⊎-elim (made .sound .ends x y) (joined-ends n a b below-a below-b apart x y) (or-cases (linked (firstLinks m ls) x y) (joins a b x y) (sym (appended x y) ∙ e));
               order = made .sound .order;
               range = made .sound .range;
               feasible = unheld-feasible n (common t) (linked (firstLinks (m + 1) (set (set ls (2 * m) a) (2 * m + 1) b))) hs (made .sound .few) (none-held z);
@@ -124,13 +121,6 @@ module _ {n t m k : ℕ} {ls os hs : List ℕ} (made : Made n t m k ls os hs) wh
     where
       appended : (x y : ℕ) → linked (firstLinks (m + 1) (set (set ls (2 * m) a) (2 * m + 1) b)) x y ≡ (linked (firstLinks m ls) x y || joins a b x y)
       appended x y = ap (λ (l : List ℕ). linked l x y) (links-appended m ls a b room) ∙ linked-append m (firstLinks m ls) a b x y (length-first m ls (omega arith))
-
-      new : (x y : ℕ) → joins a b x y ≡ true → (x < n) × (y < n) × (x ≡ y → ⊥)
-      new x y e =
-          ⊎-elim
-          (λ q. let u : a ≡ x = eqb-true a x (and-l (eqb a x) (eqb b y) q) in let v : b ≡ y = eqb-true b y (and-r (eqb a x) (eqb b y) q) in (omega arith, omega arith, λ r. apart (cc)))
-          (λ q. let u : a ≡ y = eqb-true a y (and-l (eqb a y) (eqb b x) q) in let v : b ≡ x = eqb-true b x (and-r (eqb a y) (eqb b x) q) in (omega arith, omega arith, λ r. apart (cc)))
-          (or-cases (eqb a x && eqb b y) (eqb a y && eqb b x) e)
 
   -- order keeps it
   pub made-order : (numbers : List ℕ) → k ≡ 0 → length numbers ≡ n → IsOrder n (at numbers) → Made n t m k ls (written n numbers os) hs

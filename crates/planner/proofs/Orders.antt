@@ -1,15 +1,15 @@
 -- A list of n numbers is an order exactly if it neither repeats a number nor has one not below n.
 use Prim.Native.Nat.{ℕ, _<_, _≤_}
-use mathlib.Core.Path.{_≡_, refl, sym, _∙_}
-use mathlib.Core.Bool.{Bool, true, false, not, _||_}
+use mathlib.Core.Path.{_≡_, sym, _∙_}
+use mathlib.Core.Bool.{Bool, false, not, _||_}
 use mathlib.Core.List.{List}
 use native.Mathlib.Omega.{arith}
 use lib.Dec.{eqb, ltb}
 use lib.ListN.{length}
-use borrow.Author.Tests.{eqb-true, eqb-false, eq-eqb, ne-eqb, ltb-true, lt-ltb, ltb-false, not-true, not-false}
+use borrow.Author.Tests.{eqb-false, ne-eqb, ltb-true, lt-ltb, ltb-false, not-false}
 use Rattle.packing.specs.Count.{any}
 use Rattle.packing.specs.Plant.{at}
-use Rattle.packing.proofs.Tests.{by-bool, iff-test, not-i, not-i-false, clash, or-none, or-false-l, or-false-r, any-none, any-fails}
+use Rattle.packing.proofs.Tests.{by-bool, not-i-false, clash, or-none, or-false-l, or-false-r, any-none, any-fails}
 use Rattle.packing.proofs.Prefixes.{IsOrder}
 use Rattle.sound.specs.Sound.{onceEach, isOrder}
 use Rattle.sound.proofs.Meaning.{order-is, once-mean, mean-once}

@@ -1,13 +1,12 @@
 -- The links by index: what the code reads there, and that it is what the list of links holds.
 use Prim.Native.Nat.{ℕ, _+_, _*_, _<_, _≤_}
 use mathlib.Core.Path.{_≡_}
-use mathlib.Core.List.{List, _∷_}
+use mathlib.Core.List.{List}
 use native.Mathlib.Omega.{arith}
 use lib.ListN.{length}
 use borrow.Author.Tests.{lt-ltb, le-ltb}
 use Rattle.packing.specs.Plant.{at}
 use Rattle.packing.proofs.Lists.{listOf-length, listOf-at}
-use Rattle.plant_file.specs.declared.walk.Step.{Step}
 use Rattle.plant_file.specs.declared.walk.Step.the-variants.{Link, End}
 use Rattle.plant_file.specs.PlantFile.{number, fileN, fileM, fileLinks, fileOrder}
 use Rattle.plant_file.specs.Walk.{linkAt}
