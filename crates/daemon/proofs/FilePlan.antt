@@ -9,7 +9,7 @@ use Rattle.packing.specs.Lists.{listOf, written}
 use Rattle.packing.specs.Plant.{at}
 use Rattle.packing.proofs.Lists.{listOf-length, written-room, written-front}
 use Rattle.stars.specs.Stars.{leaderList}
-use Rattle.choke.specs.ChokeSet.{chokeByte}
+use Rattle.search.specs.ChokeSet.{chokeByte}
 use Rattle.planner.specs.Refusals.{openRefusal}
 use Rattle.planner.specs.Calls.{readAnswer, readLeaders, readChoke}
 use Rattle.planner.specs.Told.{Told, read, beginning, refuses, tell}

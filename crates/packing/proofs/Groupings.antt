@@ -24,6 +24,14 @@ Sym n adj = (x u : ℕ) → x < n → u < n → adj x u ≡ true → adj u x ≡
 abbrev pub Loopless : ℕ → (ℕ → ℕ → Bool) → Type 0
 Loopless n adj = (x : ℕ) → x < n → adj x x ≡ false
 
+-- who has another's number as its entry
+module _ (g : ℕ → ℕ) (u w : ℕ) where
+  pub follows-is : g w ≡ u → (w ≡ u → ⊥) → follows g u w ≡ true
+  follows-is e other = and-i _ _ (eq-eqb (g w) u e) (not-i _ (ne-eqb w u other))
+
+  pub follows-means : follows g u w ≡ true → (g w ≡ u) × (w ≡ u → ⊥)
+  follows-means t = (eqb-true (g w) u (and-l _ _ t), eqb-false w u (not-true (eqb w u) (and-r (eqb (g w) u) _ t)))
+
 -- v's holder by the grouping g; n where g leaves v alone
 unfoldable pub groupHolder : ℕ → (ℕ → ℕ) → ℕ → ℕ
 groupHolder n g v = cond (eqb (g v) NONE) n (cond (eqb (g v) v) (firstWith n (follows g v)) (g v))
@@ -78,7 +86,8 @@ module _ (n : ℕ) (limit : ℕ → ℕ) (adj : ℕ → ℕ → Bool) (g : ℕ �
         let m = count-find n (follows g v) (leader-within v l own (λ r. some (own ∙ r)) .0) in
         let (k, t, _) = first-found n (follows g v) (any-intro n (follows g v) (m .0) (m .1) (m .2)) in
         let w : ℕ = firstWith n (follows g v) in
-        rw (e, q) (k, inr (member-joins w v k (eqb-true (g w) v (and-l _ _ t)) (λ r. some (own ∙ r)) (eqb-false w v (not-true (eqb w v) (and-r (eqb (g w) v) _ t))))))
+        let means = follows-means g v w t in
+        rw (e, q) (k, inr (member-joins w v k (means .0) (λ r. some (own ∙ r)) (means .1))))
         (λ q. let j = member-joins v (g v) l refl some (λ r. eqb-false (g v) v q (sym r)) in rw (e, q) (j .below, inl j))
 
     -- the holders hold what the grouping covers
@@ -108,7 +117,7 @@ module _ (n : ℕ) (limit : ℕ → ℕ) (adj : ℕ → ℕ → Bool) (g : ℕ �
               arith,
               leader-within u l own (eqb-false u NONE (not-true (eqb u NONE) (and-r (eqb (g u) u) _ e))) .1,
               count-mono n (λ v. eqb (groupHolder n g v) u) (follows g u)
-                  (λ v k q. ⊎-elim (λ j. and-i (eqb (g v) u) (not (eqb v u)) (eq-eqb (g v) u (j .entry)) (not-i (eqb v u) (ne-eqb v u (j .other)))) (λ j. absurd (j .other (sym own ∙ j .entry))) (arcs v u k l (eqb-true (groupHolder n g v) u q))),
+                  (λ v k q. ⊎-elim (λ j. follows-is g u v (j .entry) (j .other)) (λ j. absurd (j .other (sym own ∙ j .entry))) (arcs v u k l (eqb-true (groupHolder n g v) u q))),
             )
 
         only : (u : ℕ) → u < n → (eqb (g u) u && not (eqb u NONE)) ≡ false → (v : ℕ) → v < n → eqb (groupHolder n g v) u ≡ true → v ≡ g u

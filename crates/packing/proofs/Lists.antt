@@ -1,17 +1,21 @@
 -- Laws of lists of values and of those with a property, and of the loops that write one to the front of a lent list.
 use Prim.Native.Nat.{ℕ, zero, suc, _+_, _<_, _≤_}
 use mathlib.Core.Path.{_≡_, refl, sym, ap, _∙_}
-use mathlib.Core.Bool.{Bool, true, false, cond}
+use mathlib.Core.Logic.{⊎-elim}
+use mathlib.Core.Bool.{Bool, true, false, cond, _||_, or-assoc, false≢true}
 use mathlib.Core.List.{List, [], _∷_, _++_, append-nil}
 use native.Mathlib.Nat.{not-suc-le-zero, le-antisymm}
 use native.Mathlib.Numerals.{add-one}
 use native.Mathlib.Omega.{arith}
+use lib.Dec.{eqb}
 use lib.ListN.{length, getD, set, take, drop, replicate, length-append, length-drop, length-set, replicate-append-replicate, List·getD-append}
 use lib.Seq.{getD-at, drop-cons, set-at, take-at, append-snoc, ext-getD}
+use borrow.Author.Tests.{eqb-true, eq-eqb, leb-true, le-leb}
 use Rattle.packing.specs.Count.{pick, sum, count}
-use Rattle.packing.specs.Lists.{listOf, listWhere, written}
-use Rattle.packing.proofs.Tests.{below-suc}
+use Rattle.packing.specs.Lists.{listOf, listWhere, written, fits}
+use Rattle.packing.proofs.Tests.{tests, below-suc, or-cases, or-l, or-r}
 use Rattle.packing.proofs.Counting.{Tallied, tally-start, tally-more, tally-same, tally-less, tally-end}
+use Rattle.packing.proofs.Links.{memberOf}
 
 pub listOf-length : (n : ℕ) (f : ℕ → ℕ) → length (listOf n f) ≡ n
 unfolding listOf
@@ -40,7 +44,7 @@ listOf-same (suc n) x = rw (listOf-same n x) (replicate-append-replicate n 1 x �
 pub list-is : (l : List ℕ) → l ≡ listOf (length l) (λ i. getD l i 0)
 list-is l = ext-getD 0 l (listOf (length l) (λ i. getD l i 0)) (sym (listOf-length (length l) (λ i. getD l i 0))) (λ i h. sym (listOf-at (length l) (λ i. getD l i 0) i h))
 
--- those below n with p: their number, and one more below n + 1
+-- those below n with p: their number
 pub listWhere-length : (n : ℕ) (p : ℕ → Bool) → length (listWhere n p) ≡ count n p
 unfolding listWhere count sum
 listWhere-length zero p = refl
@@ -50,11 +54,37 @@ listWhere-length (suc n) p = length-append (listWhere n p) (cond (p n) (n ∷ []
     one true = refl
     one false = refl
 
-pub listWhere-more : (n : ℕ) (p : ℕ → Bool) → p n ≡ true → listWhere (n + 1) p ≡ listWhere n p ++ (n ∷ [])
+-- .. and who they are
+pub member-append : (l k : List ℕ) (y : ℕ) → memberOf (l ++ k) y ≡ (memberOf l y || memberOf k y)
+unfolding memberOf
+member-append [] k y = refl
+member-append (a ∷ l) k y = rw (member-append l k y) (sym (or-assoc (eqb a y) (memberOf l y) (memberOf k y)))
+
+pub listWhere-in : (n : ℕ) (p : ℕ → Bool) (v : ℕ) → v < n → p v ≡ true → memberOf (listWhere n p) v ≡ true
+unfolding listWhere memberOf
+listWhere-in zero p v h e = absurd (not-suc-le-zero h)
+listWhere-in (suc n) p v h e =
+    let two = member-append (listWhere n p) (cond (p n) (n ∷ []) []) v in
+    below-suc v n h (λ q. two ∙ or-r (memberOf (listWhere n p) v) _ (rw (← q, e) (or-l (eqb v v) false (eq-eqb v v refl))))
+    (λ q. two ∙ or-l (memberOf (listWhere n p) v) _ (listWhere-in n p v q e))
+
+pub listWhere-out : (n : ℕ) (p : ℕ → Bool) (v : ℕ) → memberOf (listWhere n p) v ≡ true → (v < n) × (p v ≡ true)
+unfolding listWhere memberOf
+listWhere-out zero p v e = absurd (false≢true e)
+listWhere-out (suc n) p v e =
+    ⊎-elim (λ q. let r = listWhere-out n p v q in (omega (arith, r .0), r .1)) (λ q. last (p n) refl q)
+    (or-cases (memberOf (listWhere n p) v) _ (sym (member-append (listWhere n p) (cond (p n) (n ∷ []) []) v) ∙ e))
+  where
+    last : (b : Bool) → p n ≡ b → memberOf (cond b (n ∷ []) []) v ≡ true → (v < suc n) × (p v ≡ true)
+    last true f q = let here : n ≡ v = eqb-true n v (⊎-elim (λ r. r) (λ r. absurd (false≢true r)) (or-cases (eqb n v) false q)) in (omega arith, rw (← here) f)
+    last false f q = absurd (false≢true q)
+
+-- .. and one more below n + 1, or none
+listWhere-more : (n : ℕ) (p : ℕ → Bool) → p n ≡ true → listWhere (n + 1) p ≡ listWhere n p ++ (n ∷ [])
 unfolding listWhere
 listWhere-more n p e = rw (add-one, e)
 
-pub listWhere-same : (n : ℕ) (p : ℕ → Bool) → p n ≡ false → listWhere (n + 1) p ≡ listWhere n p
+listWhere-same : (n : ℕ) (p : ℕ → Bool) → p n ≡ false → listWhere (n + 1) p ≡ listWhere n p
 unfolding listWhere
 listWhere-same n p e = rw (add-one, e) (append-nil (listWhere n p))
 
@@ -77,7 +107,7 @@ module _ (n : ℕ) (front lent : List ℕ) (long : length front ≡ n) where
   written-front = take-at front (drop n lent) n long
 
   -- one entry more
-  pub written-more : (x : ℕ) → n < length lent → set (written n front lent) n x ≡ written (n + 1) (front ++ (x ∷ [])) lent
+  written-more : (x : ℕ) → n < length lent → set (written n front lent) n x ≡ written (n + 1) (front ++ (x ∷ [])) lent
   unfolding written
   written-more x h = rw (add-one, drop-cons lent n 0 h) (set-at front (getD lent n 0) (drop (suc n) lent) x n long ∙ sym (append-snoc front x (drop (suc n) lent)))
 
@@ -139,3 +169,12 @@ module _ (n : ℕ) (p : ℕ → Bool) (old : List ℕ) where
 
   pub gather-end : {new : List ℕ} {k w : ℕ} → Gathered n p old new k w → n ≤ w → (k ≡ length (listWhere n p)) × (new ≡ written k (listWhere n p) old)
   gather-end g h = (tally-end n p (g .tallied) h ∙ sym (listWhere-length n p), rw (le-antisymm (g .tallied .upto) h) at (g .list))
+
+-- what the test of n and the lengths says, and what it takes
+pub fits-means : (n : ℕ) (read out : List ℕ) → fits n read out ≡ true → (n ≤ 1024) × (n ≤ length read) × (n ≤ length out)
+unfolding fits
+fits-means n read out e = search (tests, leb-true)
+
+pub fits-holds : (n : ℕ) (read out : List ℕ) → n ≤ 1024 → n ≤ length read → n ≤ length out → fits n read out ≡ true
+unfolding fits
+fits-holds n read out few held room = rw (le-leb n 1024 few, le-leb n (length read) held, le-leb n (length out) room)

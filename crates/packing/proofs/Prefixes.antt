@@ -63,6 +63,11 @@ order-place {n} {order} o v l = place v (count-same n stands (λ u. true) (λ u 
           count-bound n (λ u. true),
         )
 
+-- so the first n of the order are all gateways
+pub order-whole : {n : ℕ} {order : ℕ → ℕ} → IsOrder n order → (p : ℕ → Bool) → count n p ≡ countFirst n order p
+unfolding countFirst
+order-whole {n} o p = reindex n p o (omega arith) (λ v l e. order-place o v l)
+
 -- what stands among the first k stands among the first k + 1
 among-suc : (order : ℕ → ℕ) (k v : ℕ) → Among order k v → Among order (suc k) v
 among-suc order k v a = (a .0, omega (arith, a .1), a .2)

@@ -12,7 +12,7 @@ use Rattle.packing.proofs.Tests.{or-false-l, or-false-r}
 use Rattle.packing.specs.Lists.{listOf, written}
 use Rattle.search.specs.Search.{placedHolders}
 use Rattle.stars.specs.Stars.{leaderList}
-use Rattle.choke.specs.ChokeSet.{chokeByte}
+use Rattle.search.specs.ChokeSet.{chokeByte}
 use Rattle.planner.specs.declared.Small.{Small}
 use Rattle.planner.specs.declared.Answer.{Answer}
 use Rattle.planner.specs.Refusals.{refuse, openRefusal, linkConditions, orderConditions, placeConditions, readConditions}

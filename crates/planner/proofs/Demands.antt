@@ -13,13 +13,14 @@ use Rattle.packing.specs.Holders.{held}
 use Rattle.packing.specs.Choke.{ChokeDifference}
 use Rattle.packing.proofs.Sums.{count-ext}
 use Rattle.packing.proofs.Lists.{listed-at}
+use Rattle.packing.proofs.Prefixes.{order-whole}
 use Rattle.packing.proofs.Below.{grouping-below, difference-below}
 use Rattle.stars.specs.Stars.{leaderList}
-use Rattle.choke.specs.ChokeSet.{inChoke, chokeByte}
+use Rattle.search.specs.ChokeSet.{inChoke, chokeByte}
 use Rattle.planner.specs.Calls.{byNumber, readAnswer, readLeaders, readChoke}
 use Rattle.planner.specs.Told.{Call, Told, link, order, place, read, beginning, refuses, accepted, tellOne, tell}
 use Rattle.planner.specs.Run.{State, answers}
-use Rattle.planner.specs.Claims.{leadersRead, chokeRead, SameNumbers, DemandThree, DemandTwo}
+use Rattle.planner.specs.Claims.{leadersRead, chokeRead, SameNumbers, DemandThree, MostCovered, DemandTwo}
 use Rattle.planner.proofs.Agree.{Agrees, same-number, same-numbers, run-agrees, open-agrees}
 use Rattle.planner.proofs.Optimal.{leaders-grouping, most-covered, covered-held, choke-unheld}
 
@@ -71,14 +72,22 @@ module _ {s : State} {p : Told} (a : Agrees s p) (leaders choke : List ℕ) (z :
       count-ext j (λ i. covered (leaderList (p .n) (s .holders)) (at (s .order) i)) (λ i. covered (leadersRead s leaders choke) (at (p .order) i))
       (λ i q. let below : i < p .n = omega arith in rw (← a .order i below) (ap (λ (x : ℕ). not (eqb x NONE)) (leaders-are (at (s .order) i) (a .made .sound .order .below i below))))
 
-  other-first : (g : ℕ → ℕ) (j : ℕ) → j ≤ p .n → coveredFirst j (at (s .order)) g ≡ coveredFirst j (at (p .order)) g
+  -- the first j of the order told are those of the record's order
+  first-same : (c : ℕ → Bool) (j : ℕ) → j ≤ p .n → countFirst j (at (s .order)) c ≡ countFirst j (at (p .order)) c
   unfolding countFirst
-  other-first g j l = count-ext j (λ i. covered g (at (s .order) i)) (λ i. covered g (at (p .order) i)) (λ i q. let below : i < p .n = omega arith in rw (a .order i below))
+  first-same c j l = count-ext j (λ i. c (at (s .order) i)) (λ i. c (at (p .order) i)) (λ i q. let below : i < p .n = omega arith in rw (a .order i below))
 
   module _ (full : p .placed ≡ p .n) where
     read-optimal : (g : ℕ → ℕ) → Grouping (p .n) (common (p .t)) (linked (p .links)) g → (j : ℕ) → j ≤ p .n
         → coveredFirst j (at (p .order)) g ≤ coveredFirst j (at (p .order)) (leadersRead s leaders choke)
-    read-optimal g group j l = omega (arith, most-covered (a .made) g (rw (a .links) group) j (omega arith), other-first g j l, ours-first j l)
+    read-optimal g group j l = omega (arith, most-covered (a .made) g (rw (a .links) group) j (omega arith), first-same (covered g) j l, ours-first j l)
+
+    read-most : (g : ℕ → ℕ) → Grouping (p .n) (common (p .t)) (linked (p .links)) g → count (p .n) (covered g) ≤ count (p .n) (covered (leadersRead s leaders choke))
+    read-most g group = omega (arith, read-optimal g group (p .n) (omega arith), whole (covered g), whole (covered (leadersRead s leaders choke)))
+      where
+        -- the first n of the order are all gateways
+        whole : (c : ℕ → Bool) → count (p .n) c ≡ countFirst (p .n) (at (p .order)) c
+        whole c = order-whole (a .made .sound .order) c ∙ first-same c (p .n) (omega arith)
 
     read-held : (v : ℕ) → v < p .n → covered (leadersRead s leaders choke) v ≡ held (p .n) (at (s .holders)) v
     read-held v l = ap (λ (x : ℕ). not (eqb x NONE)) (sym (leaders-are v l)) ∙ covered-held (a .made) full v l
@@ -95,6 +104,13 @@ demand-three n t ls os hs ok calls placed leaders choke z =
     let a = run-agrees (open-agrees n t ls os hs ok) calls in
     let same = tells-n (beginning n t (length ls)) calls in
     (rw (same .0, same .1) at (read-grouping a leaders choke z), rw (same .0, same .1) at (read-optimal a leaders choke z (placed ∙ sym (same .0))))
+
+pub most-covered-told : MostCovered
+unfolding MostCovered beginning
+most-covered-told n t ls os hs ok calls placed leaders choke z =
+    let a = run-agrees (open-agrees n t ls os hs ok) calls in
+    let same = tells-n (beginning n t (length ls)) calls in
+    rw (same .0, same .1) at (read-most a leaders choke z (placed ∙ sym (same .0)))
 
 pub demand-two : DemandTwo
 unfolding DemandTwo beginning

@@ -16,8 +16,8 @@ use Rattle.packing.proofs.Groupings.{Sym, Loopless}
 use Rattle.packing.proofs.Prefixes.{order-place, blocked-union, prefix-optimal}
 use Rattle.stars.specs.Stars.{leaderList}
 use Rattle.stars.proofs.Groups.{leaderList-grouping, leaderList-covers}
-use Rattle.choke.specs.ChokeSet.{inChoke}
-use Rattle.choke.proofs.Choke.{choke-difference}
+use Rattle.search.specs.ChokeSet.{inChoke}
+use Rattle.search.proofs.ChokeLaws.{choke-difference}
 use Rattle.sound.proofs.Meaning.{Sound}
 use Rattle.planner.proofs.Made.{Made}
 

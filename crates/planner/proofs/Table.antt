@@ -17,7 +17,7 @@ use Rattle.packing.proofs.Tests.{and-l, and-r}
 use Rattle.sound.specs.Sound.{numbersSound, listsLong, endsSound, onceEach, holdersLinked, holdersWithin, onlyPlacedHeld, isSound}
 use Rattle.search.specs.Search.{heldBy, look, visit, turn, turns, walk, shift, settled, placedHolders}
 use Rattle.stars.specs.Stars.{holder, back, onCycle, nextOnCycle, leadsIn, leadsInTrees, begins, cut, leads, leaderOf, pairLeader, partner, ruleFive, leaderList}
-use Rattle.choke.specs.ChokeSet.{withoutHolder, chokeWalk, seenIn, inChoke, chokeByte}
+use Rattle.search.specs.ChokeSet.{withoutHolder, chokeWalk, seenIn, inChoke, chokeByte}
 use Rattle.planner.specs.Lists.{upTo, repeatsOrOutside}
 use Rattle.planner.specs.Refusals.{openRefusal, linkConditions, orderConditions, placeConditions, readConditions}
 use Rattle.planner.specs.Calls.{openAnswer, openOrder, openHolders, linkRefusal, linkAnswer, linkLinks, orderRefusal, orderAnswer, orderOrder, placeRefusal, placeAnswer, placeHolders, readRefusal, readAnswer, readLeaders, readChoke}

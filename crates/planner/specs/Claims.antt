@@ -50,6 +50,15 @@ DemandThree =
     × ((other : ℕ → ℕ) → GroupingTold n t (toldBy n t ls calls) other → (k : ℕ) → k ≤ n
     → coveredFirst k (at (toldBy n t ls calls .order)) other ≤ coveredFirst k (at (toldBy n t ls calls .order)) (leadersRead (madeBy n t ls os hs calls) leaders choke))
 
+-- 00: "It is known that such a rule costs the desk no gateway." No grouping of the plant told covers more gateways.
+unfoldable pub MostCovered : Type 0
+MostCovered =
+    (n t : ℕ) (ls os hs : List ℕ) → openRefusal n t os hs ≡ 0 → (calls : List Call)
+    → toldBy n t ls calls .placed ≡ n
+    → (leaders choke : List ℕ) → refuses (toldBy n t ls calls) (read leaders choke) ≡ 0
+    → (other : ℕ → ℕ) → GroupingTold n t (toldBy n t ls calls) other
+    → count n (covered other) ≤ count n (covered (leadersRead (madeBy n t ls os hs calls) leaders choke))
+
 -- 00, demand 2, with 01's "Every held gateway is covered. In a fully placed record made by accepted calls, no other is."
 unfoldable pub DemandTwo : Type 0
 DemandTwo =

@@ -128,6 +128,7 @@ impl Small {
             };
         }
         let end = 2 * (m as usize);
+        // The answer is true: the next of a sound record may be placed.
         search::place(n, t, order[k as usize], &links[..end], holders);
         Answer {
             refusal: 0,
@@ -165,8 +166,9 @@ impl Small {
             };
         }
         let end = 2 * (m as usize);
+        // Both answers are true: the lengths were tested above.
         stars::leaders(n, holders, leaders);
-        choke::choke_set(n, &links[..end], holders, choke);
+        search::choke::choke_set(n, &links[..end], holders, choke);
         Answer {
             refusal: 0,
             small: self,

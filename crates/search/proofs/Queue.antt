@@ -1,8 +1,8 @@
 -- Laws of lists of gateways: membership by place, and what a gateway holds.
 use Prim.Native.Nat.{ℕ, zero, suc, _+_, _-_, _<_, _≤_}
-use mathlib.Core.Path.{_≡_, refl, sym, ap, _∙_}
+use mathlib.Core.Path.{_≡_, refl, ap, _∙_}
 use mathlib.Core.Logic.{⊎-elim}
-use mathlib.Core.Bool.{Bool, true, false, cond, _||_, or-assoc, false≢true}
+use mathlib.Core.Bool.{true, false≢true}
 use mathlib.Core.List.{List, [], _∷_, _++_}
 use native.Mathlib.Nat.{not-suc-le-zero}
 use native.Mathlib.Numerals.{add-one}
@@ -11,12 +11,12 @@ use lib.Dec.{eqb, ltb}
 use lib.ListN.{length, length-append, List·getD-append}
 use lib.Seq.{getD-append-add}
 use borrow.Author.Tests.{eqb-true, eq-eqb, ltb-true, ltb-false}
-use Rattle.packing.specs.Count.{pick, sum, count}
-use Rattle.packing.specs.Lists.{listWhere}
+use Rattle.packing.specs.Count.{pick}
 use Rattle.packing.specs.Plant.{at}
 use Rattle.packing.specs.Holders.{holds}
-use Rattle.packing.proofs.Tests.{by-bool, below-suc, or-cases, or-l, or-r}
+use Rattle.packing.proofs.Tests.{by-bool, or-cases, or-l, or-r}
 use Rattle.packing.proofs.Sums.{count-suc}
+use Rattle.packing.proofs.Lists.{listWhere-length, listWhere-in, listWhere-out}
 use Rattle.packing.proofs.Links.{memberOf}
 use Rattle.search.specs.Search.{heldBy}
 
@@ -33,11 +33,6 @@ member-place [] y e = absurd (false≢true e)
 member-place (a ∷ l) y e =
     ⊎-elim (λ q. (0, (omega arith), eqb-true a y q)) (λ q. let r = member-place l y q in (suc (r .0), omega (arith, r .1), r .2)) (or-cases (eqb a y) (memberOf l y) e)
 
-pub member-append : (l k : List ℕ) (y : ℕ) → memberOf (l ++ k) y ≡ (memberOf l y || memberOf k y)
-unfolding memberOf
-member-append [] k y = refl
-member-append (a ∷ l) k y = rw (member-append l k y) (sym (or-assoc (eqb a y) (memberOf l y) (memberOf k y)))
-
 -- what stands at a place of two lists stands in the first, or so far behind it in the second
 pub append-at : {A : Type 0} (l k : List ℕ) (i : ℕ) → i < length (l ++ k) → (i < length l → at (l ++ k) i ≡ at l i → A)
     → ((j : ℕ) → j < length k → i ≡ length l + j → at (l ++ k) i ≡ at k j → A) → A
@@ -53,32 +48,16 @@ pub holds-suc : (v : ℕ) (h : ℕ → ℕ) (u : ℕ) → holds (v + 1) h u ≡ 
 unfolding holds
 holds-suc v h u = rw add-one (count-suc v (λ w. eqb (h w) u))
 
--- what u holds is as many as it holds
+-- what u holds is as many as it holds, ..
 pub heldBy-length : (n : ℕ) (hs : List ℕ) (u : ℕ) → length (heldBy n hs u) ≡ holds n (at hs) u
-unfolding heldBy listWhere holds count sum
-heldBy-length zero hs u = refl
-heldBy-length (suc n) hs u = length-append (heldBy n hs u) _ ∙ ap (λ (k : ℕ). k + length (cond (eqb (at hs n) u) (n ∷ []) [])) (heldBy-length n hs u) ∙ last (eqb (at hs n) u)
-  where
-    last : (b : Bool) → holds n (at hs) u + length (cond b (n ∷ []) []) ≡ holds n (at hs) u + pick b 1
-    last true = refl
-    last false = refl
+unfolding heldBy holds
+heldBy-length n hs u = listWhere-length n (λ v. eqb (at hs v) u)
 
 -- .. and it is those below n whose holder u is
 pub heldBy-in : (n : ℕ) (hs : List ℕ) (u v : ℕ) → v < n → at hs v ≡ u → memberOf (heldBy n hs u) v ≡ true
-unfolding heldBy listWhere memberOf
-heldBy-in zero hs u v h e = absurd (not-suc-le-zero h)
-heldBy-in (suc n) hs u v h e =
-    let two = member-append (heldBy n hs u) (cond (eqb (at hs n) u) (n ∷ []) []) v in
-    below-suc v n h (λ q. two ∙ or-r (memberOf (heldBy n hs u) v) _ (rw (← q, eq-eqb (at hs v) u e) (or-l (eqb v v) false (eq-eqb v v refl))))
-    (λ q. two ∙ or-l (memberOf (heldBy n hs u) v) _ (heldBy-in n hs u v q e))
+unfolding heldBy
+heldBy-in n hs u v l e = listWhere-in n (λ w. eqb (at hs w) u) v l (eq-eqb (at hs v) u e)
 
 pub heldBy-out : (n : ℕ) (hs : List ℕ) (u v : ℕ) → memberOf (heldBy n hs u) v ≡ true → (v < n) × (at hs v ≡ u)
-unfolding heldBy listWhere memberOf
-heldBy-out zero hs u v e = absurd (false≢true e)
-heldBy-out (suc n) hs u v e =
-    ⊎-elim (λ q. let r = heldBy-out n hs u v q in (omega (arith, r .0), r .1)) (λ q. last (eqb (at hs n) u) refl q)
-    (or-cases (memberOf (heldBy n hs u) v) _ (sym (member-append (heldBy n hs u) (cond (eqb (at hs n) u) (n ∷ []) []) v) ∙ e))
-  where
-    last : (b : Bool) → eqb (at hs n) u ≡ b → memberOf (cond b (n ∷ []) []) v ≡ true → (v < suc n) × (at hs v ≡ u)
-    last true f q = let here : n ≡ v = eqb-true n v (⊎-elim (λ r. r) (λ r. absurd (false≢true r)) (or-cases (eqb n v) false q)) in (omega arith, rw (← here) (eqb-true (at hs n) u f))
-    last false f q = absurd (false≢true q)
+unfolding heldBy
+heldBy-out n hs u v m = let r = listWhere-out n (λ w. eqb (at hs w) u) v m in (r .0, eqb-true (at hs v) u (r .1))

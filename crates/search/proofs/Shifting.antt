@@ -129,11 +129,6 @@ module _ (n : ℕ) (ls : List ℕ) (v : ℕ) (from : List ℕ) (inside : v < n) 
   chain-unique hs (suc j) zero x c d = absurd (c .0 d)
   chain-unique hs (suc j) (suc k) x c d = ap suc (chain-unique hs j k (at from (at hs x)) (c .4) (d .4))
 
-  chain-below : (hs : List ℕ) (k x : ℕ) → Chain hs k x → x < n
-  unfolding Chain
-  chain-below hs zero x c = rw c inside
-  chain-below hs (suc k) x c = c .1
-
   -- a shorter chain does not pass x, so it stays when x changes its holder
   chain-kept : (hs : List ℕ) (x u j : ℕ) → Chain hs j x → (k y : ℕ) → k < j → Chain hs k y → Chain (set hs x u) k y
   unfolding Chain

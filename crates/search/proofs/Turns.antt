@@ -17,7 +17,7 @@ use Rattle.packing.proofs.Flat.{pair-at, pair-end}
 use Rattle.search.specs.Search.{Search, found, more, seen, look, visit, turns, walk, shift, settled, placedHolders}
 use Rattle.search.specs.declared.Walked.{Walked}
 use Rattle.search.specs.declared.Walked.the-variants.{Found, RanOut}
-use Rattle.search.specs.Pre.{outcome, queued, Is, Going, Ready, Joinable, Joined, Walkable, Placeable, Settleable}
+use Rattle.search.specs.Pre.{outcome, queued, Is, Going, Ready, Joinable, Joined, Workspace, Walkable, Placeable, Settleable}
 use Rattle.search.proofs.States.{look-seen, look-free, look-full, look-going, going-room, going-start, visit-found, visit-going, turns-found, turns-out, turns-step, startable}
 
 -- a state read from a result and the lent lists
@@ -148,12 +148,12 @@ module _ (n t : ℕ) (ls hs queue₀ : List ℕ) (tail : ℕ) (from₀ : List �
   unfolding walk
   walk-start w =
       record {
-        going = rw (w .unseen) (going-start (w .start));
+        going = rw (w .space .unseen) (going-start (w .start));
         holders = w .holders;
-        places = w .places;
+        places = w .space .places;
         within = w .within;
         same = (refl, refl);
-        rest = rw (w .unseen, sub-zero);
+        rest = rw (w .space .unseen, sub-zero);
       }
 
   module _ {queue from : List ℕ} {end head : ℕ} (v : Walking n t ls hs queue₀ tail from₀ queue from end head) (l : head < end) where
@@ -215,11 +215,10 @@ first-set (a ∷ l) v h = refl
 pub settle-walkable : {n : ℕ} {hs : List ℕ} {v : ℕ} {queue from : List ℕ} → Settleable n hs v queue from → Walkable n hs (set queue 0 v) 1 from
 settle-walkable {n} {hs} {v} {queue} s =
     record {
-      start = rw (first-set queue v (omega (arith, s .places, s .placeable .inside))) (startable (s .placeable));
-      holders = s .placeable .holders;
-      places = rw length-set (s .places);
-      within = rw length-set (omega (arith, s .places, s .placeable .inside));
-      unseen = s .unseen;
+      start = rw (first-set queue v (omega (arith, s .space .places, s .free .inside))) (startable (s .free));
+      holders = s .free .holders;
+      within = rw length-set (omega (arith, s .space .places, s .free .inside));
+      space = record { places = rw length-set (s .space .places); unseen = s .space .unseen };
     }
 
 module _
@@ -227,7 +226,7 @@ module _
     (d : Is w queue' from' (walk n (common t) ls hs (take 1 (set queue 0 v))))
   where
     walked : Is w queue' from' (walk n (common t) ls hs (v ∷ []))
-    walked = rw (first-set queue v (omega (arith, s .places, s .placeable .inside))) at d
+    walked = rw (first-set queue v (omega (arith, s .space .places, s .free .inside))) at d
 
     pub settle-kept : {u x : ℕ} {hs' : List ℕ} → w ≡ Found u x → hs' ≡ shift n v from' u x hs → hs' ≡ placedHolders n (common t) ls hs v
     unfolding placedHolders settled
@@ -247,5 +246,8 @@ take-replicate (suc n) (suc m) a h = ap {B = List ℕ} (λ l. a ∷ l) (take-rep
 pub place-marks : (n : ℕ) → n ≤ 1024 → n ≡ length (take n (replicate 1024 NONE))
 place-marks n few = sym (rw (take-replicate n 1024 NONE few) (length-replicate n NONE))
 
+pub workspace : (n : ℕ) → n ≤ 1024 → Workspace n (replicate 1024 0) (take n (replicate 1024 NONE))
+workspace n few = record { places = rw length-replicate few; unseen = take-replicate n 1024 NONE few }
+
 pub place-settles : {n : ℕ} {hs : List ℕ} {v : ℕ} → Placeable n hs v → Settleable n hs v (replicate 1024 0) (take n (replicate 1024 NONE))
-place-settles {n} p = record { placeable = p; places = rw length-replicate (p .few); unseen = take-replicate n 1024 NONE (p .few) }
+place-settles {n} p = record { free = p; space = workspace n (p .few) }

@@ -1,3 +1,5 @@
--- 01, "Placing", as functions.
+-- 01, "Placing", and the choke set of 01, "Reading", as functions.
 pub mod Search
 pub mod Pre
+pub mod ChokeSet
+pub mod ChokePre

@@ -56,29 +56,38 @@ pub record Joined (n u : ℕ) (hs queue queue' : List ℕ) (tail tail' : ℕ) : 
   pub state : take tail' queue' ≡ take tail queue ++ heldBy n hs u
   pub within : tail' ≤ length queue'
 
+-- n is in range, and there are n entries in a list that is read by gateway and in one that is written
+pub record Lent (n : ℕ) (hs out : List ℕ) : Type 0 where
+  pub few : n ≤ 1024
+  pub holders : n ≤ length hs
+  pub places : n ≤ length out
+
+-- a queue of n places, and marks of nobody, to work in
+pub record Workspace (n : ℕ) (queue from : List ℕ) : Type 0 where
+  pub places : n ≤ length queue
+  pub unseen : from ≡ replicate n NONE
+
 -- Gateways that a search may start from: they and all that are held fit a queue of n places.
 pub record Startable (n : ℕ) (hs start : List ℕ) : Type 0 where
   pub few : n ≤ 1024
   pub below : (i : ℕ) → i < length start → at start i < n
   pub room : length start + count n (held n (at hs)) ≤ n
 
--- .. in the first places of a lent list that has n, with nobody seen
+-- .. in the first places of the queue to work in
 pub record Walkable (n : ℕ) (hs queue : List ℕ) (tail : ℕ) (from : List ℕ) : Type 0 where
   pub start : Startable n hs (take tail queue)
   pub holders : n ≤ length hs
-  pub places : n ≤ length queue
   pub within : tail ≤ length queue
-  pub unseen : from ≡ replicate n NONE
+  pub space : Workspace n queue from
 
--- a gateway that may be placed
+-- what the test of whether v may be placed says
 pub record Placeable (n : ℕ) (hs : List ℕ) (v : ℕ) : Type 0 where
   pub few : n ≤ 1024
   pub holders : n ≤ length hs
   pub inside : v < n
   pub free : held n (at hs) v ≡ false
 
--- .. with a queue of n places and marks of nobody to work in
+-- .. with lists to work in
 pub record Settleable (n : ℕ) (hs : List ℕ) (v : ℕ) (queue from : List ℕ) : Type 0 where
-  pub placeable : Placeable n hs v
-  pub places : n ≤ length queue
-  pub unseen : from ≡ replicate n NONE
+  pub free : Placeable n hs v
+  pub space : Workspace n queue from

@@ -1,12 +1,12 @@
 -- 01, "Placing". ls are the plant's links, hs the holders, limit u how many u may hold.
 use Prim.Native.Nat.{ℕ, zero, suc}
-use mathlib.Core.Bool.{Bool, not, cond}
+use mathlib.Core.Bool.{Bool, not, cond, _&&_}
 use mathlib.Core.List.{List, [], _∷_, _++_}
-use lib.Dec.{eqb, ltb}
-use lib.ListN.{length, getD, set, replicate}
+use lib.Dec.{eqb, ltb, leb}
+use lib.ListN.{length, set, replicate}
 use Rattle.packing.specs.Lists.{listWhere}
 use Rattle.packing.specs.Plant.{NONE, at, neighbours}
-use Rattle.packing.specs.Holders.{holds}
+use Rattle.packing.specs.Holders.{held, holds}
 
 -- the gateways below n that u holds, ascending
 unfoldable pub heldBy : ℕ → List ℕ → ℕ → List ℕ
@@ -61,3 +61,11 @@ settled n v hs (more queue from) = hs
 -- the holders after v is placed: "A queue starts with v."
 unfoldable pub placedHolders : ℕ → (ℕ → ℕ) → List ℕ → List ℕ → ℕ → List ℕ
 placedHolders n limit ls hs v = settled n v hs (walk n limit ls hs (v ∷ []))
+
+-- v may be placed: n is in range, there is a holder entry for each gateway, and v is a gateway without a holder
+unfoldable pub placeable : ℕ → List ℕ → ℕ → Bool
+placeable n hs v = leb n 1024 && leb n (length hs) && ltb v n && not (held n (at hs) v)
+
+-- the holders after the call: as they came where v may not be placed
+unfoldable pub holdersAfter : ℕ → (ℕ → ℕ) → List ℕ → List ℕ → ℕ → List ℕ
+holdersAfter n limit ls hs v = cond (placeable n hs v) (placedHolders n limit ls hs v) hs

@@ -10,7 +10,8 @@ use Rattle.packing.proofs.Tests.{all-more, all-end}
 use Rattle.stars.specs.Stars.{holder, back, onCycle, leadsInTrees, begins, cut}
 use Rattle.stars.specs.Pre.{Treed, marked}
 use Rattle.stars.proofs.Tables.{read-mark}
-use Rattle.stars.proofs.Backs.{back-more, back-below}
+use Rattle.stars.proofs.Cycles.{cycle-below}
+use Rattle.stars.proofs.Backs.{back-more}
 
 -- a loop that walks i arcs back has come to u, and none on the way leads or is lower than v, or one does
 pub record Begun (n : ℕ) (hs : List ℕ) (v i u : ℕ) (ok : Bool) : Type 0 where
@@ -33,7 +34,7 @@ module _ {n : ℕ} {hs cs ts : List ℕ} (t : Treed n hs cs ts) (v : ℕ) (h : v
       record {
         upto = omega arith;
         here = back-more n hs v i (w .here) s;
-        inside = rw (back-more n hs v i (w .here) s) (back-below n hs v (t .holders .few) h (sym (on-cycle e) ∙ f) (i + 1));
+        inside = rw (back-more n hs v i (w .here) s) (cycle-below n hs (omega (arith, t .holders .few)) v h (sym (on-cycle e) ∙ f) (i + 1));
         gathered = all-more i _ ok b ok' (w .gathered) (g ∙ rw (read-mark (leadsInTrees n hs) (t .trees) u (w .inside), w .here)) r;
       }
 

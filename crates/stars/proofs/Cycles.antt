@@ -2,8 +2,7 @@
 -- n is at most NONE, so that NONE is no gateway.
 use Prim.Native.Nat.{ℕ, zero, suc, _+_, _-_, _<_, _≤_}
 use mathlib.Core.Path.{_≡_, refl, sym, ap, _∙_}
-use mathlib.Core.Logic.{⊎-elim}
-use mathlib.Core.Bool.{Bool, true, false, _&&_, false≢true}
+use mathlib.Core.Bool.{Bool, true, false, _&&_}
 use mathlib.Core.List.{List}
 use native.Mathlib.Nat.{zero-add, suc-add, add-comm}
 use native.Mathlib.Omega.{arith}
@@ -12,7 +11,7 @@ use borrow.Author.Tests.{eqb-true, eqb-false, eq-eqb, ltb-true, ltb-false, lt-lt
 use Rattle.packing.specs.Count.{count, any, firstWith}
 use Rattle.packing.specs.Plant.{NONE, at}
 use Rattle.packing.specs.Holders.{held}
-use Rattle.packing.proofs.Tests.{by-bool, clash, and-l, and-r, and-i, or-cases, not-test, any-intro, first-found}
+use Rattle.packing.proofs.Tests.{by-bool, clash, and-l, and-r, and-i, not-test, any-intro, first-found}
 use Rattle.packing.proofs.Sums.{count-all, count-unique, fibre, sumOver-mono, sumOver-const}
 use Rattle.stars.specs.Stars.{holder, back, onCycle, nextOnCycle}
 
@@ -65,7 +64,7 @@ back-gap n hs j k v l e = sym (back-add n hs (suc (k - suc j)) j v) ∙ rw whole
 
 -- Where going back i + 1 arcs from v is v again, it is so from every gateway met on the way, and from each the walk comes to v.
 module _ (n : ℕ) (hs : List ℕ) (v i : ℕ) (round : back n hs (suc i) v ≡ v) where
-  pub round-back : (j : ℕ) → back n hs (suc i) (back n hs j v) ≡ back n hs j v
+  round-back : (j : ℕ) → back n hs (suc i) (back n hs j v) ≡ back n hs j v
   round-back j = back-swap n hs (suc i) j v ∙ ap (back n hs j) round
 
   pub round-return : (j : ℕ) → (m : ℕ) × (back n hs m (back n hs j v) ≡ v)
@@ -91,6 +90,10 @@ module _ (n : ℕ) (hs : List ℕ) where
   unfolding onCycle
   cycle-round v e = let (d, l, t, low) = least n (λ i. eqb (back n hs (suc i) v) v) e in (d, l, eqb-true _ v t, λ i k. eqb-false _ v (low i k))
 
+  -- so no more than the first n are met
+  pub cycle-met : (v : ℕ) → onCycle n hs v ≡ true → (j : ℕ) → (k : ℕ) × (k < n) × (back n hs j v ≡ back n hs k v)
+  cycle-met v e j = let (d, l, round, _) = cycle-round v e in let (k, m, q) = round-met n hs v d round j in (k, omega arith, q)
+
   -- going back along a cycle stays on it
   pub cycle-back : (v : ℕ) → onCycle n hs v ≡ true → (j : ℕ) → onCycle n hs (back n hs j v) ≡ true
   unfolding onCycle
@@ -103,7 +106,7 @@ module _ (n : ℕ) (hs : List ℕ) (few : n ≤ NONE) where
   back-below zero v l = l
   back-below (suc i) v l = back-below i v (by-bool (ltb (back n hs i v) n) (ltb-true _ n) (λ q. absurd (omega (arith, rw q at l))))
 
-  pub round-below : (v i : ℕ) → v < n → back n hs (suc i) v ≡ v → (j : ℕ) → back n hs j v < n
+  round-below : (v i : ℕ) → v < n → back n hs (suc i) v ≡ v → (j : ℕ) → back n hs j v < n
   round-below v i l round j = let r = round-return n hs v i round j in back-below (r .0) (back n hs j v) (rw (r .1) l)
 
   -- whoever comes back after any number of arcs is on a cycle

@@ -1,9 +1,7 @@
 -- The leader list computed on small sets of holders.
-use Prim.Native.Nat.{ℕ}
 use mathlib.Core.Path.{_≡_, refl}
-use mathlib.Core.List.{List, [], _∷_}
+use mathlib.Core.List.{[], _∷_}
 use Rattle.packing.specs.Count.{sum, count, all, any, firstWith}
-use Rattle.packing.specs.Plant.{NONE}
 use Rattle.packing.specs.Grouping.{memberCount}
 use Rattle.packing.specs.Lists.{listOf}
 use Rattle.stars.specs.Stars.{holder, back, onCycle, nextOnCycle, leadsIn, leadsInTrees, begins, cut, leads, leaderOf, pairLeader, partner, ruleFive, leaderList}

@@ -5,14 +5,15 @@ use mathlib.Core.Logic.{_⊎_, inl, inr, ⊎-elim}
 use mathlib.Core.Bool.{Bool, true, false, not, _&&_, _||_}
 use native.Mathlib.Omega.{arith}
 use lib.Dec.{eqb, ltb, leb}
-use borrow.Author.Tests.{eqb-true, eqb-false, eq-eqb, ne-eqb, ltb-true, ltb-false, lt-ltb, leb-true, le-leb, not-true}
+use borrow.Author.Tests.{eqb-true, eqb-false, eq-eqb, ne-eqb, ltb-true, ltb-false, lt-ltb, le-leb}
 use Rattle.packing.specs.Count.{count, firstWith}
-use Rattle.packing.specs.Plant.{NONE, at}
+use Rattle.packing.specs.Plant.{NONE}
 use Rattle.packing.specs.Grouping.{Grouping, follows, memberCount, isAlone, isLeader, isMember, covered}
-use Rattle.packing.proofs.Tests.{by-bool, clash, and-l, and-r, and-i, or-l, or-r, or-cases, not-i, not-test, iff-test, any-intro, first-found}
+use Rattle.packing.proofs.Tests.{by-bool, clash, and-l, and-r, and-i, or-l, or-r, not-test, iff-test, any-intro, first-found}
 use Rattle.packing.proofs.Sums.{count-ext, count-split, count-some, count-find, count-unique, count-one}
-use Rattle.packing.proofs.Groupings.{Sym, Loopless}
+use Rattle.packing.proofs.Groupings.{Sym, Loopless, follows-is, follows-means, entry-cases, leader-within}
 use Rattle.stars.specs.Stars.{pairLeader, partner, ruleFive}
+use Rattle.stars.proofs.Loops.{first-ext}
 
 -- an entry is one of a grouping's three kinds
 abbrev pub Kind : ℕ → (ℕ → ℕ) → (ℕ → ℕ → Bool) → (ℕ → ℕ) → ℕ → Type 0
@@ -28,13 +29,6 @@ module _ (n : ℕ) (limit : ℕ → ℕ) (adj : ℕ → ℕ → Bool) (g : ℕ �
 
   pub member-is : (u : ℕ) → g v ≡ u → u < n → adj v u ≡ true → g u ≡ u → Kind n limit adj g v
   member-is u e l a own = or-r (isAlone g v || isLeader n limit g v) _ (rw e (and-i _ _ (and-i _ _ (lt-ltb u n l) a) (eq-eqb (g u) u own)))
-
-module _ (g : ℕ → ℕ) (u w : ℕ) where
-  pub follows-is : g w ≡ u → (w ≡ u → ⊥) → follows g u w ≡ true
-  follows-is e other = and-i _ _ (eq-eqb (g w) u e) (not-i _ (ne-eqb w u other))
-
-  pub follows-means : follows g u w ≡ true → (g w ≡ u) × (w ≡ u → ⊥)
-  follows-means t = (eqb-true (g w) u (and-l _ _ t), eqb-false w u (not-true (eqb w u) (and-r (eqb (g w) u) _ t)))
 
 -- In a group of two, u's partner is the one other with u's number as its entry.
 module _ (n : ℕ) (g : ℕ → ℕ) (u : ℕ) (one : memberCount n g u ≡ 1) where
@@ -52,6 +46,13 @@ module _ (n : ℕ) (g : ℕ → ℕ) (u : ℕ) (one : memberCount n g u ≡ 1) w
       let (k, f, another) = partner-found in
       count-one n (follows g u) (omega arith) (partner n g u) w k l (follows-is g u (partner n g u) f another) (follows-is g u w e other)
 
+-- v stands in a group of two, or does not
+pub two-cases : (n : ℕ) (g : ℕ → ℕ) (v : ℕ) {A : Type 0} → (g v < n → memberCount n g (g v) ≡ 1 → A) → ((g v < n → memberCount n g (g v) ≡ 1 → ⊥) → A) → A
+two-cases n g v two other =
+    by-bool (ltb (g v) n && eqb (memberCount n g (g v)) 1)
+    (λ t. two (ltb-true (g v) n (and-l _ _ t)) (eqb-true (memberCount n g (g v)) 1 (and-r (ltb (g v) n) _ t)))
+    (λ t. other (λ l one. clash _ (and-i _ _ (lt-ltb (g v) n l) (eq-eqb (memberCount n g (g v)) 1 one)) t))
+
 -- Rule 5 over any entries g, with any comparison.
 module _ (leadsPair : ℕ → ℕ → Bool) (n : ℕ) (g : ℕ → ℕ) where
   -- in a group of two, u with one other, both get the one that leads the pair
@@ -66,12 +67,11 @@ module _ (leadsPair : ℕ → ℕ → Bool) (n : ℕ) (g : ℕ → ℕ) where
 
   -- so that an entry stays, or becomes the partner of what it was
   five-cases : {A : Type 0} (v : ℕ) → (ruleFive leadsPair n g v ≡ g v → A) → (g v < n → memberCount n g (g v) ≡ 1 → ruleFive leadsPair n g v ≡ partner n g (g v) → A) → A
-  unfolding ruleFive pairLeader
+  unfolding pairLeader
   five-cases v same other =
-      by-bool (ltb (g v) n && eqb (memberCount n g (g v)) 1)
-      (λ e. by-bool (leadsPair (g v) (partner n g (g v))) (λ t. same (rw (e, t)))
-      (λ t. other (ltb-true (g v) n (and-l _ _ e)) (eqb-true (memberCount n g (g v)) 1 (and-r (ltb (g v) n) _ e)) (rw (e, t))))
-      (λ e. same (rw e))
+      two-cases n g v
+      (λ l one. let q = five-pair v (g v) refl l one in by-bool (leadsPair (g v) (partner n g (g v))) (λ t. same (rw t at q)) (λ t. other l one (rw t at q)))
+      (λ h. same (five-keeps v h))
 
   -- who is covered stays covered, and no other is
   pub ruleFive-covered : n ≤ NONE → (v : ℕ) → covered (ruleFive leadsPair n g) v ≡ covered g v
@@ -96,6 +96,19 @@ module _ (leadsPair : ℕ → ℕ → Bool) (n : ℕ) (g : ℕ → ℕ) where
       let k : g w < n = five-cases w (λ q. omega arith) (λ k one q. k) in
       sym (five-entry w k (owned k) .1) ∙ ap g e ∙ from
 
+-- The members and the entries by rule 5 go by the entries below n.
+module _ (n : ℕ) (g g' : ℕ → ℕ) (same : (w : ℕ) → w < n → g w ≡ g' w) where
+  follows-ext : (u w : ℕ) → w < n → follows g u w ≡ follows g' u w
+  follows-ext u w l = ap (λ (x : ℕ). eqb x u && not (eqb w u)) (same w l)
+
+  pub members-ext : (u : ℕ) → memberCount n g u ≡ memberCount n g' u
+  unfolding memberCount
+  members-ext u = count-ext n (follows g u) (follows g' u) (follows-ext u)
+
+  pub five-ext : (leadsPair : ℕ → ℕ → Bool) (v : ℕ) → v < n → ruleFive leadsPair n g v ≡ ruleFive leadsPair n g' v
+  unfolding ruleFive partner
+  five-ext leadsPair v l = rw (same v l, members-ext (g' v), first-ext n (follows g (g' v)) (follows g' (g' v)) (follows-ext (g' v)))
+
 -- a group without one of it is as large as without another of it
 group-without : (n : ℕ) (g : ℕ → ℕ) (u x : ℕ) → x < n → g x ≡ u → count n (λ w. eqb (g w) u) ≡ 1 + count n (λ w. eqb (g w) u && not (eqb w x))
 group-without n g u x l e =
@@ -110,24 +123,12 @@ module _
     (leadsPair : ℕ → ℕ → Bool) (n : ℕ) (limit : ℕ → ℕ) (adj : ℕ → ℕ → Bool) (g : ℕ → ℕ) (few : n ≤ NONE) (symmetric : Sym n adj) (loopless : Loopless n adj)
     (one : (u : ℕ) → u < n → 1 ≤ limit u) (gr : Grouping n limit adj g)
   where
-    entry-cases : {A : Type 0} (v : ℕ) → v < n → (isAlone g v ≡ true → A) → (isLeader n limit g v ≡ true → A) → (isMember n adj g v ≡ true → A) → A
-    unfolding Grouping
-    entry-cases v l alone leader member =
-        ⊎-elim (λ q. ⊎-elim alone leader (or-cases (isAlone g v) (isLeader n limit g v) q)) member (or-cases (isAlone g v || isLeader n limit g v) (isMember n adj g v) (gr v l))
-
     -- an entry that is a gateway names its leader, itself or one linked to it
     star : (v u : ℕ) → v < n → u < n → g v ≡ u → (g u ≡ u) × ((v ≡ u) ⊎ (adj v u ≡ true))
     star v u l k e =
-        entry-cases v l (λ a. absurd (omega (arith, eqb-true (g v) NONE a)))
+        entry-cases n limit adj g gr v l (λ a. absurd (omega (arith, eqb-true (g v) NONE a)))
         (λ a. let own : g v ≡ v = eqb-true (g v) v (and-l _ _ (and-l _ _ a)) in let same : v ≡ u = sym own ∙ e in (rw same at own, inl same))
         (λ m. (rw e at (eqb-true (g (g v)) (g v) (and-r (ltb (g v) n && adj v (g v)) _ m)), inr (rw e at (and-r (ltb (g v) n) (adj v (g v)) (and-l _ _ m)))))
-
-    -- a leader has one to its limit of members
-    within : (u : ℕ) → u < n → g u ≡ u → (1 ≤ memberCount n g u) × (memberCount n g u ≤ limit u)
-    within u l e =
-        entry-cases u l (λ a. absurd (omega (arith, eqb-true (g u) NONE a)))
-        (λ a. (leb-true 1 (memberCount n g u) (and-r (eqb (g u) u) _ (and-l _ _ a)), leb-true (memberCount n g u) (limit u) (and-r (eqb (g u) u && leb 1 (memberCount n g u)) _ a)))
-        (λ m. clash (adj u u) (rw e at (and-r (ltb (g u) n) (adj u (g u)) (and-l _ _ m))) (loopless u l))
 
     pair-linked : (u : ℕ) → u < n → memberCount n g u ≡ 1 → adj u (partner n g u) ≡ true
     pair-linked u l pair =
@@ -159,7 +160,7 @@ module _
 
         alone : ltb (g v) n ≡ false → Kind n limit adj (ruleFive leadsPair n g) v
         alone t =
-            entry-cases v l
+            entry-cases n limit adj g gr v l
             (λ a. five-cases leadsPair n g v (λ e. alone-is n limit adj (ruleFive leadsPair n g) v (e ∙ eqb-true (g v) NONE a)) (λ k q e. clash _ (lt-ltb (g v) n k) t))
             (λ a. absurd (omega (arith, eqb-true (g v) v (and-l _ _ (and-l _ _ a)), ltb-false (g v) n t)))
             (λ m. clash _ (and-l _ _ (and-l _ _ m)) t)
@@ -177,7 +178,7 @@ module _
         grouped k =
             let own : g (g v) ≡ g v = star v (g v) l k refl .0 in
             let (below, from) = five-entry leadsPair n g v k own in
-            let (some, most) = within (g v) k own in
+            let (some, most) = leader-within n limit adj g gr loopless (g v) k own (omega arith) in
             by-bool (eqb v x)
             (λ t.
             let here : v ≡ x = eqb-true v x t in

@@ -1,7 +1,7 @@
 -- The leader list is a grouping that covers every held gateway: by rules 1 to 4, and after rule 5.
 use Prim.Native.Nat.{ℕ, zero, suc, _<_, _≤_}
 use mathlib.Core.Path.{_≡_, refl, sym, ap, _∙_}
-use mathlib.Core.Bool.{Bool, true, false, not, _&&_}
+use mathlib.Core.Bool.{Bool, true, false, not, cond, _&&_}
 use mathlib.Core.List.{List}
 use native.Mathlib.Omega.{arith}
 use lib.Dec.{eqb, ltb}
@@ -12,11 +12,11 @@ use Rattle.packing.specs.Grouping.{Grouping, follows, memberCount, covered}
 use Rattle.packing.specs.Holders.{held, holds, Feasible}
 use Rattle.packing.proofs.Tests.{by-bool, clash, and-l, and-r, and-i, not-i, not-test, any-elim, any-fails}
 use Rattle.packing.proofs.Sums.{count-mono, count-split, count-some, count-unique}
-use Rattle.packing.proofs.Groupings.{Sym, Loopless}
+use Rattle.packing.proofs.Groupings.{Sym, Loopless, follows-is, follows-means}
 use Rattle.stars.specs.Stars.{back, onCycle, nextOnCycle, leadsInTrees, cut, leads, leaderOf, leaderList}
-use Rattle.stars.proofs.Cycles.{holder-at, back-holder, cycle-round, cycle-only, next-held}
+use Rattle.stars.proofs.Cycles.{holder-at, back-holder, cycle-round, cycle-only, next-held, next-only}
 use Rattle.stars.proofs.Leads.{Begins, begins-means, cut-begins, trees-child, leads-child, leads-tree, leads-more}
-use Rattle.stars.proofs.Five.{Kind, alone-is, leader-is, member-is, follows-is, follows-means, ruleFive-covered, ruleFive-grouping}
+use Rattle.stars.proofs.Five.{Kind, alone-is, leader-is, member-is, ruleFive-covered, ruleFive-grouping}
 
 -- the entry by rules 1 to 4, case by case
 module _ (n : ℕ) (hs : List ℕ) (v : ℕ) where
@@ -28,13 +28,15 @@ module _ (n : ℕ) (hs : List ℕ) (v : ℕ) where
   unfolding leaderOf
   entry-cut e f = rw (e, f)
 
-  pub entry-held : leads n hs v ≡ false → cut n hs v ≡ false → at hs v < n → leaderOf n hs v ≡ at hs v
+  pub entry-kept : leads n hs v ≡ false → cut n hs v ≡ false → leaderOf n hs v ≡ cond (ltb (at hs v) n) (at hs v) NONE
   unfolding leaderOf
-  entry-held e f l = rw (e, f, lt-ltb (at hs v) n l)
+  entry-kept e f = rw (e, f)
+
+  pub entry-held : leads n hs v ≡ false → cut n hs v ≡ false → at hs v < n → leaderOf n hs v ≡ at hs v
+  entry-held e f l = rw (lt-ltb (at hs v) n l) at (entry-kept e f)
 
   pub entry-none : leads n hs v ≡ false → cut n hs v ≡ false → held n (at hs) v ≡ false → leaderOf n hs v ≡ NONE
-  unfolding leaderOf
-  entry-none e f g = rw (e, f, g)
+  entry-none e f g = rw g at (entry-kept e f)
 
 module _ (n : ℕ) (hs : List ℕ) (few : n ≤ NONE) where
   -- whose arc is cut and who leads nobody begins a cycle
@@ -66,6 +68,22 @@ module _ (n : ℕ) (hs : List ℕ) (few : n ≤ NONE) where
     where
       u : ℕ
       u = nextOnCycle n hs v
+
+  -- the leader of a gateway leads itself
+  pub leaderOf-own : (v : ℕ) → v < n → leaderOf n hs v < n → leaderOf n hs (leaderOf n hs v) ≡ leaderOf n hs v
+  leaderOf-own v l k = by-bool (leads n hs v) (λ e. same (entry-leads n hs v e)) (λ e. by-bool (cut n hs v) (first e) (λ c. by-bool (ltb (at hs v) n) (member e c) (λ h. absurd (omega (arith, entry-none n hs v e c h)))))
+    where
+      same : leaderOf n hs v ≡ v → leaderOf n hs (leaderOf n hs v) ≡ leaderOf n hs v
+      same e = ap (leaderOf n hs) e
+
+      first : leads n hs v ≡ false → cut n hs v ≡ true → leaderOf n hs (leaderOf n hs v) ≡ leaderOf n hs v
+      first e c =
+          by-bool (eqb (at hs v) v)
+          (λ t. same (entry-cut n hs v e c ∙ next-only n hs few v v l (cut-starts v l e c .on) (eqb-true (at hs v) v t)))
+          (λ t. rw (entry-cut n hs v e c) (entry-leads n hs (nextOnCycle n hs v) (next-leads v l (eqb-false (at hs v) v t) e c)))
+
+      member : leads n hs v ≡ false → cut n hs v ≡ false → ltb (at hs v) n ≡ true → leaderOf n hs (leaderOf n hs v) ≡ leaderOf n hs v
+      member e c h = let m = ltb-true (at hs v) n h in rw (entry-held n hs v e c m) (entry-leads n hs (at hs v) (kept-leads v l m c e))
 
   -- a member leads nobody; it follows its holder where its arc is kept, and else the next on the cycle that it begins
   module _ (w u : ℕ) (l : w < n) (k : u < n) (e : leaderOf n hs w ≡ u) (other : w ≡ u → ⊥) where
@@ -117,22 +135,21 @@ module _ (n : ℕ) (hs : List ℕ) (few : n ≤ NONE) where
               (by, by-bool (onCycle n hs w) (λ t. t) (λ t. clash _ (trees-child n hs few u l .1 (w, a, by, t, sym (leads-tree n hs few w t) ∙ member-quiet w u a l (means w mw .0) (means w mw .1))) (rw r at (b .none i))))
 
   -- who is held gets a gateway for its entry
-  pub leaderOf-below : (v : ℕ) → v < n → held n (at hs) v ≡ true → leaderOf n hs v < n
+  leaderOf-below : (v : ℕ) → v < n → held n (at hs) v ≡ true → leaderOf n hs v < n
   leaderOf-below v l h =
       by-bool (leads n hs v) (λ e. rw (entry-leads n hs v e) l)
       (λ e. by-bool (cut n hs v) (λ c. rw (entry-cut n hs v e c) (next-held n hs few v l (cut-starts v l e c .on) .0)) (λ c. let k = ltb-true (at hs v) n h in rw (entry-held n hs v e c k) k))
 
-  pub leaderOf-covers : (v : ℕ) → v < n → held n (at hs) v ≡ true → covered (leaderOf n hs) v ≡ true
+  leaderOf-covers : (v : ℕ) → v < n → held n (at hs) v ≡ true → covered (leaderOf n hs) v ≡ true
   leaderOf-covers v l h = not-i _ (ne-eqb (leaderOf n hs v) NONE (λ q. omega (arith, leaderOf-below v l h)))
 
 module _
-    (n : ℕ) (hs : List ℕ) (few : n ≤ NONE) (limit : ℕ → ℕ) (adj : ℕ → ℕ → Bool) (feasible : Feasible n limit adj (at hs)) (symmetric : Sym n adj) (loopless : Loopless n adj)
-    (two : (u : ℕ) → u < n → 2 ≤ limit u)
+    (n : ℕ) (hs : List ℕ) (few : n ≤ NONE) (limit : ℕ → ℕ) (adj : ℕ → ℕ → Bool) (feasible : Feasible n limit adj (at hs)) (symmetric : Sym n adj) (two : (u : ℕ) → u < n → 2 ≤ limit u)
   where
     -- the entries by rules 1 to 4 are a grouping
-    pub leaderOf-grouping : Grouping n limit adj (leaderOf n hs)
+    leaderOf-grouping : Grouping n limit adj (leaderOf n hs)
     unfolding Grouping memberCount
-    leaderOf-grouping v l = by-bool (leads n hs v) leader (λ e. by-bool (cut n hs v) (first e) (λ c. by-bool (ltb (at hs v) n) (member e c) (λ h. alone-is n limit adj (leaderOf n hs) v (entry-none n hs v e c h))))
+    leaderOf-grouping v l = by-bool (leads n hs v) leader (λ e. by-bool (cut n hs v) (first e) (λ c. by-bool (ltb (at hs v) n) (held-by e c) (λ h. alone-is n limit adj (leaderOf n hs) v (entry-none n hs v e c h))))
       where
         leader : leads n hs v ≡ true → Kind n limit adj (leaderOf n hs) v
         leader e =
@@ -141,24 +158,24 @@ module _
             (count-some n (follows (leaderOf n hs) v) w k (follows-is (leaderOf n hs) v w (entry-held n hs w t c (rw q l) ∙ q) (λ s. clash _ e (rw s at t))))
             (leader-few n hs few limit adj feasible v l (two v l))
 
+        member : (u : ℕ) → leaderOf n hs v ≡ u → u < n → adj v u ≡ true → Kind n limit adj (leaderOf n hs) v
+        member u e k a = member-is n limit adj (leaderOf n hs) v u e k a (rw e at (leaderOf-own n hs few v l (rw e k)))
+
         first : leads n hs v ≡ false → cut n hs v ≡ true → Kind n limit adj (leaderOf n hs) v
         first e c =
             let (k, o, h) = next-held n hs few v l (cut-starts n hs few v l e c .on) in
             let u : ℕ = nextOnCycle n hs v in
-            member-is n limit adj (leaderOf n hs) v u (entry-cut n hs v e c) k (symmetric u v k l (rw h at (feasible .along u k (lt-ltb (at hs u) n (rw h l)))))
-            (entry-leads n hs u (next-leads n hs few v l (λ s. clash _ (rw s at (feasible .along v l (lt-ltb (at hs v) n (rw s l)))) (loopless v l)) e c))
+            member u (entry-cut n hs v e c) k (symmetric u v k l (rw h at (feasible .along u k (lt-ltb (at hs u) n (rw h l)))))
 
-        member : leads n hs v ≡ false → cut n hs v ≡ false → ltb (at hs v) n ≡ true → Kind n limit adj (leaderOf n hs) v
-        member e c h =
-            let k : at hs v < n = ltb-true (at hs v) n h in
-            member-is n limit adj (leaderOf n hs) v (at hs v) (entry-held n hs v e c k) k (feasible .along v l h) (entry-leads n hs (at hs v) (kept-leads n hs few v l k c e))
+        held-by : leads n hs v ≡ false → cut n hs v ≡ false → ltb (at hs v) n ≡ true → Kind n limit adj (leaderOf n hs) v
+        held-by e c h = let k = ltb-true (at hs v) n h in member (at hs v) (entry-held n hs v e c k) k (feasible .along v l h)
 
 -- the leader list by all five rules
 pub leaderList-grouping : (n : ℕ) (hs : List ℕ) → n ≤ NONE → (limit : ℕ → ℕ) (adj : ℕ → ℕ → Bool) → Feasible n limit adj (at hs) → Sym n adj → Loopless n adj → ((u : ℕ) → u < n → 2 ≤ limit u)
     → Grouping n limit adj (leaderList n hs)
 unfolding leaderList
 leaderList-grouping n hs few limit adj feasible symmetric loopless two =
-    ruleFive-grouping ltb n limit adj (leaderOf n hs) few symmetric loopless (λ u l. omega (arith, two u l)) (leaderOf-grouping n hs few limit adj feasible symmetric loopless two)
+    ruleFive-grouping ltb n limit adj (leaderOf n hs) few symmetric loopless (λ u l. omega (arith, two u l)) (leaderOf-grouping n hs few limit adj feasible symmetric two)
 
 pub leaderList-covers : (n : ℕ) (hs : List ℕ) → n ≤ NONE → (v : ℕ) → v < n → held n (at hs) v ≡ true → covered (leaderList n hs) v ≡ true
 unfolding leaderList

@@ -2,16 +2,16 @@
 use Prim.Native.Nat.{ℕ, _<_}
 use mathlib.Core.Path.{_≡_, sym, ap, _∙_}
 use mathlib.Core.Bool.{Bool, true, false, not, cond}
-use mathlib.Core.List.{List, _++_}
+use mathlib.Core.List.{List}
 use lib.Dec.{ltb}
-use lib.ListN.{drop}
 use Rattle.packing.specs.Plant.{NONE, at}
-use Rattle.packing.specs.Lists.{listOf}
+use Rattle.packing.specs.Lists.{listOf, written}
 use Rattle.stars.specs.Stars.{onCycle, nextOnCycle, leadsIn, leadsInTrees, cut, leads, leaderOf, ruleFive, leaderList}
 use Rattle.stars.specs.Pre.{Table, Marks, Ruled, marked}
 use Rattle.stars.proofs.Tables.{read-mark, mark}
 use Rattle.stars.proofs.Passes.{leadsIn-ext}
-use Rattle.stars.proofs.RuleFive.{five-ext}
+use Rattle.stars.proofs.Five.{five-ext}
+use Rattle.stars.proofs.Groups.{entry-leads, entry-cut, entry-kept}
 use Rattle.packing.proofs.Lists.{listOf-ext}
 
 -- who leads over the arcs that an array does not stop, for the test that the array holds
@@ -35,20 +35,17 @@ module _ {n : ℕ} {hs cs ds ls : List ℕ} (r : Ruled n hs cs ds ls) (v : ℕ) 
   cutting e = e ∙ read-mark (cut n hs) (r .cuts) v h
 
   pub leader-self : {b : Bool} → b ≡ marked ls v → b ≡ true → v ≡ leaderOf n hs v
-  unfolding leaderOf
-  leader-self e f = rw (sym (leading e) ∙ f)
+  leader-self e f = sym (entry-leads n hs v (sym (leading e) ∙ f))
 
   pub leader-next : {b k : Bool} {u : ℕ} → b ≡ marked ls v → b ≡ false → k ≡ marked ds v → k ≡ true → u ≡ nextOnCycle n hs v → u ≡ leaderOf n hs v
-  unfolding leaderOf
-  leader-next e f g q s = rw (sym (leading e) ∙ f, sym (cutting g) ∙ q) s
+  leader-next e f g q s = s ∙ sym (entry-cut n hs v (sym (leading e) ∙ f) (sym (cutting g) ∙ q))
 
   pub leader-holder : {b k : Bool} {w u : ℕ} → b ≡ marked ls v → b ≡ false → k ≡ marked ds v → k ≡ false → w ≡ at hs v → u ≡ cond (ltb w n) w NONE → u ≡ leaderOf n hs v
-  unfolding leaderOf
-  leader-holder e f g q s t = rw (sym (leading e) ∙ f, sym (cutting g) ∙ q) (rw s at t)
+  leader-holder e f g q s t = rw s at t ∙ sym (entry-kept n hs v (sym (leading e) ∙ f) (sym (cutting g) ∙ q))
 
 -- the list by rule 5 over the array of leaders is the leader list
-pub list-joined : (n : ℕ) (hs old : List ℕ) {gs new : List ℕ} → Table n (leaderOf n hs) gs → new ≡ listOf n (ruleFive ltb n (at gs)) ++ drop n old
-    → new ≡ listOf n (leaderList n hs) ++ drop n old
+pub list-joined : (n : ℕ) (hs old : List ℕ) {gs new : List ℕ} → Table n (leaderOf n hs) gs → new ≡ written n (listOf n (ruleFive ltb n (at gs))) old
+    → new ≡ written n (listOf n (leaderList n hs)) old
 unfolding leaderList
 list-joined n hs old {gs} t e =
-    e ∙ ap (λ (l : List ℕ). l ++ drop n old) (listOf-ext n (ruleFive ltb n (at gs)) (ruleFive ltb n (leaderOf n hs)) (five-ext ltb n (at gs) (leaderOf n hs) (t .entry)))
+    e ∙ ap (λ (l : List ℕ). written n l old) (listOf-ext n (ruleFive ltb n (at gs)) (ruleFive ltb n (leaderOf n hs)) (five-ext n (at gs) (leaderOf n hs) (t .entry) ltb))

@@ -1,6 +1,6 @@
 -- Rule 1 as a fixpoint: n rounds are enough, over the arcs of the trees and over the arcs that are kept.
 use Prim.Native.Nat.{ℕ, zero, suc, _+_, _-_, _<_, _≤_}
-use mathlib.Core.Path.{_≡_, refl, sym, ap, _∙_}
+use mathlib.Core.Path.{_≡_, refl, sym, _∙_}
 use mathlib.Core.Logic.{_↔_}
 use mathlib.Core.Bool.{Bool, true, false, not, _&&_, and-comm}
 use mathlib.Core.List.{List}
@@ -10,13 +10,10 @@ use borrow.Author.Tests.{eqb-true, eq-eqb, ltb-true, ltb-false, leb-true, le-leb
 use Rattle.packing.specs.Count.{any}
 use Rattle.packing.specs.Plant.{NONE, at}
 use Rattle.packing.proofs.Tests.{by-bool, below-suc, clash, and-l, and-r, and-i, not-i, not-test, all-elim, all-intro, any-intro, any-elim, any-none}
-use Rattle.stars.specs.Stars.{holder, back, onCycle, leadsIn, leadsInTrees, begins, cut, leads}
-use Rattle.stars.proofs.Cycles.{pigeonhole, holder-at, back-add, back-gap, round-met, back-below, round-cycle, cycle-round, cycle-back, cycle-holder}
-
-pub any-ext : (n : ℕ) (p q : ℕ → Bool) → ((i : ℕ) → i < n → p i ≡ q i) → any n p ≡ any n q
-unfolding any
-any-ext zero p q h = refl
-any-ext (suc n) p q h = rw (any-ext n p q (λ i l. h i (omega arith)), h n (omega arith))
+use Rattle.stars.specs.Stars.{back, onCycle, leadsIn, leadsInTrees, begins, cut, leads}
+use Rattle.stars.proofs.Loops.{any-ext}
+use Rattle.stars.proofs.Cycles.{back-add, round-met, round-cycle, cycle-met, cycle-back, cycle-holder}
+use Rattle.stars.proofs.Upwards.{upwards}
 
 -- of some numbers one is lowest
 lowest : (m : ℕ) (f : ℕ → ℕ) → (k : ℕ) × (k ≤ m) × ((i : ℕ) → i ≤ m → f k ≤ f i)
@@ -27,68 +24,51 @@ lowest (suc m) f =
     (λ q. (suc m, omega arith, λ i j. below-suc i (suc m) (omega arith) (λ e. rw e (omega arith)) (λ e. omega (arith, ltb-true (f (suc m)) (f k) q, h i (omega arith)))))
     (λ q. (k, omega arith, λ i j. below-suc i (suc m) (omega arith) (λ e. rw e (ltb-false (f (suc m)) (f k) q)) (λ e. h i (omega arith))))
 
--- Where every cycle has an arc that is not kept, n rounds are enough.
+-- a child of u that leads nobody: held by u, by an arc that is not out, and not busy
+abbrev Child : ℕ → List ℕ → (ℕ → Bool) → (ℕ → Bool) → ℕ → Type 0
+Child n hs out busy u = (w : ℕ) × (w < n) × (at hs w ≡ u) × (out w ≡ false) × (busy w ≡ false)
+
+-- Where every cycle has an arc that is out, n rounds are enough: then u leads if it has a child that leads nobody, and not else.
 module _
-    (n : ℕ) (hs : List ℕ) (few : n ≤ NONE) (kept : ℕ → Bool)
-    (broken : (z i : ℕ) → z < n → back n hs (suc i) z ≡ z → ((k : ℕ) → kept (back n hs k z) ≡ true) → ⊥)
+    (n : ℕ) (hs : List ℕ) (few : n ≤ NONE) (out : ℕ → Bool)
+    (broken : (z i : ℕ) → z < n → back n hs (suc i) z ≡ z → ((k : ℕ) → not (out (back n hs k z)) ≡ true) → ⊥)
   where
-    -- f rounds are enough for u where no f + 1 kept arcs in a row end in u
-    settled : (f u : ℕ) → u < n → ((y : ℕ) → y < n → back n hs (suc f) y ≡ u → ((k : ℕ) → k ≤ f → kept (back n hs k y) ≡ true) → ⊥)
-        → leadsIn f n hs kept u ≡ leadsIn (suc f) n hs kept u
-    unfolding leadsIn back
-    settled zero u l none =
-        sym (any-none n (λ w. eqb (at hs w) u && kept w && true) (λ w k. not-test _ (λ t.
-        none w k (holder-at n hs w k ∙ eqb-true (at hs w) u (and-l _ _ (and-l _ _ t))) (λ j z. let q : j ≡ 0 = omega arith in rw q (and-r (eqb (at hs w) u) (kept w) (and-l _ _ t))))))
-    settled (suc f) u l none =
-        any-ext n (λ w. eqb (at hs w) u && kept w && not (leadsIn f n hs kept w)) (λ w. eqb (at hs w) u && kept w && not (leadsIn (suc f) n hs kept w))
-        (λ w k. by-bool (eqb (at hs w) u && kept w)
-        (λ t. let same = settled f w k (λ y m e all-kept. none y m (ap (holder n hs) e ∙ holder-at n hs w k ∙ eqb-true (at hs w) u (and-l _ _ t)) (λ j z. below-suc j (suc f) (omega arith) (λ q. rw (q, e) (and-r (eqb (at hs w) u) (kept w) t)) (λ q. all-kept j (omega arith)))) in
-        rw (t, same))
-        (λ t. rw t))
+    in-round : ℕ → ℕ → Bool
+    in-round f = leadsIn f n hs (λ w. not (out w))
 
-    -- going back n + 1 kept arcs would meet a gateway twice
-    rounds : (u : ℕ) → u < n → leadsIn n n hs kept u ≡ leadsIn (suc n) n hs kept u
-    rounds u l = settled n u l (λ y m e all-kept. pigeonhole n (λ k. back n hs k y) (below y e) (apart y e all-kept))
+    led : ℕ → ℕ → ℕ → Bool
+    led f u w = eqb (at hs w) u && not (out w) && not (in-round f w)
+
+    rounds : (u : ℕ) → u < n → in-round n u ≡ any n (led n u)
+    unfolding in-round led leadsIn
+    rounds =
+        upwards n hs few (λ w. not (out w)) broken (λ f u. in-round f u ≡ any n (led f u))
+        (λ u l none. sym (any-none n (led 0 u) (λ w k. not-test _ (λ t. let (e, o) = arc 0 u w t in none w k e o))))
+        (λ f u l same. any-ext n (led f u) (led (suc f) u)
+        (λ w k. by-bool (eqb (at hs w) u && not (out w)) (λ t. rw (t, same w k (eqb-true (at hs w) u (and-l _ _ t)) (and-r (eqb (at hs w) u) _ t))) (λ t. rw t)))
       where
-        below : (y : ℕ) → back n hs (suc n) y ≡ u → (i : ℕ) → i ≤ n → back n hs i y < n
-        below y e i k = back-below n hs few (suc n - i) (back n hs i y) (rw (← back-add n hs (suc n - i) i y, whole, e) l)
-          where
-            whole : suc n - i + i ≡ suc n
-            whole = omega arith
+        arc : (f u w : ℕ) → led f u w ≡ true → (at hs w ≡ u) × (not (out w) ≡ true)
+        arc f u w t = (eqb-true (at hs w) u (and-l _ _ (and-l _ _ t)), and-r (eqb (at hs w) u) (not (out w)) (and-l _ _ t))
 
-        apart : (y : ℕ) → back n hs (suc n) y ≡ u → ((k : ℕ) → k ≤ n → kept (back n hs k y) ≡ true) → (i j : ℕ) → i < j → j ≤ n → back n hs i y ≡ back n hs j y → ⊥
-        apart y e all-kept i j a b q =
-            let z : ℕ = back n hs i y in
-            let round = back-gap n hs i j y a q in
-            broken z (j - suc i) (below y e i (omega arith)) round
-            (λ k. let (m, c, r) = round-met n hs z (j - suc i) round k in rw (r, ← back-add n hs m i y) (all-kept (m + i) (omega arith)))
+    leads-by : (u : ℕ) → u < n → in-round n u ≡ true ↔ Child n hs out (in-round n) u
+    unfolding led
+    leads-by u l = (λ e. found (sym (rounds u l) ∙ e), λ (w, k, e, f, g). rounds u l ∙ any-intro n (led n u) w k (rw (eq-eqb (at hs w) u e, f, g)))
+      where
+        found : any n (led n u) ≡ true → Child n hs out (in-round n) u
+        found e =
+            let (w, k, t) = any-elim n (led n u) e in
+            let first : (eqb (at hs w) u && not (out w)) ≡ true = and-l _ _ t in
+            (w, k, eqb-true (at hs w) u (and-l _ _ first), not-true (out w) (and-r (eqb (at hs w) u) _ first), not-true (in-round n w) (and-r (eqb (at hs w) u && not (out w)) _ t))
 
 -- a cycle has no arc of the trees
-trees-broken : (n : ℕ) (hs : List ℕ) (few : n ≤ NONE) (z i : ℕ) → z < n → back n hs (suc i) z ≡ z → ((k : ℕ) → not (onCycle n hs (back n hs k z)) ≡ true) → ⊥
+pub trees-broken : (n : ℕ) (hs : List ℕ) (few : n ≤ NONE) (z i : ℕ) → z < n → back n hs (suc i) z ≡ z → ((k : ℕ) → not (onCycle n hs (back n hs k z)) ≡ true) → ⊥
 unfolding back
 trees-broken n hs few z i l round kept = clash _ (round-cycle n hs few z i l round) (not-true _ (kept zero))
 
 -- who leads by rule 1: whoever has a child, not the next on a cycle, that leads nobody
-pub trees-lead : (n : ℕ) (hs : List ℕ) → n ≤ NONE → (u : ℕ) → u < n → leadsInTrees n hs u ≡ any n (λ w. eqb (at hs w) u && not (onCycle n hs w) && not (leadsInTrees n hs w))
-unfolding leadsInTrees leadsIn
-trees-lead n hs few u l = rounds n hs few (λ w. not (onCycle n hs w)) (trees-broken n hs few) u l
-
--- such a child of u: held by u, with neither of two marks
-abbrev pub Child : ℕ → List ℕ → (ℕ → Bool) → (ℕ → Bool) → ℕ → Type 0
-Child n hs out busy u = (w : ℕ) × (w < n) × (at hs w ≡ u) × (out w ≡ false) × (busy w ≡ false)
-
-module _ (n : ℕ) (hs : List ℕ) (out busy : ℕ → Bool) (u : ℕ) where
-  child-found : any n (λ w. eqb (at hs w) u && not (out w) && not (busy w)) ≡ true → Child n hs out busy u
-  child-found e =
-      let (w, l, t) = any-elim n (λ w. eqb (at hs w) u && not (out w) && not (busy w)) e in
-      let first : (eqb (at hs w) u && not (out w)) ≡ true = and-l _ _ t in
-      (w, l, eqb-true (at hs w) u (and-l _ _ first), not-true (out w) (and-r (eqb (at hs w) u) _ first), not-true (busy w) (and-r (eqb (at hs w) u && not (out w)) _ t))
-
-  child-any : Child n hs out busy u → any n (λ w. eqb (at hs w) u && not (out w) && not (busy w)) ≡ true
-  child-any (w, l, e, f, g) = any-intro n (λ w. eqb (at hs w) u && not (out w) && not (busy w)) w l (rw (eq-eqb (at hs w) u e, f, g))
-
 pub trees-child : (n : ℕ) (hs : List ℕ) → n ≤ NONE → (u : ℕ) → u < n → leadsInTrees n hs u ≡ true ↔ Child n hs (onCycle n hs) (leadsInTrees n hs) u
-trees-child n hs few u l = (λ e. child-found n hs (onCycle n hs) (leadsInTrees n hs) u (sym (trees-lead n hs few u l) ∙ e), λ c. trees-lead n hs few u l ∙ child-any n hs (onCycle n hs) (leadsInTrees n hs) u c)
+unfolding leadsInTrees in-round
+trees-child n hs few = leads-by n hs few (onCycle n hs) (trees-broken n hs few)
 
 -- v begins a cycle: none on it leads in trees, and v is the lowest
 pub record Begins (n : ℕ) (hs : List ℕ) (v : ℕ) : Type 0 where
@@ -99,16 +79,13 @@ pub record Begins (n : ℕ) (hs : List ℕ) (v : ℕ) : Type 0 where
 module _ (n : ℕ) (hs : List ℕ) where
   pub begins-means : {v : ℕ} → begins n hs v ≡ true → Begins n hs v
   unfolding begins
-  begins-means {v} e = record { on = on; none = λ j. let (k, l, r) = met j in rw r (not-true _ (and-l _ _ (each k l))); low = λ j. let (k, l, r) = met j in rw r (leb-true v _ (and-r (not (leadsInTrees n hs (back n hs k v))) _ (each k l))) }
+  begins-means {v} e = record { on = on; none = λ j. let (k, l, r) = cycle-met n hs v on j in rw r (not-true _ (and-l _ _ (each k l))); low = λ j. let (k, l, r) = cycle-met n hs v on j in rw r (leb-true v _ (and-r (not (leadsInTrees n hs (back n hs k v))) _ (each k l))) }
     where
       on : onCycle n hs v ≡ true
       on = and-l _ _ e
 
       each : (i : ℕ) → i < n → (not (leadsInTrees n hs (back n hs i v)) && leb v (back n hs i v)) ≡ true
       each = all-elim n (λ i. not (leadsInTrees n hs (back n hs i v)) && leb v (back n hs i v)) (and-r (onCycle n hs v) _ e)
-
-      met : (j : ℕ) → (k : ℕ) × (k < n) × (back n hs j v ≡ back n hs k v)
-      met j = let (i, m, round, _) = cycle-round n hs v on in let (k, l, r) = round-met n hs v i round j in (k, omega arith, r)
 
   pub begins-is : {v : ℕ} → Begins n hs v → begins n hs v ≡ true
   unfolding begins
@@ -158,12 +135,9 @@ module _ (n : ℕ) (hs : List ℕ) (few : n ≤ NONE) where
       quiet j = not-test (leadsInTrees n hs (back n hs j z)) (λ t. uncut j (cut-leads n hs (back n hs j z) (cycle-back n hs z on j) t))
 
   -- who leads by rules 1 to 4: whoever has a kept arc to one that leads nobody
-  pub leads-kept : (u : ℕ) → u < n → leads n hs u ≡ any n (λ w. eqb (at hs w) u && not (cut n hs w) && not (leads n hs w))
-  unfolding leads leadsIn
-  leads-kept u l = rounds n hs few (λ w. not (cut n hs w)) cut-broken u l
-
   pub leads-child : (u : ℕ) → u < n → leads n hs u ≡ true ↔ Child n hs (cut n hs) (leads n hs) u
-  leads-child u l = (λ e. child-found n hs (cut n hs) (leads n hs) u (sym (leads-kept u l) ∙ e), λ c. leads-kept u l ∙ child-any n hs (cut n hs) (leads n hs) u c)
+  unfolding leads in-round
+  leads-child = leads-by n hs few (cut n hs) cut-broken
 
   -- outside the cycles rules 3 and 4 change nothing
   pub leads-tree : (v : ℕ) → onCycle n hs v ≡ false → leads n hs v ≡ leadsInTrees n hs v

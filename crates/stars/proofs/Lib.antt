@@ -1,16 +1,21 @@
 -- Laws of the leader list.
 pub mod Cycles
+pub mod Upwards
 pub mod Leads
 pub mod Five
 pub mod Groups
 pub mod Runs
+pub mod Stretches
 pub mod Rules
 pub mod Places
+pub mod Names
+pub mod Only
 pub mod Examples
 pub mod Loops
 pub mod Tables
 pub mod Backs
 pub mod Begins
 pub mod Passes
-pub mod RuleFive
+pub mod Pairing
 pub mod Joined
+pub mod Written

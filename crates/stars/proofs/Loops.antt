@@ -2,16 +2,12 @@
 use Prim.Native.Nat.{ℕ, zero, suc, _+_, _<_, _≤_}
 use mathlib.Core.Path.{_≡_, refl, sym, ap, _∙_}
 use mathlib.Core.Bool.{Bool, true, false, _||_}
-use native.Mathlib.Nat.{not-suc-le-zero}
+use native.Mathlib.Nat.{not-suc-le-zero, le-antisymm}
 use native.Mathlib.Numerals.{add-one}
 use native.Mathlib.Omega.{arith}
 use Rattle.packing.specs.Count.{pick, sum, count, any, firstWith}
 use Rattle.packing.proofs.Tests.{or-none, below-suc, any-intro, any-none, any-fails}
 use Rattle.packing.proofs.Sums.{count-suc}
-
--- a loop that counts i up to n by one has i = n at its end
-pub last : {n i : ℕ} → i ≤ n → n ≤ i → i ≡ n
-last u l = omega arith
 
 -- one more at the end, as a loop gathers it
 pub any-more : (n : ℕ) (p : ℕ → Bool) (found b r : Bool) → found ≡ any n p → b ≡ p n → r ≡ (found || b) → r ≡ any (n + 1) p
@@ -20,7 +16,7 @@ any-more n p found b r e f g = rw (g, e, f, add-one)
 
 -- what a loop has gathered at its end
 pub any-end : (n : ℕ) (p : ℕ → Bool) (found : Bool) (i : ℕ) → i ≤ n → n ≤ i → found ≡ any i p → found ≡ any n p
-any-end n p found i u l e = e ∙ ap (λ (k : ℕ). any k p) (last u l)
+any-end n p found i u l e = e ∙ ap (λ (k : ℕ). any k p) (le-antisymm u l)
 
 pub any-ext : (n : ℕ) (p q : ℕ → Bool) → ((i : ℕ) → i < n → p i ≡ q i) → any n p ≡ any n q
 unfolding any
@@ -28,13 +24,13 @@ any-ext zero p q h = refl
 any-ext (suc n) p q h = rw (any-ext n p q (λ i l. h i (omega arith)), h n (omega arith))
 
 -- the first with p is where none before it has p
-pub first-here : (n : ℕ) (p : ℕ → Bool) (w : ℕ) → w < n → any w p ≡ false → p w ≡ true → w ≡ firstWith n p
+first-here : (n : ℕ) (p : ℕ → Bool) (w : ℕ) → w < n → any w p ≡ false → p w ≡ true → w ≡ firstWith n p
 unfolding firstWith
 first-here zero p w l e f = absurd (not-suc-le-zero l)
 first-here (suc n) p w l e f =
     below-suc w n l (λ q. rw (rw q at e, rw q at f) q) (λ q. rw (any-intro n p w q f) (first-here n p w q e f))
 
-pub first-none : (n : ℕ) (p : ℕ → Bool) → any n p ≡ false → n ≡ firstWith n p
+first-none : (n : ℕ) (p : ℕ → Bool) → any n p ≡ false → n ≡ firstWith n p
 unfolding firstWith any
 first-none zero p e = refl
 first-none (suc n) p e = rw (any-none n p (λ i l. any-fails (suc n) p e i (omega arith)), any-fails (suc n) p e n (omega arith))
@@ -69,7 +65,7 @@ module _ (n : ℕ) (p : ℕ → Bool) where
       }
 
   pub tally-end : {k w : ℕ} → Tallied n p k w → n ≤ w → k ≡ count n p
-  tally-end {k} {w} t h = t .counted ∙ ap (λ (m : ℕ). count m p) (last (t .upto) h)
+  tally-end {k} {w} t h = t .counted ∙ ap (λ (m : ℕ). count m p) (le-antisymm (t .upto) h)
 
 -- a loop that looks for the first with p has passed w, none of which has it
 pub record Sought (n : ℕ) (p : ℕ → Bool) (w : ℕ) : Type 0 where
@@ -89,4 +85,4 @@ module _ (n : ℕ) (p : ℕ → Bool) where
   seek-found {w} s h e f = first-here n p w h (s .none) (sym e ∙ f)
 
   pub seek-end : {w : ℕ} → Sought n p w → n ≤ w → n ≡ firstWith n p
-  seek-end s h = first-none n p (rw (last (s .upto) h) at (s .none))
+  seek-end s h = first-none n p (rw (le-antisymm (s .upto) h) at (s .none))

@@ -3,6 +3,7 @@ use Prim.Native.Nat.{ℕ, zero, suc, _+_, _<_, _≤_}
 use mathlib.Core.Path.{_≡_, refl, sym, ap, _∙_}
 use mathlib.Core.Bool.{Bool, true, false, not, cond, _&&_, _||_, and-false, and-assoc, or-true, or-false}
 use mathlib.Core.List.{List}
+use native.Mathlib.Nat.{le-antisymm}
 use native.Mathlib.Numerals.{add-one}
 use native.Mathlib.Omega.{arith}
 use lib.Dec.{eqb}
@@ -14,7 +15,7 @@ use Rattle.packing.specs.Plant.{at}
 use Rattle.packing.proofs.Tests.{by-bool}
 use Rattle.stars.specs.Stars.{leadsIn}
 use Rattle.stars.specs.Pre.{Blank, Marks, marked, holdsLed}
-use Rattle.stars.proofs.Loops.{last, any-more, any-ext}
+use Rattle.stars.proofs.Loops.{any-more, any-ext}
 use Rattle.stars.proofs.Tables.{read-mark}
 
 -- u noted where b is true: v is marked if it was, or is u
@@ -55,7 +56,7 @@ module _ (n : ℕ) (hs ss ls : List ℕ) where
 
   pub pass-end : {next : List ℕ} {w : ℕ} → n ≤ 1024 → Passed n hs ss ls next w → n ≤ w → Marks n (holdsLed n hs ss ls) next
   pass-end {next} {w} few p h =
-      let all : Marks 1024 (holdsLed n hs ss ls) next = rw (last (p .upto) h) at (p .table) in
+      let all : Marks 1024 (holdsLed n hs ss ls) next = rw (le-antisymm (p .upto) h) at (p .table) in
       record { long = all .long; entry = λ v k. all .entry v (omega arith) }
 
 -- f rounds were made
@@ -83,7 +84,7 @@ module _ (n : ℕ) (hs ss : List ℕ) where
       }
 
   pub rounds-end : {ls : List ℕ} {f : ℕ} → Rounds n hs ss ls f → n ≤ f → Marks n (leadsIn n n hs (λ w. not (marked ss w))) ls
-  rounds-end {ls} {f} r h = rw (last (r .upto) h) at (r .table)
+  rounds-end {ls} {f} r h = rw (le-antisymm (r .upto) h) at (r .table)
 
 -- who leads goes by the arcs that are kept
 pub leadsIn-ext : (f n : ℕ) (hs : List ℕ) (p q : ℕ → Bool) → ((w : ℕ) → w < n → p w ≡ q w) → (u : ℕ) → leadsIn f n hs p u ≡ leadsIn f n hs q u

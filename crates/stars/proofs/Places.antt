@@ -9,17 +9,17 @@ use borrow.Author.Tests.{ltb-true, ltb-false}
 use Rattle.packing.specs.Plant.{NONE}
 use Rattle.packing.proofs.Tests.{by-bool, clash, any-intro}
 use Rattle.stars.specs.Stars.{back, onCycle, leadsInTrees}
+use Rattle.stars.specs.Rules.{Leaderless, Run}
 use Rattle.stars.proofs.Cycles.{least, back-add, round-return, round-met, cycle-round, cycle-back, cycle-below}
 use Rattle.stars.proofs.Leads.{Begins, cycle-begins}
 use Rattle.stars.proofs.Runs.{Follows, trail}
-use Rattle.stars.proofs.Rules.{Leaderless, Run}
 
 -- the cycle that s begins, and on it the gateway m arcs back from s
 module _
     (n : ℕ) (hs : List ℕ) (few : n ≤ NONE) (s : ℕ) (l : s < n) (b : Begins n hs s) (d : ℕ) (round : back n hs (suc d) s ≡ s)
     (least : (i : ℕ) → i < d → back n hs (suc i) s ≡ s → ⊥)
   where
-    leaderless-from : Leaderless n hs (suc d) (λ i. back n hs (suc d - i) s)
+    leaderless-from : Leaderless n hs (leadsInTrees n hs) (suc d) (λ i. back n hs (suc d - i) s)
     unfolding back
     leaderless-from =
         record {
@@ -54,7 +54,7 @@ module _
 
 -- where none on its cycle leads, v has a place in rule 3
 pub rule-3-place : (n : ℕ) (hs : List ℕ) → n ≤ NONE → (v : ℕ) → v < n → onCycle n hs v ≡ true → ((j : ℕ) → leadsInTrees n hs (back n hs j v) ≡ false)
-    → (length : ℕ) × (c : ℕ → ℕ) × Leaderless n hs length c × (i : ℕ) × (i < length) × (c i ≡ v)
+    → (length : ℕ) × (c : ℕ → ℕ) × Leaderless n hs (leadsInTrees n hs) length c × (i : ℕ) × (i < length) × (c i ≡ v)
 rule-3-place n hs few v l on none =
     let (p, _, around, _) = cycle-round n hs v on in
     let (k, b) = cycle-begins n hs v p on around none in
@@ -85,7 +85,7 @@ module _
     run-before : (i k : ℕ) → k + i ≡ a → run-at i ≡ back n hs k v
     run-before i k e = run-on i (k + suc p) (omega arith) (omega arith) ∙ back-add n hs k (suc p) v ∙ ap (back n hs k) round
 
-    run-around : Run n hs (a - 1 + b) run-at
+    run-around : Run n hs (leadsInTrees n hs) (a - 1 + b) run-at
     unfolding run-at
     run-around =
         record {
@@ -103,14 +103,14 @@ module _
 
 -- where one on its cycle leads and v does not, v has a place in a run of rule 4
 pub rule-4-place : (n : ℕ) (hs : List ℕ) → n ≤ NONE → (v : ℕ) → v < n → onCycle n hs v ≡ true → leadsInTrees n hs v ≡ false → (j : ℕ) → leadsInTrees n hs (back n hs j v) ≡ true
-    → (r : ℕ) × (c : ℕ → ℕ) × Run n hs r c × (i : ℕ) × (1 ≤ i) × (i ≤ r) × (c i ≡ v)
+    → (r : ℕ) × (c : ℕ → ℕ) × Run n hs (leadsInTrees n hs) r c × (i : ℕ) × (i < r) × (c (suc i) ≡ v)
 unfolding back
 rule-4-place n hs few v l on quiet j e =
     let (p, _, round, _) = cycle-round n hs v on in
     let (k, m, q) = round-met n hs v p round j in
     around p round k m (rw q at e)
   where
-    around : (p : ℕ) → back n hs (suc p) v ≡ v → (k : ℕ) → k ≤ p → leadsInTrees n hs (back n hs k v) ≡ true → (r : ℕ) × (c : ℕ → ℕ) × Run n hs r c × (i : ℕ) × (1 ≤ i) × (i ≤ r) × (c i ≡ v)
+    around : (p : ℕ) → back n hs (suc p) v ≡ v → (k : ℕ) → k ≤ p → leadsInTrees n hs (back n hs k v) ≡ true → (r : ℕ) × (c : ℕ → ℕ) × Run n hs (leadsInTrees n hs) r c × (i : ℕ) × (i < r) × (c (suc i) ≡ v)
     around p round k m t =
         let (a, x, before, between) = least (suc p) behind (any-intro (suc p) behind k (omega arith) t) in
         let (b, y, after, beyond) = least (suc (suc p)) ahead (any-intro (suc (suc p)) ahead (suc p - k) (omega arith) (rw other t)) in
@@ -119,10 +119,9 @@ rule-4-place n hs few v l on quiet j e =
           a - 1 + b,
           run-at n hs few v l on p round a b some (omega arith) before between after beyond,
           run-around n hs few v l on p round a b some (omega arith) before between after beyond,
-          a,
-          some,
+          a - 1,
           omega arith,
-          run-before n hs few v l on p round a b some (omega arith) before between after beyond a 0 (omega arith),
+          run-before n hs few v l on p round a b some (omega arith) before between after beyond (suc (a - 1)) 0 (omega arith),
         )
       where
         behind : ℕ → Bool

@@ -3,7 +3,7 @@ use Prim.Native.Nat.{ℕ, zero, suc, _+_, _<_, _≤_}
 use mathlib.Core.Path.{_≡_, refl, sym, ap, _∙_}
 use mathlib.Core.Bool.{Bool, true, false}
 use mathlib.Core.List.{List}
-use native.Mathlib.Nat.{not-suc-le-zero}
+use native.Mathlib.Nat.{not-suc-le-zero, le-antisymm}
 use native.Mathlib.Numerals.{add-one}
 use native.Mathlib.Omega.{arith}
 use lib.Dec.{eqb}
@@ -13,7 +13,6 @@ use Rattle.packing.specs.Count.{pick}
 use Rattle.packing.specs.Plant.{at}
 use Rattle.packing.proofs.Tests.{below-suc}
 use Rattle.stars.specs.Pre.{Blank, Table, Marks, marked}
-use Rattle.stars.proofs.Loops.{last}
 
 zero-at : (n v : ℕ) → at (replicate n 0) v ≡ 0
 zero-at zero v = refl
@@ -46,14 +45,14 @@ module _ (n : ℕ) (f : ℕ → ℕ) where
       }
 
   pub fill-end : {l : List ℕ} {v : ℕ} → Filled n f l v → n ≤ v → Table n f l
-  fill-end t h = rw (last (t .upto) h) at (t .table)
+  fill-end t h = rw (le-antisymm (t .upto) h) at (t .table)
 
 -- the mark of a test
 pub mark : {b b' : Bool} {x : ℕ} → x ≡ pick b 1 → b ≡ b' → x ≡ pick b' 1
 mark e f = e ∙ ap (λ (b : Bool). pick b 1) f
 
 -- a test of which 1 or 0 is kept
-pub pick-test : (b : Bool) → eqb (pick b 1) 1 ≡ b
+pick-test : (b : Bool) → eqb (pick b 1) 1 ≡ b
 pick-test true = refl
 pick-test false = refl
 

@@ -1,6 +1,6 @@
 -- 01, "Reading", rules 1 to 5. hs are the holders of n gateways; the arc into w comes from its holder.
 -- Pairing a run of a cycle from its start, with the first of an odd run joining the gateway before it, gives the same groups as rule 1 once the arcs into
--- certain cycle gateways are cut: a run then ends in a leaf. proofs/Rules.antt states each rule as 01 writes it.
+-- certain cycle gateways are cut: a run then ends in a leaf. specs/Rules.antt states each rule as 01 writes it; proofs/Rules.antt and proofs/Only.antt prove that they fix this list.
 use Prim.Native.Nat.{ℕ, zero, suc}
 use mathlib.Core.Bool.{Bool, false, not, cond, _&&_, _||_}
 use mathlib.Core.List.{List}
@@ -8,6 +8,7 @@ use lib.Dec.{eqb, ltb, leb}
 use Rattle.packing.specs.Count.{all, any, firstWith}
 use Rattle.packing.specs.Plant.{NONE, at}
 use Rattle.packing.specs.Grouping.{follows, memberCount}
+use Rattle.packing.specs.Lists.{listOf, written, fits}
 
 -- v's holder; what is no gateway has none
 unfoldable pub holder : ℕ → List ℕ → ℕ → ℕ
@@ -68,3 +69,7 @@ ruleFive leadsPair n g v = cond (ltb (g v) n && eqb (memberCount n g (g v)) 1) (
 -- the leader list by all five rules, one entry for each gateway
 unfoldable pub leaderList : ℕ → List ℕ → ℕ → ℕ
 leaderList n hs = ruleFive ltb n (leaderOf n hs)
+
+-- a lent list after the call: the leader list in its first n entries, or as it came where n or a length does not fit
+unfoldable pub leadersWritten : ℕ → List ℕ → List ℕ → List ℕ
+leadersWritten n hs out = cond (fits n hs out) (written n (listOf n (leaderList n hs)) out) out

@@ -7,17 +7,27 @@ mod rounds;
 mod walks;
 
 ghost use mathlib.Core.Path.{_≡_};
-ghost use mathlib.Core.List.{_++_};
-ghost use lib.ListN.{drop};
-ghost use Rattle.packing.specs.Lists.{listOf};
-ghost use Rattle.stars.specs.Stars.{leaderList};
+ghost use Rattle.packing.specs.Lists.{listOf, written, fits};
+ghost use Rattle.stars.specs.Stars.{leaderList, leadersWritten};
 ghost use Rattle.stars.specs.Pre.{Lent};
 
-// Writes the leader list to the first n places of out. Each step fills one array: the cycles, who leads by rule 1, the cut arcs, who leads by rules 1 to 4, and their leaders.
-// The equation shuts out, for one, the holders passed on as leaders, since a chain of holders is no star; and an odd cycle whose last gateway is left alone, where its first three are to be one group.
-pub fn leaders(n: u16, holders: &[u16], out: &mut [u16])
+// Whether n is in range and both lists have n entries.
+fn is_fitting(n: u16, holders: &[u16], out: &[u16]) -> bool
+    ensures { λ r. ⌜ r ≡ fits n (now (holders .entry)) (now (out .entry)) ⌝ }
+{
+    if 1024 < n {
+        return false;
+    }
+    if holders.len() < n as usize {
+        return false;
+    }
+    (n as usize) <= out.len()
+}
+
+// Each step fills one array: the cycles, who leads by rule 1, the cut arcs, who leads by rules 1 to 4, and their leaders.
+fn write_leaders(n: u16, holders: &[u16], out: &mut [u16])
     requires { ⌜ Lent n (now holders) (now out) ⌝ }
-    ensures { λ _. ⌜ now (out .exit) ≡ listOf n (leaderList n (now (holders .entry))) ++ drop n (now (out .entry)) ⌝ }
+    ensures { λ _. ⌜ now (out .exit) ≡ written n (listOf n (leaderList n (now (holders .entry)))) (now (out .entry)) ⌝ }
 {
     let cycles = walks::on_cycles(n, holders);
     let trees = rounds::leading(n, holders, &cycles);
@@ -25,4 +35,17 @@ pub fn leaders(n: u16, holders: &[u16], out: &mut [u16])
     let leading = rounds::leading(n, holders, &cut);
     let groups = reading::leaders_of(n, holders, &cycles, &cut, &leading);
     pairs::write_list(n, &groups, out);
+}
+
+// Writes the leader list to the first n places of out, and answers whether n and the lengths fit; if not, nothing is changed.
+// The equation shuts out, for one, the holders passed on as leaders, since a chain of holders is no star; and an odd cycle whose last gateway is left alone, where its first three are to be one group.
+pub fn leaders(n: u16, holders: &[u16], out: &mut [u16]) -> bool
+    ensures done { λ r. ⌜ r ≡ fits n (now (holders .entry)) (now (out .entry)) ⌝ }
+    ensures out { λ _. ⌜ now (out .exit) ≡ leadersWritten n (now (holders .entry)) (now (out .entry)) ⌝ }
+{
+    if !is_fitting(n, holders, out) {
+        return false;
+    }
+    write_leaders(n, holders, out);
+    true
 }

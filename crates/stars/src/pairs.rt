@@ -3,13 +3,12 @@ use crate::marks::bit;
 use crate::marks::entry;
 ghost use mathlib.Core.Path.{_≡_};
 ghost use mathlib.Core.Bool.{not, _&&_};
-ghost use mathlib.Core.List.{_++_};
 ghost use Prim.Native.Nat.{_<_, _≤_};
 ghost use lib.Dec.{eqb, ltb};
-ghost use lib.ListN.{length, drop};
+ghost use lib.ListN.{length};
 ghost use Rattle.packing.specs.Plant.{at};
 ghost use Rattle.packing.specs.Grouping.{memberCount};
-ghost use Rattle.packing.specs.Lists.{listOf};
+ghost use Rattle.packing.specs.Lists.{listOf, written};
 ghost use Rattle.stars.specs.Stars.{pairLeader, partner, ruleFive};
 ghost use Rattle.stars.specs.Pre.{Entries};
 
@@ -86,7 +85,7 @@ fn rule_five(n: u16, groups: &[u16], v: u16) -> u16
 // The list of n entries, written to the front of out.
 pub fn write_list(n: u16, groups: &[u16], out: &mut [u16])
     requires { ⌜ (Entries n (now groups)) × (n ≤ length (now out)) ⌝ }
-    ensures { λ _. ⌜ now (out .exit) ≡ listOf n (ruleFive ltb n (at (now (groups .entry)))) ++ drop n (now (out .entry)) ⌝ }
+    ensures { λ _. ⌜ now (out .exit) ≡ written n (listOf n (ruleFive ltb n (at (now (groups .entry))))) (now (out .entry)) ⌝ }
 {
     let mut v: u16 = 0;
     while v < n {

@@ -1,34 +1,35 @@
-use Rattle.search.proofs.Turns.{place-marks, place-settles}
--- `place` meets its contract.
+-- `place` meets its contract: the laws of Tested.
 use borrow.Author.Needs.{needs}
+use Rattle.search.proofs.Tested.{place-free, place-refuses, place-places}
 use Rattle.search.proofs.place.Statement.{statement}
 use Rattle.search.proofs.place.Tie as tie
 
-slice-aggregate-settle : tie.Need-slice-aggregate-settle
-slice-aggregate-settle c = search needs
-
-array-borrow-prefix-from : tie.Need-array-borrow-prefix-from
-array-borrow-prefix-from c = search needs
-
-slice-aggregate-settle-2 : tie.Need-slice-aggregate-settle-2
-slice-aggregate-settle-2 c = place-marks _ (c .before .before .before .before .before .pre .few)
-
-settle-requires : tie.Need-settle-requires
-settle-requires c κs = place-settles (c .before .before .before .before .before .pre)
+is-placeable-requires : tie.Need-is-placeable-requires
+is-placeable-requires c κs = search needs
 
 same-length : tie.Need-same-length
 same-length c = search needs
 
 returns : tie.Need-returns
-returns c = search needs
+returns c = place-refuses _ _ _ (c .before .is-placeable .ensures) _ _ (c .if1 .taken)
+
+place-unheld-requires : tie.Need-place-unheld-requires
+place-unheld-requires c κs = place-free _ _ _ (c .before .before .is-placeable .ensures) (c .before .if1 .left)
+
+same-length-2 : tie.Need-same-length-2
+same-length-2 c = search needs
+
+returns-2 : tie.Need-returns-2
+returns-2 c = let test = c .before .before .before .before in
+    place-places _ _ _ (test .before .is-placeable .ensures) _ _ (test .if1 .left) (c .before .before .place-unheld .ensures)
 
 pub place-spec : {M : Type 1} → statement M
 place-spec =
     tie.close
     (tie.spec
-    slice-aggregate-settle
-    array-borrow-prefix-from
-    slice-aggregate-settle-2
-    settle-requires
+    is-placeable-requires
     same-length
-    returns)
+    returns
+    place-unheld-requires
+    same-length-2
+    returns-2)

@@ -1,19 +1,15 @@
 -- `place` meets its contract.
 use native.Mathlib.Omega.{arith}
-use mathlib.Core.Path.{sym, _∙_, refl}
+use mathlib.Core.Path.{sym, refl}
 use borrow.Author.Tests.{not-true, not-false}
 use lib.Seq.{length-take-le}
 use Rattle.packing.specs.Plant.{firstLinks}
 use Rattle.planner.specs.Calls.{placeRefusal}
 use Rattle.planner.proofs.Answers.{unsound-number, sound-number, place-refused, place-accepted}
-use Rattle.planner.proofs.Next.{checked, next-placeable, place-full, place-next}
+use Rattle.planner.proofs.Next.{checked, next-placed, place-full, place-next}
 use borrow.Author.Needs.{needs}
 use Rattle.planner.proofs.Small.place.Statement.{statement}
 use Rattle.planner.proofs.Small.place.Tie as tie
-use Rattle.planner.proofs.Small.place.Reads as reads
-use Rattle.planner.proofs.Small.place.Lts as lts
-use Rattle.search.proofs.place.Reads as place-reads
-use Rattle.sound.proofs.is_sound.Reads as is-sound-reads
 
 is-sound-requires : tie.Need-is-sound-requires
 is-sound-requires c κs = search needs
@@ -53,11 +49,10 @@ slice-aggregate-place c = let test = c .before .before in
     sym (length-take-le _ _ (checked _ _ _ _ _ _ _ (test .before .before .is-sound .ensures) (test .before .if1 .left) .links-long))
 
 place-requires : tie.Need-place-requires
-place-requires c κs = let test = c .before .before .before in
-    next-placeable _ _ _ _ _ _ _ (checked _ _ _ _ _ _ _ (test .before .before .is-sound .ensures) (test .before .if1 .left)) (test .if2 .left)
+place-requires c κs = search needs
 
-add-t18 : tie.Need-add-t18
-add-t18 c = let test = c .before .before .before .before .before .before in
+add-t17 : tie.Need-add-t17
+add-t17 c = let test = c .before .before .before .before .before .before in
     let sound = checked _ _ _ _ _ _ _ (test .before .before .is-sound .ensures) (test .before .if1 .left) in omega (arith, sound .placed, sound .few, test .if2 .left)
 
 same-length-3 : tie.Need-same-length-3
@@ -66,7 +61,9 @@ same-length-3 c = search needs
 returns-3 : tie.Need-returns-3
 unfolding placeRefusal firstLinks
 returns-3 c = let test = c .before .before .before .before .before .before in
-    place-accepted _ _ _ _ (sound-number (test .before .before .is-sound .ensures) (not-false _ (test .before .if1 .left)) (place-next _ _ (test .if2 .left))) refl (c .before .before .place .ensures)
+    let sound = checked _ _ _ _ _ _ _ (test .before .before .is-sound .ensures) (test .before .if1 .left) in
+    place-accepted _ _ _ _ (sound-number (test .before .before .is-sound .ensures) (not-false _ (test .before .if1 .left)) (place-next _ _ (test .if2 .left))) refl
+    (next-placed _ _ _ _ _ _ _ sound (test .if2 .left) (c .before .before .place .ensures .1))
 
 pub place-spec : {M : Type 1} → statement M
 place-spec =
@@ -84,6 +81,6 @@ place-spec =
     shared-slice-read-place
     slice-aggregate-place
     place-requires
-    add-t18
+    add-t17
     same-length-3
     returns-3)

@@ -7,7 +7,7 @@ use Rattle.packing.specs.Plant.{firstLinks}
 use Rattle.packing.specs.Lists.{written}
 use Rattle.planner.specs.Calls.{readRefusal}
 use Rattle.planner.proofs.Answers.{unsound-number, sound-number, read-fits, read-refused, read-accepted}
-use Rattle.planner.proofs.Next.{checked}
+use Rattle.planner.proofs.Next.{checked, leaders-placed, choke-placed}
 use borrow.Author.Needs.{needs}
 use Rattle.planner.proofs.Small.read.Statement.{statement}
 use Rattle.planner.proofs.Small.read.Tie as tie
@@ -40,20 +40,14 @@ mul-end : tie.Need-mul-end
 mul-end c = search needs
 
 leaders-requires : tie.Need-leaders-requires
-leaders-requires c κs = let asked = c .before .before in
-    let test = asked .before .before .before in
-    let sound = checked _ _ _ _ _ _ _ (test .before .is-sound .ensures) (test .if1 .left) in
-    record { few = sound .few; held = sound .holders-long; room = read-fits _ _ _ _ (sym (asked .of-read .ensures) ∙ c .before .if2 .left) .1 }
+leaders-requires c κs = search needs
 
 slice-aggregate-choke-set : tie.Need-slice-aggregate-choke-set
 slice-aggregate-choke-set c = let test = c .before .before .before .before .before .before .before .before .before in
     sym (length-take-le _ _ (checked _ _ _ _ _ _ _ (test .before .is-sound .ensures) (test .if1 .left) .links-long))
 
 choke-set-requires : tie.Need-choke-set-requires
-choke-set-requires c κs = let asked = c .before .before .before .before .before .before .before in
-    let test = asked .before .before .before in
-    let sound = checked _ _ _ _ _ _ _ (test .before .is-sound .ensures) (test .if1 .left) in
-    record { few = sound .few; holders = sound .holders-long; places = read-fits _ _ _ _ (sym (asked .of-read .ensures) ∙ c .before .before .before .before .before .before .if2 .left) .2 }
+choke-set-requires c κs = search needs
 
 same-length-3 : tie.Need-same-length-3
 same-length-3 c = search needs
@@ -66,7 +60,10 @@ unfolding readRefusal firstLinks written
 returns-3 c = let led = c .before .before .before .before .before .before .before in
     let asked = led .before .before .before in
     let test = asked .before .before .before in
-    read-accepted _ _ _ _ _ _ (sound-number (test .before .is-sound .ensures) (not-false _ (test .if1 .left)) (asked .of-read .ensures)) (led .before .before .if2 .left) (led .leaders .ensures) (c .before .before .choke-set .ensures)
+    let sound = checked _ _ _ _ _ _ _ (test .before .is-sound .ensures) (test .if1 .left) in
+    let fit = read-fits _ _ _ _ (sym (asked .of-read .ensures) ∙ led .before .before .if2 .left) in
+    read-accepted _ _ _ _ _ _ (sound-number (test .before .is-sound .ensures) (not-false _ (test .if1 .left)) (asked .of-read .ensures)) (led .before .before .if2 .left) (leaders-placed _ _ _ _ _ _ _ _ sound (fit .1) (led .leaders .ensures .1))
+    (choke-placed _ _ _ _ _ _ _ _ sound (fit .2) (c .before .before .choke-set .ensures .1))
 
 pub read-spec : {M : Type 1} → statement M
 read-spec =

@@ -7,7 +7,7 @@ use lib.Dec.{eqb}
 use Rattle.packing.specs.Plant.{at}
 use Rattle.packing.specs.Grouping.{memberCount}
 use Rattle.stars.proofs.Loops.{Tallied, tally-start, tally-turn, tally-end, pick-few}
-use Rattle.stars.proofs.RuleFive.{member-test}
+use Rattle.stars.proofs.Pairing.{member-test}
 use Rattle.stars.proofs.pairs.member_count.Statement.{statement}
 use Rattle.stars.proofs.pairs.member_count.Tie as tie
 

@@ -6,7 +6,7 @@ use lib.Dec.{eqb}
 use Rattle.packing.specs.Plant.{at}
 use Rattle.stars.specs.Stars.{partner}
 use Rattle.stars.proofs.Loops.{Sought, seek-start, seek-turn, seek-found, seek-end}
-use Rattle.stars.proofs.RuleFive.{member-test}
+use Rattle.stars.proofs.Pairing.{member-test}
 use Rattle.stars.proofs.pairs.partner_of.Statement.{statement}
 use Rattle.stars.proofs.pairs.partner_of.Tie as tie
 

@@ -1,5 +1,5 @@
-use mathlib.Core.Path.{sym, _∙_}
 -- `is_led` meets its contract: each return rewrites by the test that led there.
+use mathlib.Core.Path.{sym, _∙_}
 use borrow.Author.Needs.{needs}
 use Rattle.stars.proofs.rounds.is_led.Statement.{statement}
 use Rattle.stars.proofs.rounds.is_led.Tie as tie

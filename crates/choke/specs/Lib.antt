@@ -1,3 +1,0 @@
--- 01, "Reading": the choke set.
-pub mod ChokeSet
-pub mod Pre

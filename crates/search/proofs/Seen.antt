@@ -1,0 +1,70 @@
+-- From the lists that the walk works in to the choke bytes.
+use Prim.Native.Nat.{ℕ, _≤_}
+use mathlib.Core.Path.{_≡_, ap, _∙_}
+use mathlib.Core.Bool.{Bool, not}
+use mathlib.Core.List.{List}
+use native.Mathlib.Omega.{arith}
+use lib.Dec.{eqb}
+use lib.ListN.{length, take, replicate, length-replicate}
+use borrow.Author.Tests.{eq-eqb, ne-eqb}
+use Rattle.packing.specs.Count.{pick}
+use Rattle.packing.specs.Lists.{listOf, written}
+use Rattle.packing.specs.Plant.{NONE, at, common}
+use Rattle.search.specs.Search.{Search, seen, walk}
+use Rattle.search.specs.declared.Walked.{Walked}
+use Rattle.search.specs.declared.Walked.the-variants.{Found, RanOut}
+use Rattle.search.specs.Pre.{outcome, Is, Lent, Walkable}
+use Rattle.search.specs.ChokeSet.{chokeWalk, seenIn, inChoke, chokeByte}
+use Rattle.search.specs.ChokePre.{Queued, Workable, seenByte}
+use Rattle.packing.proofs.Lists.{listOf-ext}
+use Rattle.search.proofs.Turns.{workspace}
+use Rattle.search.proofs.Left.{left-startable}
+
+-- a byte of one that is not seen, and of one that is
+pub byte-none : {k : ℕ} → k ≡ NONE → 0 ≡ pick (not (eqb k NONE)) 1
+byte-none {k} e = rw (eq-eqb k NONE e)
+
+pub byte-some : {k : ℕ} → (k ≡ NONE → ⊥) → 1 ≡ pick (not (eqb k NONE)) 1
+byte-some {k} e = rw (ne-eqb k NONE e)
+
+pub byte-seen : (from : List ℕ) (v : ℕ) {x : ℕ} → x ≡ pick (not (eqb (at from v) NONE)) 1 → x ≡ seenByte from v
+unfolding seenByte
+byte-seen from v e = e
+
+-- whoever is seen in the lent list is seen in the walk that it comes from
+pub walked-seen : (r : Walked) (queue from : List ℕ) {s : Search} → outcome r queue from ≡ s → (v : ℕ) → seen from v ≡ seenIn s v
+unfolding outcome seenIn
+walked-seen (Found u x) queue from e v = ap (λ (t : Search). seenIn t v) e
+walked-seen (RanOut tail) queue from e v = ap (λ (t : Search). seenIn t v) e
+
+module _ {n : ℕ} {hs queue from out queue' : List ℕ} {tail : ℕ} (w : Workable n hs queue from out) (q : Queued n hs queue' tail) where
+  -- the gateways without holder may be walked from
+  pub set-walkable : length queue' ≡ length queue → Walkable n hs queue' tail from
+  set-walkable same =
+      record {
+        start = rw (q .state) (left-startable n hs (w .lent .few));
+        holders = w .lent .holders;
+        within = q .within;
+        space = record { places = omega (arith, w .space .places); unseen = w .space .unseen };
+      }
+
+  -- the marks keep their number, which is n
+  marks-long : {m : ℕ} → m ≡ length from → m ≡ n
+  marks-long same = same ∙ rw (w .space .unseen) (length-replicate n NONE)
+
+  -- .. so there is a byte for each
+  pub set-places : {m : ℕ} → m ≡ length from → m ≤ length out
+  set-places same = omega (arith, marks-long same, w .lent .places)
+
+  -- the bytes of those seen in a walk with a limit of 0 are the choke bytes
+  pub set-written : (t : ℕ) (ls : List ℕ) {r : Walked} {queue'' from' new : List ℕ} → Is r queue'' from' (walk n (common t) ls hs (take tail queue')) → t ≡ 0 → length from' ≡ length from
+      → new ≡ written (length from') (listOf (length from') (seenByte from')) out → new ≡ written n (listOf n (chokeByte n ls hs)) out
+  unfolding chokeByte inChoke chokeWalk seenByte
+  set-written t ls {r} {queue''} {from'} d none same e =
+      (rw (marks-long same) at e)
+      ∙ ap (λ (l : List ℕ). written n l out)
+      (listOf-ext n (seenByte from') (chokeByte n ls hs) (λ v l. ap (λ (b : Bool). pick b 1) (walked-seen r queue'' from' (rw (q .state, none) at (d .state)) v)))
+
+-- the arrays to work in
+pub lent-workable : {n : ℕ} {hs out : List ℕ} → Lent n hs out → Workable n hs (replicate 1024 0) (take n (replicate 1024 NONE)) out
+lent-workable {n} l = record { lent = l; space = workspace n (l .few) }

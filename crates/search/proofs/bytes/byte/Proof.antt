@@ -1,0 +1,13 @@
+-- `byte` meets its contract.
+use Rattle.search.proofs.Seen.{byte-none, byte-some}
+use Rattle.search.proofs.bytes.byte.Statement.{statement}
+use Rattle.search.proofs.bytes.byte.Tie as tie
+
+returns : tie.Need-returns
+returns c = byte-none (c .if1 .taken)
+
+returns-2 : tie.Need-returns-2
+returns-2 c = byte-some (c .if1 .left)
+
+pub byte-spec : {M : Type 1} → statement M
+byte-spec = tie.close (tie.spec returns returns-2)

@@ -1,0 +1,34 @@
+-- `place_unheld` meets its contract.
+use borrow.Author.Needs.{needs}
+use Rattle.search.proofs.Turns.{place-marks, place-settles}
+use Rattle.search.proofs.place_unheld.Statement.{statement}
+use Rattle.search.proofs.place_unheld.Tie as tie
+
+slice-aggregate-settle : tie.Need-slice-aggregate-settle
+slice-aggregate-settle c = search needs
+
+array-borrow-prefix-from : tie.Need-array-borrow-prefix-from
+array-borrow-prefix-from c = search needs
+
+slice-aggregate-settle-2 : tie.Need-slice-aggregate-settle-2
+slice-aggregate-settle-2 c = place-marks _ (c .before .before .before .before .before .pre .few)
+
+settle-requires : tie.Need-settle-requires
+settle-requires c κs = place-settles (c .before .before .before .before .before .pre)
+
+same-length : tie.Need-same-length
+same-length c = search needs
+
+returns : tie.Need-returns
+returns c = search needs
+
+pub place-unheld-spec : {M : Type 1} → statement M
+place-unheld-spec =
+    tie.close
+    (tie.spec
+    slice-aggregate-settle
+    array-borrow-prefix-from
+    slice-aggregate-settle-2
+    settle-requires
+    same-length
+    returns)

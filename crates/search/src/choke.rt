@@ -1,0 +1,54 @@
+// The choke set (01, "Reading"), on plain lists and numbers.
+use crate::bytes::write_seen;
+use crate::start::queue_left;
+use crate::walk::walk;
+ghost use mathlib.Core.Path.{_≡_};
+ghost use Rattle.packing.specs.Lists.{listOf, written, fits};
+ghost use Rattle.search.specs.ChokeSet.{chokeByte, chokeWritten};
+ghost use Rattle.search.specs.ChokePre.{Workable};
+
+// Writes the choke bytes with a queue and marks to work in.
+fn write_set(
+    n: u16,
+    links: &[u16],
+    holders: &[u16],
+    queue: &mut [u16],
+    from: &mut [u16],
+    out: &mut [u8],
+)
+    requires { ⌜ Workable n (now holders) (now queue) (now from) (now out) ⌝ }
+    ensures { λ _. ⌜ now (out .exit) ≡ written n (listOf n (chokeByte n (now (links .entry)) (now (holders .entry)))) (now (out .entry)) ⌝ }
+{
+    let tail = queue_left(n, holders, queue);
+    walk(n as usize, 0, links, holders, queue, tail, from);
+    write_seen(from, out);
+}
+
+// Whether n is in range and both lists have n entries.
+fn is_fitting(n: u16, holders: &[u16], out: &[u8]) -> bool
+    ensures { λ r. ⌜ r ≡ fits n (now (holders .entry)) (now (out .entry)) ⌝ }
+{
+    if 1024 < n {
+        return false;
+    }
+    if holders.len() < n as usize {
+        return false;
+    }
+    (n as usize) <= out.len()
+}
+
+// Writes the choke bytes to the first n places of out, and answers whether n and the lengths fit; if not, nothing is changed.
+// The equation shuts out, for one, the set seen from the first gateway without holder alone; and a walk that stops at a gateway with a place free.
+pub fn choke_set(n: u16, links: &[u16], holders: &[u16], out: &mut [u8]) -> bool
+    ensures done { λ r. ⌜ r ≡ fits n (now (holders .entry)) (now (out .entry)) ⌝ }
+    ensures out { λ _. ⌜ now (out .exit) ≡ chokeWritten n (now (links .entry)) (now (holders .entry)) (now (out .entry)) ⌝ }
+{
+    if !is_fitting(n, holders, out) {
+        return false;
+    }
+    let mut queue = [0u16; 1024];
+    let mut from = [65535u16; 1024];
+    let end = n as usize;
+    write_set(n, links, holders, &mut queue, &mut from[..end], out);
+    true
+}
