@@ -7,7 +7,7 @@ use lib.ListN.{length, take, replicate, length-replicate, drop-of-length-le}
 use lib.Seq.{sets}
 use Rattle.packing.specs.Lists.{listOf, written}
 use Rattle.packing.specs.Plant.{at}
-use Rattle.packing.proofs.Lists.{listOf-length}
+use Rattle.packing.proofs.Lists.{listOf-length, written-room, written-front}
 use Rattle.stars.specs.Stars.{leaderList}
 use Rattle.search.specs.ChokeSet.{chokeByte}
 use Rattle.planner.specs.Refusals.{openRefusal}
@@ -19,12 +19,10 @@ use Rattle.planner.proofs.Agree.{Agrees, same-number, run-agrees, open-agrees}
 use Rattle.planner.proofs.Demands.{demand-two, demand-three}
 use Rattle.plant_file.specs.PlantFile.{fileN, fileT, fileLinks, fileRefusal}
 use Rattle.plant_file.proofs.Accepted.{file-fits}
-use Rattle.plant_file.proofs.Filled.{written-front}
 use Rattle.daemon.specs.Plan.{fileCalls, fileState, planRefusal, planLeaders, planChoke, fileLeaders, fileChoke, lowFirst, planBytes}
 use Rattle.daemon.specs.Claim.{FilePlan}
 use Rattle.daemon.proofs.Numbers.{plan-fine, plan-room}
 use Rattle.daemon.proofs.Accepted.{placedTold, open-accepted, read-accepted, file-tells}
-use Rattle.daemon.proofs.Steps.{written-room}
 use Rattle.daemon.proofs.Pairs.{both-written}
 
 -- the lists that the planner's calls are made with
@@ -92,8 +90,8 @@ pub record Front (n : ℕ) (front l : List ℕ) : Type 0 where
 
 written-has : (n : ℕ) (front lent : List ℕ) → length front ≡ n → Front n front (written n front lent)
 written-has n front lent e =
-    let is = written-front n front lent e refl in
-    record { room = written-room n front lent e refl; is = is; long = sym (ap length is ∙ e) }
+    let is = written-front n front lent e in
+    record { room = written-room n front lent e; is = is; long = sym (ap length is ∙ e) }
 
 -- the lists of 1,024 entries that the daemon's call writes from
 module _ (file : List ℕ) (z : fileRefusal file ≡ 0) {n : ℕ} (is : n ≡ fileN file) {a b : List ℕ} (ea : a ≡ own) (eb : b ≡ own) where

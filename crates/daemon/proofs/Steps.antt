@@ -4,9 +4,10 @@ use mathlib.Core.Path.{_≡_, refl, sym, ap, _∙_}
 use mathlib.Core.List.{List, [], _∷_, _++_}
 use native.Mathlib.Numerals.{add-one}
 use native.Mathlib.Omega.{arith}
-use lib.ListN.{length, take, drop, replicate, length-replicate, drop-of-length-le, length-append}
+use lib.ListN.{length, take, drop, replicate, length-replicate, drop-of-length-le}
 use Rattle.packing.specs.Plant.{at}
 use Rattle.packing.proofs.Flat.{pair-at}
+use Rattle.packing.proofs.Lists.{written-room, written-front}
 use Rattle.planner.specs.declared.Small.{Small}
 use Rattle.planner.specs.declared.Answer.{Answer}
 use Rattle.packing.specs.Lists.{written}
@@ -21,7 +22,6 @@ use Rattle.plant_file.specs.PlantFile.{fileN, fileT, fileM, fileLinks, fileOrde
 use Rattle.plant_file.specs.Walk.{linkAt}
 use Rattle.plant_file.specs.Load.{loadOrder}
 use Rattle.plant_file.proofs.Steps.{links-long, order-long, step-at}
-use Rattle.plant_file.proofs.Filled.{written-front}
 use Rattle.plant_file.proofs.Parts.{load-fine}
 use Rattle.plant_file.proofs.Accepted.{file-fits}
 use Rattle.daemon.specs.Plan.{fileCalls, fileState}
@@ -78,17 +78,13 @@ loaded file {links} {numbers} {new} f e g =
 pub fits-order : (file : List ℕ) {numbers : List ℕ} → fileRefusal file ≡ 0 → numbers ≡ replicate 1024 0 → Fits file numbers
 fits-order file z e = record { fine = z; room = rw (e, length-replicate) (file-fits file z .few) }
 
-pub written-room : (n : ℕ) (front lent : List ℕ) {l : List ℕ} → length front ≡ n → l ≡ written n front lent → n ≤ length l
-unfolding written
-written-room n front lent e f = rw f (omega (arith, length-append front (drop n lent)))
-
 pub order-room : (file lent : List ℕ) {n : ℕ} {l : List ℕ} → n ≡ fileN file → l ≡ written (fileN file) (fileOrder file) lent → n ≤ length l
-order-room file lent e f = rw e (written-room (fileN file) (fileOrder file) lent (order-long file) f)
+order-room file lent e f = rw (f, e) (written-room (fileN file) (fileOrder file) lent (order-long file))
 
 pub ordered : (file lent : List ℕ) (s : Small) (ls os hs : List ℕ) {n : ℕ} {l os' : List ℕ} {r : Answer} → n ≡ fileN file → l ≡ written (fileN file) (fileOrder file) lent
     → r ≡ orderAnswer s ls os hs (take n l) → os' ≡ orderOrder s ls os hs (take n l) → stateOf (r .small) ls os' hs ≡ step (stateOf s ls os hs) (order (fileOrder file))
 unfolding step
-ordered file lent s ls os hs e f g h = rw (g, h, e, written-front (fileN file) (fileOrder file) lent (order-long file) f)
+ordered file lent s ls os hs e f g h = rw (g, h, e, f, written-front (fileN file) (fileOrder file) lent (order-long file))
 
 -- i placings
 pub record Placing (n : ℕ) (first now : State) (i : ℕ) : Type 0 where

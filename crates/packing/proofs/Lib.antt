@@ -1,6 +1,7 @@
 -- The mathematics of star packings, by subject.
 pub mod Tests
 pub mod Sums
+pub mod Counting
 pub mod Flat
 pub mod Lists
 pub mod Tight

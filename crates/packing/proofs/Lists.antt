@@ -1,19 +1,20 @@
--- Laws of lists of values, and of a loop that writes one to the front of a lent list, an entry a turn.
+-- Laws of lists of values and of those with a property, and of the loops that write one to the front of a lent list.
 use Prim.Native.Nat.{ℕ, zero, suc, _+_, _<_, _≤_}
 use mathlib.Core.Path.{_≡_, refl, sym, ap, _∙_}
 use mathlib.Core.Logic.{⊎-elim}
 use mathlib.Core.Bool.{Bool, true, false, cond, _||_, or-assoc, false≢true}
-use mathlib.Core.List.{List, [], _∷_, _++_}
-use native.Mathlib.Nat.{not-suc-le-zero}
+use mathlib.Core.List.{List, [], _∷_, _++_, append-nil}
+use native.Mathlib.Nat.{not-suc-le-zero, le-antisymm}
 use native.Mathlib.Numerals.{add-one}
 use native.Mathlib.Omega.{arith}
 use lib.Dec.{eqb}
-use lib.ListN.{length, getD, set, drop, length-append, length-set, List·getD-append}
-use lib.Seq.{getD-at, drop-cons, set-at, append-snoc, ext-getD, length-front}
+use lib.ListN.{length, getD, set, take, drop, replicate, length-append, length-drop, length-set, replicate-append-replicate, List·getD-append}
+use lib.Seq.{getD-at, drop-cons, set-at, take-at, append-snoc, ext-getD}
 use borrow.Author.Tests.{eqb-true, eq-eqb, leb-true, le-leb}
 use Rattle.packing.specs.Count.{pick, sum, count}
-use Rattle.packing.specs.Lists.{listOf, listWhere, fits}
+use Rattle.packing.specs.Lists.{listOf, listWhere, written, fits}
 use Rattle.packing.proofs.Tests.{tests, below-suc, or-cases, or-l, or-r}
+use Rattle.packing.proofs.Counting.{Tallied, tally-start, tally-more, tally-same, tally-less, tally-end}
 use Rattle.packing.proofs.Links.{memberOf}
 
 pub listOf-length : (n : ℕ) (f : ℕ → ℕ) → length (listOf n f) ≡ n
@@ -33,69 +34,31 @@ listOf-at (suc n) f i l =
     below-suc i n l (λ q. rw q (getD-at (listOf n f) (f n) [] 0 n (listOf-length n f)))
     (λ q. List·getD-append (listOf n f) (f n ∷ []) 0 i (omega (arith, listOf-length n f)) ∙ listOf-at n f i q)
 
--- .. where the list is the front of a longer one
-pub front-at : (n : ℕ) (f : ℕ → ℕ) (rest : List ℕ) (i : ℕ) → i < n → getD (listOf n f ++ rest) i 0 ≡ f i
-front-at n f rest i l = List·getD-append (listOf n f) rest 0 i (omega (arith, listOf-length n f)) ∙ listOf-at n f i l
+-- the list of a constant
+pub listOf-same : (n x : ℕ) → listOf n (λ i. x) ≡ replicate n x
+unfolding listOf
+listOf-same zero x = refl
+listOf-same (suc n) x = rw (listOf-same n x) (replicate-append-replicate n 1 x ∙ ap (λ (k : ℕ). replicate k x) (add-one n))
 
 -- a list is the list of its entries
 pub list-is : (l : List ℕ) → l ≡ listOf (length l) (λ i. getD l i 0)
 list-is l = ext-getD 0 l (listOf (length l) (λ i. getD l i 0)) (sym (listOf-length (length l) (λ i. getD l i 0))) (λ i h. sym (listOf-at (length l) (λ i. getD l i 0) i h))
 
-pub front-length : (n : ℕ) (f : ℕ → ℕ) (old : List ℕ) → n ≤ length old → length (listOf n f ++ drop n old) ≡ length old
-front-length n f old h = omega (arith, length-append (listOf n f) (drop n old), listOf-length n f, lib.ListN.length-drop n old)
+-- those below n with p: their number
+pub listWhere-length : (n : ℕ) (p : ℕ → Bool) → length (listWhere n p) ≡ count n p
+unfolding listWhere count sum
+listWhere-length zero p = refl
+listWhere-length (suc n) p = length-append (listWhere n p) (cond (p n) (n ∷ []) []) ∙ rw (listWhere-length n p) (ap (λ (k : ℕ). count n p + k) (one (p n)))
+  where
+    one : (b : Bool) → length (cond b (n ∷ []) []) ≡ pick b 1
+    one true = refl
+    one false = refl
 
--- the first v values were written over old
-pub record Listed (n : ℕ) (f : ℕ → ℕ) (old new : List ℕ) (v : ℕ) : Type 0 where
-  pub upto : v ≤ n
-  pub same : length new ≡ length old
-  pub list : new ≡ listOf v f ++ drop v old
-
-module _ (n : ℕ) (f : ℕ → ℕ) (old : List ℕ) where
-  pub list-start : Listed n f old old 0
-  unfolding listOf
-  list-start = record { upto = omega arith; same = refl; list = refl }
-
-  pub list-turn : {new : List ℕ} {v x : ℕ} → n ≤ length old → Listed n f old new v → v < n → x ≡ f v → Listed n f old (set new v x) (v + 1)
-  unfolding listOf
-  list-turn {new} {v} {x} room t h e =
-      let inside : v < length old = omega arith in
-      record {
-        upto = omega arith;
-        same = length-set new v x ∙ t .same;
-        list =
-            rw (add-one, t .list, drop-cons old v 0 inside)
-            (set-at (listOf v f) (getD old v 0) (drop (suc v) old) x v (listOf-length v f) ∙ rw e (sym (append-snoc (listOf v f) (f v) (drop (suc v) old))));
-      }
-
-  pub list-end : {new : List ℕ} {v : ℕ} → Listed n f old new v → n ≤ v → new ≡ listOf n f ++ drop n old
-  list-end {new} {v} t h = rw (last t h) at (t .list)
-    where
-      last : Listed n f old new v → n ≤ v → v ≡ n
-      last r k = omega arith
-
--- what the test of n and the lengths says, and what it takes
-pub fits-means : (n : ℕ) (read out : List ℕ) → fits n read out ≡ true → (n ≤ 1024) × (n ≤ length read) × (n ≤ length out)
-unfolding fits
-fits-means n read out e = search (tests, leb-true)
-
-pub fits-holds : (n : ℕ) (read out : List ℕ) → n ≤ 1024 → n ≤ length read → n ≤ length out → fits n read out ≡ true
-unfolding fits
-fits-holds n read out few held room = rw (le-leb n 1024 few, le-leb n (length read) held, le-leb n (length out) room)
-
+-- .. and who they are
 pub member-append : (l k : List ℕ) (y : ℕ) → memberOf (l ++ k) y ≡ (memberOf l y || memberOf k y)
 unfolding memberOf
 member-append [] k y = refl
 member-append (a ∷ l) k y = rw (member-append l k y) (sym (or-assoc (eqb a y) (memberOf l y) (memberOf k y)))
-
--- those below n with p: their number, and who they are
-pub listWhere-length : (n : ℕ) (p : ℕ → Bool) → length (listWhere n p) ≡ count n p
-unfolding listWhere count sum
-listWhere-length zero p = refl
-listWhere-length (suc n) p = length-append (listWhere n p) _ ∙ rw (listWhere-length n p) (last (p n))
-  where
-    last : (b : Bool) → count n p + length (cond b (n ∷ []) []) ≡ count n p + pick b 1
-    last true = refl
-    last false = refl
 
 pub listWhere-in : (n : ℕ) (p : ℕ → Bool) (v : ℕ) → v < n → p v ≡ true → memberOf (listWhere n p) v ≡ true
 unfolding listWhere memberOf
@@ -115,3 +78,103 @@ listWhere-out (suc n) p v e =
     last : (b : Bool) → p n ≡ b → memberOf (cond b (n ∷ []) []) v ≡ true → (v < suc n) × (p v ≡ true)
     last true f q = let here : n ≡ v = eqb-true n v (⊎-elim (λ r. r) (λ r. absurd (false≢true r)) (or-cases (eqb n v) false q)) in (omega arith, rw (← here) f)
     last false f q = absurd (false≢true q)
+
+-- .. and one more below n + 1, or none
+listWhere-more : (n : ℕ) (p : ℕ → Bool) → p n ≡ true → listWhere (n + 1) p ≡ listWhere n p ++ (n ∷ [])
+unfolding listWhere
+listWhere-more n p e = rw (add-one, e)
+
+listWhere-same : (n : ℕ) (p : ℕ → Bool) → p n ≡ false → listWhere (n + 1) p ≡ listWhere n p
+unfolding listWhere
+listWhere-same n p e = rw (add-one, e) (append-nil (listWhere n p))
+
+-- A lent list whose first n entries are written, by any front of n entries: its length, its entries there, and that front
+module _ (n : ℕ) (front lent : List ℕ) (long : length front ≡ n) where
+  pub written-length : n ≤ length lent → length (written n front lent) ≡ length lent
+  unfolding written
+  written-length room = omega (arith, long, length-append front (drop n lent), length-drop n lent)
+
+  pub written-room : n ≤ length (written n front lent)
+  unfolding written
+  written-room = omega (arith, long, length-append front (drop n lent))
+
+  pub written-at : (i : ℕ) → i < n → getD (written n front lent) i 0 ≡ getD front i 0
+  unfolding written
+  written-at i l = List·getD-append front (drop n lent) 0 i (omega arith)
+
+  pub written-front : take n (written n front lent) ≡ front
+  unfolding written
+  written-front = take-at front (drop n lent) n long
+
+  -- one entry more
+  written-more : (x : ℕ) → n < length lent → set (written n front lent) n x ≡ written (n + 1) (front ++ (x ∷ [])) lent
+  unfolding written
+  written-more x h = rw (add-one, drop-cons lent n 0 h) (set-at front (getD lent n 0) (drop (suc n) lent) x n long ∙ sym (append-snoc front x (drop (suc n) lent)))
+
+-- .. where the front is a list of values
+pub listed-at : (n : ℕ) (f : ℕ → ℕ) (lent : List ℕ) (i : ℕ) → i < n → getD (written n (listOf n f) lent) i 0 ≡ f i
+listed-at n f lent i l = written-at n (listOf n f) lent (listOf-length n f) i l ∙ listOf-at n f i l
+
+-- the first v values were written over old
+pub record Listed (n : ℕ) (f : ℕ → ℕ) (old new : List ℕ) (v : ℕ) : Type 0 where
+  pub upto : v ≤ n
+  pub same : length new ≡ length old
+  pub list : new ≡ written v (listOf v f) old
+
+module _ (n : ℕ) (f : ℕ → ℕ) (old : List ℕ) where
+  pub list-start : Listed n f old old 0
+  unfolding listOf written
+  list-start = record { upto = omega arith; same = refl; list = refl }
+
+  pub list-turn : {new : List ℕ} {v x : ℕ} → n ≤ length old → Listed n f old new v → v < n → x ≡ f v → Listed n f old (set new v x) (v + 1)
+  list-turn {new} {v} {x} room t h e =
+      record {
+        upto = omega arith;
+        same = length-set new v x ∙ t .same;
+        list = rw (t .list, e) (written-more v (listOf v f) old (listOf-length v f) (f v) (omega arith) ∙ ap (λ (l : List ℕ). written (v + 1) l old) next);
+      }
+    where
+      next : listOf v f ++ (f v ∷ []) ≡ listOf (v + 1) f
+      next = unfold listOf in rw add-one
+
+  pub list-end : {new : List ℕ} {v : ℕ} → Listed n f old new v → n ≤ v → new ≡ written n (listOf n f) old
+  list-end t h = rw (le-antisymm (t .upto) h) at (t .list)
+
+-- those of the first w with p, k in number, were written over old
+pub record Gathered (n : ℕ) (p : ℕ → Bool) (old new : List ℕ) (k w : ℕ) : Type 0 where
+  pub tallied : Tallied n p k w
+  pub same : length new ≡ length old
+  pub list : new ≡ written k (listWhere w p) old
+
+module _ (n : ℕ) (p : ℕ → Bool) (old : List ℕ) where
+  pub gather-start : Gathered n p old old 0 0
+  unfolding listWhere written
+  gather-start = record { tallied = tally-start n p; same = refl; list = refl }
+
+  module _ {new : List ℕ} {k w : ℕ} {b : Bool} (g : Gathered n p old new k w) (h : w < n) (e : b ≡ p w) where
+    -- where w has p, there is a place for it
+    pub gather-place : length (listWhere n p) ≤ length old → b ≡ true → k < length old
+    gather-place room f = omega (arith, listWhere-length n p, tally-less n p (g .tallied) h e f)
+
+    pub gather-more : length (listWhere n p) ≤ length old → b ≡ true → Gathered n p old (set new k w) (k + 1) (w + 1)
+    gather-more room f =
+        record {
+          tallied = tally-more n p (g .tallied) h e f;
+          same = length-set new k w ∙ g .same;
+          list = rw (g .list, listWhere-more w p (sym e ∙ f)) (written-more k (listWhere w p) old (listWhere-length w p ∙ sym (g .tallied .counted)) w (gather-place room f));
+        }
+
+    pub gather-same : b ≡ false → Gathered n p old new k (w + 1)
+    gather-same f = record { tallied = tally-same n p (g .tallied) h e f; same = g .same; list = rw (listWhere-same w p (sym e ∙ f)) (g .list) }
+
+  pub gather-end : {new : List ℕ} {k w : ℕ} → Gathered n p old new k w → n ≤ w → (k ≡ length (listWhere n p)) × (new ≡ written k (listWhere n p) old)
+  gather-end g h = (tally-end n p (g .tallied) h ∙ sym (listWhere-length n p), rw (le-antisymm (g .tallied .upto) h) at (g .list))
+
+-- what the test of n and the lengths says, and what it takes
+pub fits-means : (n : ℕ) (read out : List ℕ) → fits n read out ≡ true → (n ≤ 1024) × (n ≤ length read) × (n ≤ length out)
+unfolding fits
+fits-means n read out e = search (tests, leb-true)
+
+pub fits-holds : (n : ℕ) (read out : List ℕ) → n ≤ 1024 → n ≤ length read → n ≤ length out → fits n read out ≡ true
+unfolding fits
+fits-holds n read out few held room = rw (le-leb n 1024 few, le-leb n (length read) held, le-leb n (length out) room)

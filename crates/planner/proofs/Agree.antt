@@ -1,24 +1,20 @@
 -- A record run through a list of calls agrees with what the calls tell, and is one made by accepted calls.
 use Prim.Native.Nat.{ℕ, zero, suc, _+_, _*_, _<_, _≤_}
 use mathlib.Core.Path.{_≡_, refl, sym, ap, _∙_}
-use mathlib.Core.Bool.{Bool, true, false, not}
+use mathlib.Core.Bool.{true}
 use mathlib.Core.List.{List, [], _∷_, _++_}
-use native.Mathlib.Omega.{arith}
-use lib.ListN.{length, set, drop, replicate, length-set, List·getD-append}
-use Rattle.packing.specs.Lists.{listOf, written}
-use Rattle.packing.specs.Plant.{NONE, at, common, firstLinks, linked}
-use Rattle.packing.proofs.Lists.{front-at, listOf-at}
-use Rattle.packing.proofs.Prefixes.{IsOrder}
-use Rattle.search.specs.Search.{placedHolders}
+use lib.ListN.{length, length-set}
+use Rattle.packing.specs.Plant.{at, firstLinks}
+use Rattle.packing.proofs.Lists.{listOf-at, written-at, listed-at}
 use Rattle.sound.specs.Sound.{isSound}
 use Rattle.sound.proofs.Meaning.{means-sound}
 use Rattle.planner.specs.declared.Small.{Small}
 use Rattle.planner.specs.Lists.{upTo}
-use Rattle.planner.specs.Refusals.{refuse, openRefusal, linkConditions, orderConditions, placeConditions, readConditions}
-use Rattle.planner.specs.Calls.{byNumber, opened, openAnswer, openOrder, openHolders, linkRefusal, linkAnswer, linkLinks, orderRefusal, orderAnswer, orderOrder, placeRefusal, placeAnswer, placeHolders, readRefusal, readAnswer}
+use Rattle.planner.specs.Refusals.{openRefusal}
+use Rattle.planner.specs.Calls.{byNumber, openAnswer, openOrder, openHolders, linkRefusal, linkAnswer, linkLinks, orderRefusal, orderAnswer, orderOrder, placeRefusal, placeAnswer, placeHolders, readRefusal, readAnswer}
 use Rattle.planner.specs.Told.{Call, link, order, place, read, Told, beginning, refuses, accepted, tellOne, tell, toldNumbers}
 use Rattle.planner.specs.Run.{State, afterOpen, answers, step, run, runNumbers}
-use Rattle.planner.proofs.Answers.{open-fits, link-fits, order-fits, place-fits}
+use Rattle.planner.proofs.Answers.{sound-number, open-fits, link-fits, order-fits, place-fits}
 use Rattle.planner.proofs.Orders.{order-right}
 use Rattle.planner.proofs.Made.{Made, links-appended, made-open, made-link, made-order, made-place}
 
@@ -33,10 +29,6 @@ pub record Agrees (s : State) (p : Told) : Type 0 where
   pub order : (i : ℕ) → i < p .n → at (s .order) i ≡ at (p .order) i
   pub made : Made (p .n) (p .t) (p .m) (p .placed) (s .links) (s .order) (s .holders)
 
--- a sound record gives no 26
-past-26 : {b : Bool} (rest : ℕ) → b ≡ true → refuse (not b) 26 rest ≡ rest
-past-26 rest e = rw e
-
 module _ {s : State} {p : Told} (a : Agrees s p) where
   sound : isSound (s .small .n) (s .small .t) (s .small .m) (s .small .k) (s .links) (s .order) (s .holders) ≡ true
   sound = rw (a .small) (means-sound _ _ _ _ _ _ _ (a .made .sound))
@@ -44,13 +36,13 @@ module _ {s : State} {p : Told} (a : Agrees s p) where
   -- the record gives the numbers that were told
   pub same-number : (c : Call) → answers s c ≡ refuses p c
   unfolding answers refuses linkAnswer orderAnswer placeAnswer readAnswer linkRefusal orderRefusal placeRefusal readRefusal
-  same-number (link x y) = past-26 _ sound ∙ rw (a .small, a .links, a .room)
-  same-number (order numbers) = past-26 _ sound ∙ rw (a .small)
-  same-number place = past-26 _ sound ∙ rw (a .small)
-  same-number (read leaders choke) = past-26 _ sound ∙ rw (a .small)
+  same-number (link x y) = sym (sound-number refl sound refl) ∙ rw (a .small, a .links, a .room)
+  same-number (order numbers) = sym (sound-number refl sound refl) ∙ rw (a .small)
+  same-number place = sym (sound-number refl sound refl) ∙ rw (a .small)
+  same-number (read leaders choke) = sym (sound-number refl sound refl) ∙ rw (a .small)
 
   -- an accepted call takes the record to what it tells
-  pub accepted-agrees : (c : Call) → refuses p c ≡ 0 → answers s c ≡ 0 → Agrees (step s c) (accepted p c)
+  accepted-agrees : (c : Call) → refuses p c ≡ 0 → answers s c ≡ 0 → Agrees (step s c) (accepted p c)
   unfolding answers step accepted refuses linkAnswer linkLinks orderAnswer orderOrder placeAnswer placeHolders readAnswer
   accepted-agrees (link x y) told z =
       let f = link-fits (p .n) (p .placed) (p .m) (p .links) (p .room) x y refl told in
@@ -68,12 +60,9 @@ module _ {s : State} {p : Told} (a : Agrees s p) where
         small = rw (z, a .small);
         links = a .links;
         room = a .room;
-        order = λ i l. rw (z, a .small) (front i l (f .1));
+        order = λ i l. rw (z, a .small) (written-at (p .n) numbers (s .order) (f .1) i l);
         made = rw (z, a .small) (made-order (a .made) numbers (f .0) (f .1) (order-right (p .n) numbers (f .2)));
       }
-    where
-      front : (i : ℕ) → i < p .n → length numbers ≡ p .n → at (written (p .n) numbers (s .order)) i ≡ at numbers i
-      front i l long = unfold written in List·getD-append numbers (drop (p .n) (s .order)) 0 i (omega arith)
   accepted-agrees place told z =
       record {
         small = rw (z, a .small);
@@ -93,7 +82,7 @@ step-refused s place e f = rw f
 step-refused s (read leaders choke) e f = rw f
 
 -- one call, accepted or refused
-pub step-agrees : {s : State} {p : Told} → Agrees s p → (c : Call) → Agrees (step s c) (tellOne p c)
+step-agrees : {s : State} {p : Told} → Agrees s p → (c : Call) → Agrees (step s c) (tellOne p c)
 unfolding tellOne
 step-agrees {s} {p} a c = go (refuses p c) refl
   where
@@ -114,13 +103,13 @@ same-numbers {s} {p} a (c ∷ calls) = ap (λ (e : ℕ). e ∷ runNumbers (step 
 
 -- an accepted open begins it
 pub open-agrees : (n t : ℕ) (ls os hs : List ℕ) → openRefusal n t os hs ≡ 0 → Agrees (afterOpen n t ls os hs) (beginning n t (length ls))
-unfolding afterOpen beginning openAnswer openOrder openHolders firstLinks upTo written
+unfolding afterOpen beginning openAnswer openOrder openHolders firstLinks upTo
 open-agrees n t ls os hs z =
     let f = open-fits n t os hs refl z in
     record {
       small = rw z;
       links = refl;
       room = refl;
-      order = λ i l. rw z (front-at n (λ j. j) (drop n os) i l ∙ sym (listOf-at n (λ j. j) i l));
-      made = rw z (unfold written upTo in made-open n t ls os hs (f .0) (f .1) (f .2) (f .3) (f .4));
+      order = λ i l. rw z (listed-at n (λ j. j) os i l ∙ sym (listOf-at n (λ j. j) i l));
+      made = rw z (unfold upTo in made-open n t ls os hs (f .0) (f .1) (f .2) (f .3) (f .4));
     }

@@ -1,7 +1,7 @@
 -- Laws of refusals: what a number says of the conditions, and what answer and lists it gives.
 use Prim.Native.Nat.{ℕ, zero, suc, _+_, _*_, _<_, _≤_}
 use mathlib.Core.Path.{_≡_, refl, sym, ap, _∙_}
-use mathlib.Core.Bool.{Bool, true, false, not, _&&_, _||_, true≢false}
+use mathlib.Core.Bool.{Bool, true, false, not, _||_}
 use mathlib.Core.List.{List}
 use native.Mathlib.Omega.{arith}
 use lib.Dec.{eqb, ltb, leb}
@@ -24,19 +24,6 @@ pub refuse-none : (b : Bool) (e later : ℕ) → 0 < e → refuse b e later ≡ 
 refuse-none true e later p q = absurd (omega arith)
 refuse-none false e later p q = (refl, q)
 
-pub refuse-met : (b : Bool) (e later : ℕ) → b ≡ true → e ≡ refuse b e later
-refuse-met b e later h = rw h
-
-pub refuse-next : (b : Bool) (e later : ℕ) {r : ℕ} → b ≡ false → r ≡ later → r ≡ refuse b e later
-refuse-next b e later h g = rw h g
-
--- a disjunction gathered by two tests
-pub either-met : {b p : Bool} (q : Bool) → b ≡ p → b ≡ true → true ≡ (p || q)
-either-met q e f = rw (sym e ∙ f)
-
-pub either-next : {b c p q : Bool} → b ≡ p → b ≡ false → c ≡ q → c ≡ (p || q)
-either-next e f g = rw (sym e ∙ f) g
-
 module _ {A : Type 0} (changed kept : A) where
   by-refused : (e : ℕ) → (e ≡ 0 → ⊥) → kept ≡ byNumber e changed kept
   by-refused zero h = absurd (h refl)
@@ -49,10 +36,10 @@ module _ {A : Type 0} (changed kept : A) where
   pub accepted : {e r : ℕ} {l : A} → e ≡ r → e ≡ 0 → l ≡ changed → l ≡ byNumber r changed kept
   accepted g z h = rw (sym g ∙ z) h
 
-pub refused-answer : (changed kept : Small) {e r : ℕ} → e ≡ r → (e ≡ 0 → ⊥) → _≡_ {A = Answer} (record { refusal = e; small = kept }) (answer r changed kept)
+refused-answer : (changed kept : Small) {e r : ℕ} → e ≡ r → (e ≡ 0 → ⊥) → _≡_ {A = Answer} (record { refusal = e; small = kept }) (answer r changed kept)
 refused-answer changed kept g h = λ i. record { refusal = g i; small = refused changed kept g h i }
 
-pub accepted-answer : (changed kept : Small) {e r : ℕ} → e ≡ r → e ≡ 0 → _≡_ {A = Answer} (record { refusal = 0; small = changed }) (answer r changed kept)
+accepted-answer : (changed kept : Small) {e r : ℕ} → e ≡ r → e ≡ 0 → _≡_ {A = Answer} (record { refusal = 0; small = changed }) (answer r changed kept)
 accepted-answer changed kept g z = rw (sym g ∙ z)
 
 pub open-fits : (n t : ℕ) (os hs : List ℕ) {e : ℕ} → e ≡ openRefusal n t os hs → e ≡ 0 → (n ≤ 1024) × (2 ≤ t) × (t ≤ 16) × (n ≤ length os) × (n ≤ length hs)

@@ -1,19 +1,18 @@
 -- The claims of specs/Claims.antt.
-use Prim.Native.Nat.{ℕ, zero, suc, _+_, _<_, _≤_}
+use Prim.Native.Nat.{ℕ, zero, suc, _<_, _≤_}
 use mathlib.Core.Path.{_≡_, refl, sym, ap, _∙_}
 use mathlib.Core.Bool.{Bool, true, false, not}
-use mathlib.Core.List.{List, [], _∷_, _++_}
+use mathlib.Core.List.{List, [], _∷_}
 use native.Mathlib.Omega.{arith}
 use lib.Dec.{eqb}
-use lib.ListN.{length, drop}
+use lib.ListN.{length}
 use Rattle.packing.specs.Count.{pick, count}
-use Rattle.packing.specs.Lists.{listOf, written}
 use Rattle.packing.specs.Plant.{NONE, at, common, linked}
 use Rattle.packing.specs.Grouping.{Grouping, covered, countFirst, coveredFirst}
 use Rattle.packing.specs.Holders.{held}
 use Rattle.packing.specs.Choke.{ChokeDifference}
 use Rattle.packing.proofs.Sums.{count-ext}
-use Rattle.packing.proofs.Lists.{front-at}
+use Rattle.packing.proofs.Lists.{listed-at}
 use Rattle.packing.proofs.Prefixes.{order-whole}
 use Rattle.packing.proofs.Below.{grouping-below, difference-below}
 use Rattle.stars.specs.Stars.{leaderList}
@@ -45,12 +44,12 @@ tells-n p (c ∷ calls) = let later = tells-n (tellOne p c) calls in (later .0 �
 -- what a record and what was told say of an accepted read
 module _ {s : State} {p : Told} (a : Agrees s p) (leaders choke : List ℕ) (z : refuses p (read leaders choke) ≡ 0) where
   leaders-are : (v : ℕ) → v < p .n → leaderList (p .n) (s .holders) v ≡ leadersRead s leaders choke v
-  unfolding readLeaders readAnswer answers written
-  leaders-are v l = sym (rw (same-number a (read leaders choke) ∙ z, a .small) (front-at (p .n) (leaderList (p .n) (s .holders)) (drop (p .n) leaders) v l))
+  unfolding readLeaders readAnswer answers
+  leaders-are v l = sym (rw (same-number a (read leaders choke) ∙ z, a .small) (listed-at (p .n) (leaderList (p .n) (s .holders)) leaders v l))
 
   choke-at : (v : ℕ) → v < p .n → at (readChoke (s .small) (s .links) (s .order) (s .holders) leaders choke) v ≡ chokeByte (p .n) (p .links) (s .holders) v
-  unfolding readChoke readAnswer answers written
-  choke-at v l = rw (same-number a (read leaders choke) ∙ z, a .small, a .links) (front-at (p .n) (chokeByte (p .n) (p .links) (s .holders)) (drop (p .n) choke) v l)
+  unfolding readChoke readAnswer answers
+  choke-at v l = rw (same-number a (read leaders choke) ∙ z, a .small, a .links) (listed-at (p .n) (chokeByte (p .n) (p .links) (s .holders)) choke v l)
 
   choke-is : (v : ℕ) → v < p .n → inChoke (p .n) (p .links) (s .holders) v ≡ chokeRead s leaders choke v
   unfolding chokeByte

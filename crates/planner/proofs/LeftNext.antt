@@ -1,8 +1,8 @@
 -- The sentence under Placing: the next gateway is left exactly if nothing covers it together with all kept before it.
-use Prim.Native.Nat.{ℕ, _+_, _<_, _≤_}
-use mathlib.Core.Path.{_≡_, refl, sym, ap, _∙_}
+use Prim.Native.Nat.{ℕ, _+_, _<_}
+use mathlib.Core.Path.{_≡_, refl, sym, _∙_}
 use mathlib.Core.Logic.{_↔_, ⊎-elim}
-use mathlib.Core.Bool.{Bool, true, false, _||_}
+use mathlib.Core.Bool.{Bool, true, false}
 use mathlib.Core.List.{List}
 use native.Mathlib.Omega.{arith}
 use lib.Dec.{eqb}
@@ -14,7 +14,6 @@ use Rattle.packing.specs.Holders.{held, Feasible}
 use Rattle.packing.proofs.Tests.{by-bool, clash, or-l, or-r}
 use Rattle.packing.proofs.Prefixes.{blocked-holders, blocked-groupings}
 use Rattle.search.specs.Search.{placedHolders}
-use Rattle.search.proofs.Shifting.{Kept}
 use Rattle.search.proofs.Placing.{Left, place-cases}
 use Rattle.stars.specs.Stars.{leaderList}
 use Rattle.planner.specs.Calls.{placeAnswer, placeHolders}
@@ -103,7 +102,7 @@ module _ {s : State} {p : Told} (a : Agrees s p) (more : p .placed < p .n) where
   next-same : held (p .n) (at (step s place .holders)) (at (p .order) (p .placed)) ≡ held (p .n) (at after) (at (s .order) (p .placed))
   next-same = rw (holders-after, a .order (p .placed) more)
 
-  pub exactly-groupings : (held (p .n) (at (step s place .holders)) (at (p .order) (p .placed)) ≡ false)
+  exactly-groupings : (held (p .n) (at (step s place .holders)) (at (p .order) (p .placed)) ≡ false)
       ↔ ((g : ℕ → ℕ) → Grouping (p .n) (common (p .t)) (linked (p .links)) g → CoversKept (p .n) p s (p .placed) (covered g) → ⊥)
   exactly-groupings = (
     λ e g group c. left-groupings (sym next-same ∙ e) g (rw (a .links) group) (by-own-order (covered g) c),
@@ -111,7 +110,7 @@ module _ {s : State} {p : Told} (a : Agrees s p) (more : p .placed < p .n) where
         (λ e. absurd (no (leaderList (p .n) after) (rw (a .links) at (leaders-grouping (made-after .sound))) (by-told-order _ (kept-covered e)))) (λ e. e),
   )
 
-  pub exactly-holders : (held (p .n) (at (step s place .holders)) (at (p .order) (p .placed)) ≡ false)
+  exactly-holders : (held (p .n) (at (step s place .holders)) (at (p .order) (p .placed)) ≡ false)
       ↔ ((h : ℕ → ℕ) → Feasible (p .n) (common (p .t)) (linked (p .links)) h → CoversKept (p .n) p s (p .placed) (held (p .n) h) → ⊥)
   exactly-holders = (
     λ e h f c. left-holders (sym next-same ∙ e) h (rw (a .links) f) (by-own-order (held (p .n) h) c),

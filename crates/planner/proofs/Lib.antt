@@ -1,5 +1,4 @@
 -- Laws of the calls, by subject.
-pub mod Fronts
 pub mod Answers
 pub mod Next
 pub mod Made

@@ -1,22 +1,22 @@
 -- The invariant of a record made by accepted calls, and that each accepted call keeps it.
-use Prim.Native.Nat.{ℕ, zero, suc, _+_, _*_, _<_, _≤_}
+use Prim.Native.Nat.{ℕ, suc, _+_, _*_, _<_, _≤_}
 use mathlib.Core.Path.{_≡_, refl, sym, ap, _∙_}
 use mathlib.Core.Logic.{_⊎_, inl, inr, ⊎-elim}
-use mathlib.Core.Bool.{Bool, true, false, _&&_, _||_, false≢true}
+use mathlib.Core.Bool.{Bool, true, false, _||_, false≢true}
 use mathlib.Core.List.{List, [], _∷_, _++_, append-assoc}
 use native.Mathlib.Nat.{not-suc-le-zero}
+use native.Mathlib.Numerals.{add-one}
 use native.Mathlib.Omega.{arith}
 use lib.Dec.{eqb, ltb}
-use lib.ListN.{length, getD, set, take, drop, replicate, length-set, length-append, length-drop, length-replicate, getD-replicate, List·getD-append}
-use lib.Seq.{length-take-le, take-suc-set, take-set-le}
-use borrow.Author.Tests.{eqb-true, eqb-false, eq-eqb, ne-eqb, ltb-true, ltb-false, lt-ltb, le-ltb}
-use Rattle.packing.specs.Count.{count}
+use lib.ListN.{length, set, take, replicate, length-set, length-replicate, getD-replicate}
+use lib.Seq.{length-take-le, take-suc-set}
+use borrow.Author.Tests.{eqb-true, eq-eqb, ne-eqb, ltb-true, ltb-false, lt-ltb}
 use Rattle.packing.specs.Lists.{listOf, written}
 use Rattle.packing.specs.Plant.{NONE, at, common, firstLinks, linked, joins}
 use Rattle.packing.specs.Holders.{held, holds, Feasible}
-use Rattle.packing.proofs.Tests.{by-bool, clash, and-l, and-r, or-l, or-r, or-cases, or-none, or-false-l, not-test, below-suc}
+use Rattle.packing.proofs.Tests.{by-bool, clash, or-l, or-r, or-cases, or-none, or-false-l, below-suc}
 use Rattle.packing.proofs.Sums.{count-none}
-use Rattle.packing.proofs.Lists.{front-at, front-length}
+use Rattle.packing.proofs.Lists.{listOf-length, written-length, written-at, listed-at}
 use Rattle.packing.proofs.Links.{linked-append}
 use Rattle.packing.proofs.Tight.{Blocked}
 use Rattle.packing.proofs.Pairs.{transfer-blocked}
@@ -25,7 +25,7 @@ use Rattle.search.specs.Search.{placedHolders}
 use Rattle.search.specs.Pre.{Placeable}
 use Rattle.search.proofs.Shifting.{Kept}
 use Rattle.search.proofs.Placing.{Left, place-cases, placed-range, placed-length}
-use Rattle.sound.proofs.Meaning.{Sound}
+use Rattle.sound.proofs.Meaning.{Sound, joined-ends}
 use Rattle.planner.specs.Lists.{upTo}
 use Rattle.planner.proofs.Next.{none-unheld, next-placeable}
 
@@ -46,7 +46,7 @@ unheld-feasible n limit adj hs few none =
 module _ (n t : ℕ) (ls os hs : List ℕ) where
   -- what open leaves
   pub made-open : n ≤ 1024 → 2 ≤ t → t ≤ 16 → n ≤ length os → n ≤ length hs → Made n t 0 0 ls (written n (upTo n) os) (written n (replicate n NONE) hs)
-  unfolding written upTo firstLinks linked
+  unfolding upTo firstLinks linked
   made-open few low high order holders =
       record {
         sound =
@@ -57,22 +57,22 @@ module _ (n t : ℕ) (ls os hs : List ℕ) where
               few-links = omega arith;
               placed = omega arith;
               links-long = omega arith;
-              order-long = omega (arith, front-length n (λ i. i) os order);
-              holders-long = omega (arith, length-append (replicate n NONE) (drop n hs), length-replicate n NONE, length-drop n hs);
+              order-long = omega (arith, written-length n (listOf n (λ i. i)) os (listOf-length n (λ i. i)) order);
+              holders-long = omega (arith, written-length n (replicate n NONE) hs (length-replicate n NONE) holders);
               ends = λ x y e. absurd (false≢true e);
               order = record { below = λ i l. omega (arith, place i l); once = λ i j l p e. omega (arith, place i l, place j p) };
               range = λ v l. inl (none v l);
-              feasible = unheld-feasible n (common t) (linked []) (replicate n NONE ++ drop n hs) few none;
-              free = λ i p l. none (at (listOf n (λ j. j) ++ drop n os) i) (omega (arith, place i l));
+              feasible = unheld-feasible n (common t) (linked []) (written n (replicate n NONE) hs) few none;
+              free = λ i p l. none (at (written n (listOf n (λ j. j)) os) i) (omega (arith, place i l));
             };
         left = λ i l e. absurd (not-suc-le-zero l);
       }
     where
-      place : (i : ℕ) → i < n → at (listOf n (λ j. j) ++ drop n os) i ≡ i
-      place i l = front-at n (λ j. j) (drop n os) i l
+      place : (i : ℕ) → i < n → at (written n (listOf n (λ j. j)) os) i ≡ i
+      place i l = listed-at n (λ j. j) os i l
 
-      none : (v : ℕ) → v < n → at (replicate n NONE ++ drop n hs) v ≡ NONE
-      none v l = List·getD-append (replicate n NONE) (drop n hs) 0 v (omega (arith, length-replicate n NONE)) ∙ getD-replicate n v NONE 0 l
+      none : (v : ℕ) → v < n → at (written n (replicate n NONE) hs) v ≡ NONE
+      none v l = written-at n (replicate n NONE) hs (length-replicate n NONE) v l ∙ getD-replicate n v NONE 0 l
 
 length-first : (m : ℕ) (ls : List ℕ) → 2 * m ≤ length ls → length (firstLinks m ls) ≡ 2 * m
 unfolding firstLinks
@@ -84,14 +84,11 @@ unfolding firstLinks
 links-appended m ls a b room =
     ap (λ (i : ℕ). take i (set (set ls (2 * m) a) (2 * m + 1) b)) two
     ∙ take-suc-set (set ls (2 * m) a) (2 * m + 1) b (rw length-set (omega arith))
-    ∙ ap (λ (l : List ℕ). l ++ (b ∷ [])) (ap (λ (i : ℕ). take i (set ls (2 * m) a)) one ∙ take-suc-set ls (2 * m) a (omega arith))
+    ∙ ap (λ (l : List ℕ). l ++ (b ∷ [])) (ap (λ (i : ℕ). take i (set ls (2 * m) a)) (add-one (2 * m)) ∙ take-suc-set ls (2 * m) a (omega arith))
     ∙ append-assoc (take (2 * m) ls) (a ∷ []) (b ∷ [])
   where
     two : 2 * (m + 1) ≡ suc (2 * m + 1)
     two = omega arith
-
-    one : 2 * m + 1 ≡ suc (2 * m)
-    one = omega arith
 
 module _ {n t m k : ℕ} {ls os hs : List ℕ} (made : Made n t m k ls os hs) where
   -- before the first placing nobody is held
@@ -113,7 +110,7 @@ module _ {n t m k : ℕ} {ls os hs : List ℕ} (made : Made n t m k ls os hs) wh
               links-long = simp length-set (omega arith);
               order-long = made .sound .order-long;
               holders-long = made .sound .holders-long;
-              ends = λ x y e. ⊎-elim (made .sound .ends x y) (new x y) (or-cases (linked (firstLinks m ls) x y) (joins a b x y) (sym (appended x y) ∙ e));
+              ends = λ x y e. ⊎-elim (made .sound .ends x y) (joined-ends n a b below-a below-b apart x y) (or-cases (linked (firstLinks m ls) x y) (joins a b x y) (sym (appended x y) ∙ e));
               order = made .sound .order;
               range = made .sound .range;
               feasible = unheld-feasible n (common t) (linked (firstLinks (m + 1) (set (set ls (2 * m) a) (2 * m + 1) b))) hs (made .sound .few) (none-held z);
@@ -125,16 +122,8 @@ module _ {n t m k : ℕ} {ls os hs : List ℕ} (made : Made n t m k ls os hs) wh
       appended : (x y : ℕ) → linked (firstLinks (m + 1) (set (set ls (2 * m) a) (2 * m + 1) b)) x y ≡ (linked (firstLinks m ls) x y || joins a b x y)
       appended x y = ap (λ (l : List ℕ). linked l x y) (links-appended m ls a b room) ∙ linked-append m (firstLinks m ls) a b x y (length-first m ls (omega arith))
 
-      new : (x y : ℕ) → joins a b x y ≡ true → (x < n) × (y < n) × (x ≡ y → ⊥)
-      new x y e =
-          ⊎-elim
-          (λ q. let u : a ≡ x = eqb-true a x (and-l (eqb a x) (eqb b y) q) in let v : b ≡ y = eqb-true b y (and-r (eqb a x) (eqb b y) q) in (omega arith, omega arith, λ r. apart (cc)))
-          (λ q. let u : a ≡ y = eqb-true a y (and-l (eqb a y) (eqb b x) q) in let v : b ≡ x = eqb-true b x (and-r (eqb a y) (eqb b x) q) in (omega arith, omega arith, λ r. apart (cc)))
-          (or-cases (eqb a x && eqb b y) (eqb a y && eqb b x) e)
-
   -- order keeps it
   pub made-order : (numbers : List ℕ) → k ≡ 0 → length numbers ≡ n → IsOrder n (at numbers) → Made n t m k ls (written n numbers os) hs
-  unfolding written
   made-order numbers z long right =
       record {
         sound =
@@ -145,19 +134,19 @@ module _ {n t m k : ℕ} {ls os hs : List ℕ} (made : Made n t m k ls os hs) wh
               few-links = made .sound .few-links;
               placed = made .sound .placed;
               links-long = made .sound .links-long;
-              order-long = omega (arith, length-append numbers (drop n os));
+              order-long = omega (arith, made .sound .order-long, written-length n numbers os long (made .sound .order-long));
               holders-long = made .sound .holders-long;
               ends = made .sound .ends;
               order = record { below = λ i l. rw (same i l) (right .below i l); once = λ i j p q e. right .once i j p q (sym (same i p) ∙ e ∙ same j q) };
               range = made .sound .range;
               feasible = made .sound .feasible;
-              free = λ i p l. none-held z (at (numbers ++ drop n os) i) (rw (same i l) (right .below i l));
+              free = λ i p l. none-held z (at (written n numbers os) i) (rw (same i l) (right .below i l));
             };
         left = λ i l e. absurd (omega arith);
       }
     where
-      same : (i : ℕ) → i < n → at (numbers ++ drop n os) i ≡ at numbers i
-      same i l = List·getD-append numbers (drop n os) 0 i (omega arith)
+      same : (i : ℕ) → i < n → at (written n numbers os) i ≡ at numbers i
+      same = written-at n numbers os long
 
   -- a held gateway stands among the placed
   held-placed : (x : ℕ) → x < n → held n (at hs) x ≡ true → (j : ℕ) × (j < k) × (at os j ≡ x)

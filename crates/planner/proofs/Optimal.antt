@@ -1,21 +1,18 @@
 -- What reading gives for a record made by accepted calls: the leader list is a grouping, covers what is held and, once all are placed, nothing else, and is optimal over every first k.
-use Prim.Native.Nat.{ℕ, _+_, _<_, _≤_}
-use mathlib.Core.Path.{_≡_, refl, sym, ap, _∙_}
-use mathlib.Core.Logic.{⊎-elim}
-use mathlib.Core.Bool.{Bool, true, false, not}
+use Prim.Native.Nat.{ℕ, _<_, _≤_}
+use mathlib.Core.Path.{_≡_, refl, sym, _∙_}
+use mathlib.Core.Bool.{true, not}
 use mathlib.Core.List.{List}
 use native.Mathlib.Omega.{arith}
-use borrow.Author.Tests.{ne-eqb}
 use Rattle.packing.specs.Count.{count}
 use Rattle.packing.specs.Plant.{NONE, at, common, firstLinks, linked}
 use Rattle.packing.specs.Grouping.{Grouping, covered, countFirst, coveredFirst}
-use Rattle.packing.specs.Holders.{held, Feasible}
+use Rattle.packing.specs.Holders.{held}
 use Rattle.packing.specs.Choke.{ChokeDifference}
-use Rattle.packing.proofs.Tests.{by-bool, clash, not-test, iff-test}
+use Rattle.packing.proofs.Tests.{not-test, iff-test}
 use Rattle.packing.proofs.Sums.{count-mono, count-same}
 use Rattle.packing.proofs.Links.{linked-sym}
 use Rattle.packing.proofs.Groupings.{Sym, Loopless}
-use Rattle.packing.proofs.Tight.{Blocked}
 use Rattle.packing.proofs.Prefixes.{order-place, blocked-union, prefix-optimal}
 use Rattle.stars.specs.Stars.{leaderList}
 use Rattle.stars.proofs.Groups.{leaderList-grouping, leaderList-covers}
@@ -31,14 +28,14 @@ module _ {n t m k : ℕ} {ls os hs : List ℕ} (s : Sound n t m k ls os hs) wher
   pub links-loopless : Loopless n (linked (firstLinks m ls))
   links-loopless x p = not-test (linked (firstLinks m ls) x x) (λ e. s .ends x x e .2 refl)
 
-  pub limit-two : (u : ℕ) → u < n → 2 ≤ common t u
+  limit-two : (u : ℕ) → u < n → 2 ≤ common t u
   unfolding common
   limit-two u p = s .low
 
   pub limit-one : (u : ℕ) → u < n → 1 ≤ common t u
   limit-one u p = omega (arith, limit-two u p)
 
-  pub below-none : n ≤ NONE
+  below-none : n ≤ NONE
   below-none = omega (arith, s .few)
 
   -- the leader list of a sound record is a grouping of its plant
@@ -51,7 +48,7 @@ module _ {n t m k : ℕ} {ls os hs : List ℕ} (s : Sound n t m k ls os hs) wher
 
 module _ {n t m k : ℕ} {ls os hs : List ℕ} (made : Made n t m k ls os hs) where
   -- no grouping covers more of the first j placed than are held there
-  pub most-held : (g : ℕ → ℕ) → Grouping n (common t) (linked (firstLinks m ls)) g → (j : ℕ) → j ≤ k → coveredFirst j (at os) g ≤ countFirst j (at os) (held n (at hs))
+  most-held : (g : ℕ → ℕ) → Grouping n (common t) (linked (firstLinks m ls)) g → (j : ℕ) → j ≤ k → coveredFirst j (at os) g ≤ countFirst j (at os) (held n (at hs))
   most-held g group j l =
       let s = made .sound in
       prefix-optimal k (s .order) (s .placed) (made .left) (s .feasible) g (links-symmetric s) (links-loopless s) (limit-one s) group j l

@@ -1,17 +1,18 @@
 -- A list of n numbers is an order exactly if it neither repeats a number nor has one not below n.
 use Prim.Native.Nat.{ℕ, _<_, _≤_}
-use mathlib.Core.Path.{_≡_, refl, sym, _∙_}
-use mathlib.Core.Bool.{Bool, true, false, not, _||_}
+use mathlib.Core.Path.{_≡_, sym, _∙_}
+use mathlib.Core.Bool.{Bool, false, not, _||_}
 use mathlib.Core.List.{List}
 use native.Mathlib.Omega.{arith}
 use lib.Dec.{eqb, ltb}
-use borrow.Author.Tests.{eqb-true, eqb-false, eq-eqb, ne-eqb, ltb-true, lt-ltb, ltb-false, not-true, not-false}
+use lib.ListN.{length}
+use borrow.Author.Tests.{eqb-false, ne-eqb, ltb-true, lt-ltb, ltb-false, not-false}
 use Rattle.packing.specs.Count.{any}
 use Rattle.packing.specs.Plant.{at}
-use Rattle.packing.proofs.Tests.{by-bool, iff-test, not-i, not-i-false, clash, or-none, or-false-l, or-false-r, any-none, any-fails}
+use Rattle.packing.proofs.Tests.{by-bool, not-i-false, clash, or-none, or-false-l, or-false-r, any-none, any-fails}
 use Rattle.packing.proofs.Prefixes.{IsOrder}
-use Rattle.sound.specs.Sound.{onceEach}
-use Rattle.sound.proofs.Meaning.{once-mean, mean-once}
+use Rattle.sound.specs.Sound.{onceEach, isOrder}
+use Rattle.sound.proofs.Meaning.{order-is, once-mean, mean-once}
 use Rattle.planner.specs.Lists.{repeatsOrOutside}
 
 pub order-right : (n : ℕ) (l : List ℕ) → repeatsOrOutside n l ≡ false → IsOrder n (at l)
@@ -41,3 +42,7 @@ order-test n l =
     by-bool (repeatsOrOutside n l)
     (λ e. by-bool (onceEach n l) (λ f. clash (repeatsOrOutside n l) e (right-order n l (once-mean n l f))) (λ f. rw (e, f)))
     (λ e. rw (e, mean-once n l (order-right n l e)))
+
+-- what the test of an order says of a list of n numbers
+pub order-answer : (n : ℕ) (l : List ℕ) {r : Bool} → n ≤ 1024 → length l ≡ n → r ≡ isOrder n l → repeatsOrOutside n l ≡ not r
+order-answer n l few long e = sym (order-test n l) ∙ rw (e, order-is n l few (omega arith))

@@ -1,7 +1,7 @@
 -- The table of the cases marked P: the checker computes that every row holds, and what a row that holds means.
 use Prim.Native.Nat.{ℕ, zero, suc, _<_}
 use mathlib.Core.Path.{_≡_, refl, ap, _∙_}
-use mathlib.Core.Bool.{Bool, true, false, _&&_, false≢true}
+use mathlib.Core.Bool.{true, false≢true}
 use mathlib.Core.List.{List, [], _∷_}
 use native.Mathlib.Nat.{not-suc-le-zero, le-of-suc-le-suc}
 use lib.ListN.{length, getD, replicate}
@@ -22,7 +22,7 @@ use Rattle.planner.specs.Lists.{upTo, repeatsOrOutside}
 use Rattle.planner.specs.Refusals.{openRefusal, linkConditions, orderConditions, placeConditions, readConditions}
 use Rattle.planner.specs.Calls.{openAnswer, openOrder, openHolders, linkRefusal, linkAnswer, linkLinks, orderRefusal, orderAnswer, orderOrder, placeRefusal, placeAnswer, placeHolders, readRefusal, readAnswer, readLeaders, readChoke}
 use Rattle.planner.specs.Run.{afterOpen, answers, step, run}
-use Rattle.planner.specs.Cases.{Plant, Row, reads, holds, gives, differs, linkCalls, placeCalls, after, leadersOf, chokeOf, sameList, rowHolds, empty, one, two, path, star, starBack, star4, listed, ring, table, rowsHold, Means}
+use Rattle.planner.specs.Cases.{Row, reads, holds, gives, differs, linkCalls, placeCalls, after, leadersOf, chokeOf, sameList, rowHolds, empty, one, two, path, star, starBack, star4, listed, ring, table, rowsHold, Means}
 use Rattle.planner.specs.Claims.{chokeRead}
 
 -- the whole table, computed

@@ -2,7 +2,7 @@
 use Prim.Native.Nat.{ℕ}
 use mathlib.Core.List.{List, [], _∷_}
 use Rattle.planner.specs.declared.Small.{Small}
-use Rattle.planner.specs.Calls.{opened, openAnswer, openOrder, openHolders, linkAnswer, linkLinks, orderAnswer, orderOrder, placeAnswer, placeHolders, readAnswer}
+use Rattle.planner.specs.Calls.{openAnswer, openOrder, openHolders, linkAnswer, linkLinks, orderAnswer, orderOrder, placeAnswer, placeHolders, readAnswer}
 use Rattle.planner.specs.Told.{Call, link, order, place, read}
 
 -- the small part and the three lists

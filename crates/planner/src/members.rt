@@ -5,7 +5,9 @@ ghost use Prim.Native.Nat.{_≤_};
 ghost use lib.Dec.{eqb};
 ghost use lib.ListN.{length};
 ghost use Rattle.packing.specs.Lists.{written};
-ghost use Rattle.planner.specs.Members.{listedLeaders, membersOf, membersConditions, membersRefusal, membersPart, membersList};
+ghost use Rattle.packing.specs.Plant.{at};
+ghost use Rattle.packing.specs.Grouping.{membersOf};
+ghost use Rattle.planner.specs.Members.{listedLeaders, membersConditions, membersRefusal, membersPart, membersList};
 
 // How many entries of a leader list are looked at.
 fn looked_at(leaders: &[u16]) -> usize
@@ -28,7 +30,7 @@ fn is_member(entry: u16, w: usize, u: u16) -> bool
 }
 
 fn count_of(list: &[u16], u: u16) -> usize
-    ensures { λ r. ⌜ r ≡ length (membersOf (now (list .entry)) u) ⌝ }
+    ensures { λ r. ⌜ r ≡ length (membersOf (length (now (list .entry))) (at (now (list .entry))) u) ⌝ }
 {
     let mut count: usize = 0;
     let mut w: usize = 0;
@@ -64,9 +66,9 @@ fn of_listed(list: &[u16], u: u16, room: usize) -> u32
 
 // Writes the members to the front of out and returns their count.
 fn write_listed(list: &[u16], u: u16, out: &mut [u16]) -> usize
-    requires { ⌜ (length (now list) ≤ 1024) × (length (membersOf (now list) u) ≤ length (now out)) ⌝ }
-    ensures count { λ r. ⌜ r ≡ length (membersOf (now (list .entry)) u) ⌝ }
-    ensures out { λ _. ⌜ now (out .exit) ≡ written (length (membersOf (now (list .entry)) u)) (membersOf (now (list .entry)) u) (now (out .entry)) ⌝ }
+    requires { ⌜ (length (now list) ≤ 1024) × (length (membersOf (length (now list)) (at (now list)) u) ≤ length (now out)) ⌝ }
+    ensures count { λ r. ⌜ r ≡ length (membersOf (length (now (list .entry))) (at (now (list .entry))) u) ⌝ }
+    ensures out { λ r. ⌜ now (out .exit) ≡ written r (membersOf (length (now (list .entry))) (at (now (list .entry))) u) (now (out .entry)) ⌝ }
 {
     let mut count: usize = 0;
     let mut w: usize = 0;

@@ -61,7 +61,7 @@ pub record LinkFits (n : ℕ) (before : List ℕ) (a b : ℕ) : Type 0 where
   pub differ : a ≡ b → ⊥
   pub new : linked before a b ≡ false
 
-pub ends-fit : (n : ℕ) (before : List ℕ) (a b : ℕ) → endsRefusal n before a b ≡ 0 → LinkFits n before a b
+ends-fit : (n : ℕ) (before : List ℕ) (a b : ℕ) → endsRefusal n before a b ≡ 0 → LinkFits n before a b
 unfolding endsRefusal
 ends-fit n before a b z =
     let outside = refuse-none (leb n a || leb n b) 3 _ (omega arith) z in

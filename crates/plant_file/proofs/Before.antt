@@ -3,6 +3,7 @@ use Prim.Native.Nat.{ℕ, _+_, _*_, _<_, _≤_}
 use mathlib.Core.Path.{_≡_, _∙_}
 use mathlib.Core.Bool.{Bool, true, false, or-comm}
 use mathlib.Core.List.{List, [], _∷_}
+use native.Mathlib.Nat.{mul-add}
 use native.Mathlib.Omega.{arith}
 use lib.ListN.{length, take}
 use lib.Seq.{getD-take, length-take-le}
@@ -14,7 +15,7 @@ use Rattle.plant_file.specs.Pre.{endsOf}
 use Rattle.plant_file.proofs.Steps.{links-long, step-at}
 
 -- one link as a list
-pub linked-one : (x y a b : ℕ) → linked (x ∷ y ∷ []) a b ≡ joins x y a b
+linked-one : (x y a b : ℕ) → linked (x ∷ y ∷ []) a b ≡ joins x y a b
 unfolding linked
 linked-one x y a b = or-comm (joins x y a b) false
 
@@ -22,7 +23,7 @@ linked-one x y a b = or-comm (joins x y a b) false
 abbrev pub earlier : List ℕ → ℕ → List ℕ
 earlier file i = take (2 * i) (fileLinks file)
 
-pub earlier-long : (file : List ℕ) (i : ℕ) → i ≤ fileM file → length (earlier file i) ≡ 2 * i
+earlier-long : (file : List ℕ) (i : ℕ) → i ≤ fileM file → length (earlier file i) ≡ 2 * i
 earlier-long file i h = length-take-le (2 * i) (fileLinks file) (omega (arith, links-long file))
 
 module _ (file : List ℕ) (i a b : ℕ) (h : i ≤ fileM file) where
@@ -39,10 +40,7 @@ module _ (file : List ℕ) (i a b : ℕ) (h : i ≤ fileM file) where
   before-found {j} k l e = looked-found (earlier file i) a b k (omega (arith, earlier-long file i h)) (test-is l e)
 
   pub before-turn : {j : ℕ} {r : Bool} → Looked (earlier file i) a b (2 * j) → j < i → r ≡ linked (endsOf (linkAt file j)) a b → r ≡ false → Looked (earlier file i) a b (2 * (j + 1))
-  before-turn {j} k l e f = rw twice (looked-turn (earlier file i) a b k (omega (arith, earlier-long file i h)) (test-is l e) f)
-    where
-      twice : 2 * (j + 1) ≡ 2 * j + 2
-      twice = omega arith
+  before-turn {j} k l e f = rw (mul-add 2 j 1) (looked-turn (earlier file i) a b k (omega (arith, earlier-long file i h)) (test-is l e) f)
 
   pub before-end : {j : ℕ} → Looked (earlier file i) a b (2 * j) → i ≤ j → false ≡ linked (earlier file i) a b
   before-end {j} k l = looked-end (earlier file i) a b k (omega (arith, earlier-long file i h))

@@ -2,6 +2,8 @@
 use Prim.Native.Nat.{ℕ, suc, _+_, _*_, _<_, _≤_}
 use mathlib.Core.Path.{_≡_, refl, sym, ap, _∙_}
 use mathlib.Core.List.{List, [], _∷_, _++_, append-assoc}
+use native.Mathlib.Nat.{mul-add}
+use native.Mathlib.Numerals.{add-one, add-two}
 use native.Mathlib.Omega.{arith}
 use lib.ListN.{length, take, drop}
 use lib.Seq.{take-suc}
@@ -17,16 +19,10 @@ use Rattle.plant_file.proofs.Before.{earlier}
 use Rattle.plant_file.proofs.Parts.{first-refused, first-passed}
 
 -- two numbers more of a list
-pub take-pair : (l : List ℕ) (k : ℕ) → k + 1 < length l → take k l ++ (at l k ∷ at l (k + 1) ∷ []) ≡ take (k + 2) l
+take-pair : (l : List ℕ) (k : ℕ) → k + 1 < length l → take k l ++ (at l k ∷ at l (k + 1) ∷ []) ≡ take (k + 2) l
 take-pair l k h =
     sym (append-assoc (take k l) (at l k ∷ []) (at l (k + 1) ∷ []))
-    ∙ rw (one, two, take-suc l (suc k) 0 (omega arith), take-suc l k 0 (omega arith))
-  where
-    one : k + 1 ≡ suc k
-    one = omega arith
-
-    two : k + 2 ≡ suc (suc k)
-    two = omega arith
+    ∙ rw (add-one k, add-two k, take-suc l (suc k) 0 (omega arith), take-suc l k 0 (omega arith))
 
 -- a list of fewer than two numbers has no link
 links-none : (n : ℕ) (e l : List ℕ) → length l ≤ 1 → linksRefusal n e l ≡ 0
@@ -43,10 +39,7 @@ onward n l i = linksRefusal n (take (2 * i) l) (drop (2 * i) l)
 pub onward-at : (n : ℕ) (l : List ℕ) (i : ℕ) → 2 * i + 1 < length l
     → onward n l i ≡ firstOf (endsRefusal n (take (2 * i) l) (at l (2 * i)) (at l (2 * i + 1))) (onward n l (i + 1))
 unfolding linksRefusal
-onward-at n l i h = rw (pair-at l (2 * i) h, take-pair l (2 * i) h, twice)
-  where
-    twice : 2 * (i + 1) ≡ 2 * i + 2
-    twice = omega arith
+onward-at n l i h = rw (pair-at l (2 * i) h, take-pair l (2 * i) h, mul-add 2 i 1)
 
 -- the links before link i are not refused
 pub record Checked (n : ℕ) (file : List ℕ) (i : ℕ) : Type 0 where

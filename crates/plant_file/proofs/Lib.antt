@@ -1,6 +1,5 @@
 -- Laws of the plant file, by subject.
 pub mod Numbers
-pub mod Listed
 pub mod Steps
 pub mod Before
 pub mod Checked

@@ -1,16 +1,15 @@
 -- The links by index: what the code reads there, and that it is what the list of links holds.
 use Prim.Native.Nat.{ℕ, _+_, _*_, _<_, _≤_}
 use mathlib.Core.Path.{_≡_}
-use mathlib.Core.List.{List, _∷_}
+use mathlib.Core.List.{List}
 use native.Mathlib.Omega.{arith}
 use lib.ListN.{length}
 use borrow.Author.Tests.{lt-ltb, le-ltb}
 use Rattle.packing.specs.Plant.{at}
-use Rattle.plant_file.specs.declared.walk.Step.{Step}
+use Rattle.packing.proofs.Lists.{listOf-length, listOf-at}
 use Rattle.plant_file.specs.declared.walk.Step.the-variants.{Link, End}
 use Rattle.plant_file.specs.PlantFile.{number, fileN, fileM, fileLinks, fileOrder}
 use Rattle.plant_file.specs.Walk.{linkAt}
-use Rattle.plant_file.proofs.Listed.{listed-length, listed-at}
 
 -- the numbers of the links, and those of the order, as the file has them
 abbrev pub linkNumber : List ℕ → ℕ → ℕ
@@ -21,11 +20,11 @@ orderNumber file i = number file (10 + 4 * fileM file + 2 * i)
 
 pub links-long : (file : List ℕ) → length (fileLinks file) ≡ 2 * fileM file
 unfolding fileLinks
-links-long file = listed-length (2 * fileM file) (linkNumber file)
+links-long file = listOf-length (2 * fileM file) (linkNumber file)
 
 pub order-long : (file : List ℕ) → length (fileOrder file) ≡ fileN file
 unfolding fileOrder
-order-long file = listed-length (fileN file) (orderNumber file)
+order-long file = listOf-length (fileN file) (orderNumber file)
 
 module _ (file : List ℕ) (i : ℕ) where
   pub step-here : {m a b : ℕ} → m ≡ fileM file → i < m → a ≡ number file (10 + 4 * i) → b ≡ number file (12 + 4 * i) → Link a b ≡ linkAt file i
@@ -49,4 +48,4 @@ module _ (file : List ℕ) (i : ℕ) where
 
   pub step-at : i < fileM file → linkAt file i ≡ Link (at (fileLinks file) (2 * i)) (at (fileLinks file) (2 * i + 1))
   unfolding fileLinks
-  step-at l = rw (listed-at (2 * fileM file) (linkNumber file) (2 * i) (omega arith), listed-at (2 * fileM file) (linkNumber file) (2 * i + 1) (omega arith)) (step-is l)
+  step-at l = rw (listOf-at (2 * fileM file) (linkNumber file) (2 * i) (omega arith), listOf-at (2 * fileM file) (linkNumber file) (2 * i + 1) (omega arith)) (step-is l)

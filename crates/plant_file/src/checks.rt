@@ -5,7 +5,7 @@ use crate::walk::Step;
 use planner::links::is_linked;
 ghost use mathlib.Core.Path.{_≡_};
 ghost use mathlib.Core.List.{[]};
-ghost use Prim.Native.Nat.{_*_, _<_, _≤_};
+ghost use Prim.Native.Nat.{_*_, _≤_};
 ghost use lib.ListN.{take, length};
 ghost use Rattle.packing.specs.Plant.{linked};
 ghost use Rattle.sound.specs.Sound.{onceEach};

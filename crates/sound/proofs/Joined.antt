@@ -1,7 +1,7 @@
 -- The results of the passes, put together, are the clauses of soundness.
-use Prim.Native.Nat.{ℕ, _<_, _≤_}
-use mathlib.Core.Path.{_≡_, refl, sym, ap, _∙_}
-use mathlib.Core.Bool.{Bool, true, false, _&&_, _||_}
+use Prim.Native.Nat.{ℕ, _≤_}
+use mathlib.Core.Path.{_≡_, sym, ap, _∙_}
+use mathlib.Core.Bool.{Bool, true, false, _&&_, _||_, and-true}
 use mathlib.Core.List.{List}
 use native.Mathlib.Omega.{arith}
 use lib.Dec.{eqb, ltb, leb}
@@ -77,7 +77,3 @@ pub order-only : (n : ℕ) (os hs : List ℕ) {r : Bool} → r ≡ (onceEach n o
 unfolding onlyPlacedHeld
 order-only n os hs e =
     e ∙ rw (all-intro n (λ i. ltb i n || eqb (at hs (at os i)) NONE) (λ i l. or-l (ltb i n) (eqb (at hs (at os i)) NONE) (lt-ltb i n l))) (and-true (onceEach n os))
-  where
-    and-true : (b : Bool) → (b && true) ≡ b
-    and-true true = refl
-    and-true false = refl

@@ -1,20 +1,20 @@
 -- What a sound record is, as the facts that proofs use; the test of soundness means exactly these.
-use Prim.Native.Nat.{ℕ, zero, suc, _+_, _*_, _<_, _≤_}
-use mathlib.Core.Path.{_≡_, refl, sym, ap, _∙_}
+use Prim.Native.Nat.{ℕ, _*_, _<_, _≤_}
+use mathlib.Core.Path.{_≡_, refl, sym, _∙_}
 use mathlib.Core.Logic.{_⊎_, inl, inr, ⊎-elim}
-use mathlib.Core.Bool.{Bool, true, false, not, _&&_, _||_, false≢true}
+use mathlib.Core.Bool.{true, not, _&&_, _||_, false≢true}
 use mathlib.Core.List.{List, [], _∷_}
 use native.Mathlib.Omega.{arith}
 use lib.Dec.{eqb, ltb, leb}
 use lib.ListN.{length}
 use borrow.Author.Tests.{eqb-true, eqb-false, eq-eqb, ne-eqb, ltb-true, ltb-false, lt-ltb, leb-true, le-leb, not-true}
-use Rattle.packing.specs.Count.{count, sumOver, all}
+use Rattle.packing.specs.Count.{count, all}
 use Rattle.packing.specs.Plant.{NONE, at, common, firstLinks, linked, joins}
 use Rattle.packing.specs.Holders.{held, holds, Feasible}
-use Rattle.packing.proofs.Tests.{tests, by-bool, and-l, and-r, and-i, or-l, or-r, or-cases, iff-test, clash, all-elim, all-intro}
+use Rattle.packing.proofs.Tests.{tests, by-bool, and-l, and-r, and-i, or-l, or-r, or-cases, iff-test, all-elim, all-intro}
 use Rattle.packing.proofs.Sums.{count-ext, count-one, count-unique, count-some, count-same, count-all, fibre, sumOver-ext, sumOver-const}
 use Rattle.packing.proofs.Prefixes.{IsOrder, order-place}
-use Rattle.sound.specs.Sound.{numbersSound, listsLong, endsSound, onceEach, holdersLinked, holdersWithin, onlyPlacedHeld, isSound}
+use Rattle.sound.specs.Sound.{numbersSound, listsLong, endsSound, onceEach, isOrder, holdersLinked, holdersWithin, onlyPlacedHeld, isSound}
 
 pub record Sound (n t m k : ℕ) (ls os hs : List ℕ) : Type 0 where
   pub few : n ≤ 1024
@@ -39,12 +39,20 @@ pub lists-mean : (n m : ℕ) (ls os hs : List ℕ) → listsLong n m ls os hs �
 unfolding listsLong
 lists-mean n m ls os hs e = search (tests, leb-true)
 
+-- what a link whose ends differ and are below n joins differs and is below n
+pub joined-ends : (n a b : ℕ) → a < n → b < n → (a ≡ b → ⊥) → (x y : ℕ) → joins a b x y ≡ true → (x < n) × (y < n) × (x ≡ y → ⊥)
+joined-ends n a b below-a below-b apart x y e =
+    ⊎-elim
+    (λ q. let u : a ≡ x = eqb-true a x (and-l (eqb a x) (eqb b y) q) in let v : b ≡ y = eqb-true b y (and-r (eqb a x) (eqb b y) q) in (omega arith, omega arith, λ s. apart (cc)))
+    (λ q. let u : a ≡ y = eqb-true a y (and-l (eqb a y) (eqb b x) q) in let v : b ≡ x = eqb-true b x (and-r (eqb a y) (eqb b x) q) in (omega arith, omega arith, λ s. apart (cc)))
+    (or-cases (eqb a x && eqb b y) (eqb a y && eqb b x) e)
+
 ends-mean : (n : ℕ) (l : List ℕ) → endsSound n l ≡ true → (x y : ℕ) → linked l x y ≡ true → (x < n) × (y < n) × (x ≡ y → ⊥)
 unfolding endsSound linked
 ends-mean n [] e x y j = absurd (false≢true j)
 ends-mean n (a ∷ []) e x y j = absurd (false≢true j)
 ends-mean n (a ∷ b ∷ l) e x y j =
-    ⊎-elim this (λ later. ends-mean n l (and-r (not (eqb a b) && ltb a n && ltb b n) (endsSound n l) e) x y later) (or-cases (joins a b x y) (linked l x y) j)
+    ⊎-elim (joined-ends n a b below-a below-b apart x y) (λ later. ends-mean n l (and-r (not (eqb a b) && ltb a n && ltb b n) (endsSound n l) e) x y later) (or-cases (joins a b x y) (linked l x y) j)
   where
     pair : (not (eqb a b) && ltb a n && ltb b n) ≡ true
     pair = and-l (not (eqb a b) && ltb a n && ltb b n) (endsSound n l) e
@@ -61,13 +69,6 @@ ends-mean n (a ∷ b ∷ l) e x y j =
     apart : a ≡ b → ⊥
     apart = eqb-false a b (not-true (eqb a b) (and-l (not (eqb a b)) (ltb a n) low))
 
-    this : joins a b x y ≡ true → (x < n) × (y < n) × (x ≡ y → ⊥)
-    this here =
-        ⊎-elim
-        (λ q. let u : a ≡ x = eqb-true a x (and-l (eqb a x) (eqb b y) q) in let v : b ≡ y = eqb-true b y (and-r (eqb a x) (eqb b y) q) in (omega (arith, below-a), omega (arith, below-b), λ s. apart (cc)))
-        (λ q. let u : a ≡ y = eqb-true a y (and-l (eqb a y) (eqb b x) q) in let v : b ≡ x = eqb-true b x (and-r (eqb a y) (eqb b x) q) in (omega (arith, below-b), omega (arith, below-a), λ s. apart (cc)))
-        (or-cases (eqb a x && eqb b y) (eqb a y && eqb b x) here)
-
 mean-ends : (n : ℕ) (l : List ℕ) → ((x y : ℕ) → linked l x y ≡ true → (x < n) × (y < n) × (x ≡ y → ⊥)) → endsSound n l ≡ true
 unfolding endsSound linked
 mean-ends n [] h = refl
@@ -75,6 +76,11 @@ mean-ends n (a ∷ []) h = refl
 mean-ends n (a ∷ b ∷ l) h =
     let f = h a b (or-l (joins a b a b) (linked l a b) (or-l (eqb a a && eqb b b) (eqb a b && eqb b a) (and-i (eqb a a) (eqb b b) (eq-eqb a a refl) (eq-eqb b b refl)))) in
     rw (ne-eqb a b (f .2), lt-ltb a n (f .0), lt-ltb b n (f .1)) (mean-ends n l (λ x y j. h x y (or-r (joins a b x y) (linked l x y) j)))
+
+-- where n is in range and there are n numbers, only whether each stands once is asked
+pub order-is : (n : ℕ) (l : List ℕ) → n ≤ 1024 → n ≤ length l → isOrder n l ≡ onceEach n l
+unfolding isOrder
+order-is n l few long = rw (le-leb n 1024 few, le-leb n (length l) long)
 
 pub once-mean : (n : ℕ) (os : List ℕ) → onceEach n os ≡ true → IsOrder n (at os)
 unfolding onceEach

@@ -1,8 +1,9 @@
 -- Laws of the passes that count: the invariant of such a loop, and one turn of it.
 use Prim.Native.Nat.{ℕ, zero, suc, _+_, _<_, _≤_}
 use mathlib.Core.Path.{_≡_, refl, sym, ap, _∙_}
-use mathlib.Core.Bool.{Bool, true, false, _&&_}
+use mathlib.Core.Bool.{Bool, true, _&&_}
 use mathlib.Core.List.{List}
+use native.Mathlib.Nat.{add-zero, le-antisymm}
 use native.Mathlib.Numerals.{add-one}
 use native.Mathlib.Omega.{arith}
 use lib.Dec.{eqb, ltb}
@@ -39,10 +40,7 @@ module _ (n : ℕ) (l : List ℕ) (test : ℕ → Bool) (counts₀ : List ℕ) w
       let inside : v < length counts = rw length-set at h in
       by-bool (eqb (getD l i 0) v)
       (λ e. let here : getD l i 0 ≡ v = eqb-true _ _ e in rw (more, e, here) (getD-set-same counts v (getD counts v 0 + 1) 0 inside ∙ ap (λ (k : ℕ). k + 1) (t v inside)))
-      (λ e. rw (more, e) (getD-set-other counts (getD l i 0) v (getD counts (getD l i 0) 0 + 1) 0 (λ q. eqb-false _ _ e (sym q)) ∙ t v inside ∙ sym (plus-zero (count i (λ j. eqb (getD l j 0) v)))))
-    where
-      plus-zero : (k : ℕ) → k + 0 ≡ k
-      plus-zero k = omega arith
+      (λ e. rw (more, e) (getD-set-other counts (getD l i 0) v (getD counts (getD l i 0) 0 + 1) 0 (λ q. eqb-false _ _ e (sym q)) ∙ t v inside ∙ sym (add-zero (count i (λ j. eqb (getD l j 0) v)))))
 
   pub counted-turn : {counts counts' : List ℕ} {ok ok' b : Bool} {i : ℕ} → Counted n l test counts₀ counts ok i → i < n → b ≡ test i → ok' ≡ (ok && b)
       → counts' ≡ set counts (getD l i 0) (getD counts (getD l i 0) 0 + 1) → Counted n l test counts₀ counts' ok' (i + 1)
@@ -63,7 +61,4 @@ module _ (n : ℕ) (l : List ℕ) (test : ℕ → Bool) (counts₀ : List ℕ) w
 
   -- at the loop's end all n entries were gathered and counted
   pub counted-end : {counts : List ℕ} {ok : Bool} {i : ℕ} → Counted n l test counts₀ counts ok i → n ≤ i → Counted n l test counts₀ counts ok n
-  counted-end {counts} {ok} {i} c h = rw (last c h) at c
-    where
-      last : Counted n l test counts₀ counts ok i → n ≤ i → i ≡ n
-      last d k = omega arith
+  counted-end c h = rw (le-antisymm (c .upto) h) at c

@@ -1,14 +1,14 @@
 -- The pass over the links: its invariant, one turn, and its end.
-use Prim.Native.Nat.{ℕ, zero, suc, _+_, _<_, _≤_}
+use Prim.Native.Nat.{ℕ, _+_, _<_, _≤_}
 use mathlib.Core.Path.{_≡_, refl, sym, ap, _∙_}
-use mathlib.Core.Bool.{Bool, true, false, not, cond, _&&_, _||_}
+use mathlib.Core.Bool.{Bool, true, false, not, cond, _&&_, _||_, and-true, or-true, or-false, and-assoc}
 use mathlib.Core.List.{List, [], _∷_}
 use native.Mathlib.Omega.{arith}
 use lib.Dec.{eqb, ltb}
 use lib.ListN.{length, getD, set, drop, length-set}
 use lib.Seq.{getD-set-same, getD-set-other, set-out}
 use borrow.Author.Tests.{eqb-true, eqb-false, eq-eqb, lt-ltb}
-use Rattle.packing.specs.Plant.{linked, joins}
+use Rattle.packing.specs.Plant.{linked}
 use Rattle.packing.proofs.Tests.{by-bool, iff-test}
 use Rattle.packing.proofs.Flat.{pair-at, pair-end, linked-short}
 use Rattle.sound.specs.Sound.{endsSound}
@@ -26,18 +26,6 @@ unfolding endsSound
 ends-short n [] h = refl
 ends-short n (a ∷ []) h = refl
 ends-short n (a ∷ b ∷ l) h = absurd (omega arith)
-
-and-assoc : (a b c : Bool) → (a && b && c) ≡ (a && (b && c))
-and-assoc true b c = refl
-and-assoc false b c = refl
-
-and-true : (a : Bool) → (a && true) ≡ a
-and-true true = refl
-and-true false = refl
-
-or-false : (a : Bool) → (a || false) ≡ a
-or-false true = refl
-or-false false = refl
 
 -- v has no place among the marks
 pub noted-out : (hs marks : List ℕ) (v u : ℕ) → length marks ≤ v → marks ≡ noted hs marks v u
@@ -62,11 +50,7 @@ noted-at hs marks v u w inside place = by-bool (eqb v w) (λ e. at-v (eqb-true v
     flip a b = iff-test (eqb a b) (eqb b a) (λ e. eq-eqb b a (sym (eqb-true a b e))) (λ e. eq-eqb a b (sym (eqb-true b a e)))
 
     step : (b : Bool) → eqb (getD (cond b (set marks w 1) marks) w 0) 1 ≡ (eqb (getD marks w 0) 1 || b)
-    step true = rw (getD-set-same marks w 1 0 place) (one (eqb (getD marks w 0) 1))
-      where
-        one : (b : Bool) → true ≡ (b || true)
-        one true = refl
-        one false = refl
+    step true = rw (getD-set-same marks w 1 0 place) (sym (or-true (eqb (getD marks w 0) 1)))
     step false = sym (or-false _)
 
     at-v : v ≡ w → eqb (getD (cond (ltb v (length hs) && eqb (getD hs v 0) u) (set marks v 1) marks) w 0) 1 ≡ (eqb (getD marks w 0) 1 || (eqb v w && eqb u (getD hs w 0)))

@@ -26,6 +26,10 @@ endsSound n (a ∷ b ∷ rest) = not (eqb a b) && ltb a n && ltb b n && endsSoun
 unfoldable pub onceEach : ℕ → List ℕ → Bool
 onceEach n os = all n (λ v. eqb (count n (λ i. eqb (at os i) v)) 1)
 
+-- a list that may be an order: n is in range, there are n numbers, and the first n hold 0 to n − 1 once each
+unfoldable pub isOrder : ℕ → List ℕ → Bool
+isOrder n l = leb n 1024 && leb n (length l) && onceEach n l
+
 -- "every holder is linked to what it holds"
 unfoldable pub holdersLinked : ℕ → List ℕ → List ℕ → Bool
 holdersLinked n ls hs = all n (λ v. eqb (at hs v) NONE || linked ls v (at hs v))

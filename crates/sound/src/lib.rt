@@ -7,7 +7,7 @@ ghost use mathlib.Core.Bool.{_&&_};
 ghost use Prim.Native.Nat.{_≤_};
 ghost use lib.ListN.{length};
 ghost use Rattle.packing.specs.Plant.{common};
-ghost use Rattle.sound.specs.Sound.{isSound, numbersSound, listsLong, endsSound, holdersLinked, holdersWithin, onceEach, onlyPlacedHeld};
+ghost use Rattle.sound.specs.Sound.{isSound, isOrder, numbersSound, listsLong, endsSound, holdersLinked, holdersWithin, onceEach, onlyPlacedHeld};
 
 fn numbers_sound(n: u16, t: u8, m: u16, k: u16) -> bool
     ensures { λ r. ⌜ r ≡ numbersSound n t m k ⌝ }
@@ -63,11 +63,16 @@ fn order_sound(n: u16, k: u16, order: &[u16], holders: &[u16]) -> bool
     marks::both(once, placed)
 }
 
-// Whether the first n of a list hold 0 to n - 1 once each.
+// Whether a list may be an order of n gateways. Any number, and a list of any length and contents.
 pub fn is_order(n: u16, numbers: &[u16]) -> bool
-    requires { ⌜ (n ≤ 1024) × (n ≤ length (now numbers)) ⌝ }
-    ensures { λ r. ⌜ r ≡ onceEach n (now (numbers .entry)) ⌝ }
+    ensures { λ r. ⌜ r ≡ isOrder n (now (numbers .entry)) ⌝ }
 {
+    if 1024 < n {
+        return false;
+    }
+    if numbers.len() < n as usize {
+        return false;
+    }
     order_sound(n, n, numbers, numbers)
 }
 

@@ -1,9 +1,8 @@
-use Rattle.packing.specs.Plant.{firstLinks}
 -- `is_sound` meets its contract: the clauses put together.
-use native.Mathlib.Omega.{arith}
 use mathlib.Core.Path.{sym, _∙_}
 use borrow.Author.Tests.{not-true, not-false}
 use lib.Seq.{length-take-le}
+use Rattle.packing.specs.Plant.{firstLinks}
 use Rattle.sound.proofs.Joined.{unsound-numbers, unsound-lists, all-joined}
 use Rattle.sound.proofs.Meaning.{numbers-mean, lists-mean}
 use borrow.Author.Needs.{needs}

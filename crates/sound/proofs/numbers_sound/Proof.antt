@@ -1,5 +1,5 @@
 -- `numbers_sound` meets its contract: each return rewrites by the tests that led there.
-use borrow.Author.Tests.{eq-eqb, ne-eqb, lt-ltb, le-ltb, lt-leb, le-leb}
+use borrow.Author.Tests.{lt-leb, le-leb}
 use Rattle.sound.specs.Sound.{numbersSound}
 use Rattle.sound.proofs.numbers_sound.Statement.{statement}
 use Rattle.sound.proofs.numbers_sound.Tie as tie

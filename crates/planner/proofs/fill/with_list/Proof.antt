@@ -1,22 +1,21 @@
--- `with_list` meets its contract: the laws of Fronts.
+-- `with_list` meets its contract: packing's laws of lists.
 use borrow.Author.Needs.{needs}
 use Prim.Native.Nat.{_-_}
-use mathlib.Core.Path.{ap, _∙_}
-use lib.ListN.{length, take}
-use lib.Seq.{take-length}
-use Rattle.planner.proofs.Fronts.{Fronted, take-grows, fronted-start, fronted-turn, fronted-end}
-use Rattle.packing.specs.Lists.{written}
+use mathlib.Core.Path.{refl}
+use lib.ListN.{length}
+use Rattle.packing.specs.Plant.{at}
+use Rattle.packing.proofs.Lists.{Listed, list-is, list-start, list-turn, list-end}
 use Rattle.planner.proofs.fill.with_list.Statement.{statement}
 use Rattle.planner.proofs.fill.with_list.Tie as tie
 
 abbrev Inv-loop : tie.InvT-loop
-Inv-loop numbers list₀ i₀ list i = Fronted (length numbers) (λ j. take j numbers) list₀ list i
+Inv-loop numbers list₀ i₀ list i = Listed (length numbers) (at numbers) list₀ list i
 
 abbrev μ-loop : tie.MeasureT-loop
 μ-loop numbers list₀ i₀ list i = length numbers - i
 
 loop-holds : tie.Need-loop-holds Inv-loop μ-loop
-loop-holds c = fronted-start _ _ _ (take-grows _) _
+loop-holds c = list-start _ _ _
 
 mul-list : tie.Need-mul-list Inv-loop μ-loop
 mul-list c = search needs
@@ -37,13 +36,13 @@ loop-less : tie.Need-loop-less Inv-loop μ-loop
 loop-less c = search needs
 
 loop-again : tie.Need-loop-again Inv-loop μ-loop
-loop-again c = fronted-turn _ _ _ (take-grows _) _ (c .before .before .before .pre) (c .before .before .loop .inv) (c .before .loop-test .taken)
+loop-again c = list-turn _ _ _ (c .before .before .before .pre) (c .before .before .loop .inv) (c .before .loop-test .taken) refl
 
 same-length : tie.Need-same-length Inv-loop μ-loop
 same-length c = search needs
 
 returns : tie.Need-returns Inv-loop μ-loop
-returns c = fronted-end _ _ _ (take-grows _) _ (c .before .loop .inv) (c .loop-test .left) ∙ simp take-length
+returns c = rw (← list-is) at (list-end _ _ _ (c .before .loop .inv) (c .loop-test .left))
 
 pub with-list-spec : {M : Type 1} → statement M
 with-list-spec =

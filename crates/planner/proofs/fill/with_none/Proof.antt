@@ -1,20 +1,20 @@
--- `with_none` meets its contract: the laws of Fronts.
+-- `with_none` meets its contract: packing's laws of lists.
 use borrow.Author.Needs.{needs}
 use Prim.Native.Nat.{_-_}
-use lib.ListN.{replicate}
+use mathlib.Core.Path.{refl}
 use Rattle.packing.specs.Plant.{NONE}
-use Rattle.planner.proofs.Fronts.{Fronted, replicate-grows, fronted-start, fronted-turn, fronted-end}
+use Rattle.packing.proofs.Lists.{Listed, listOf-same, list-start, list-turn, list-end}
 use Rattle.planner.proofs.fill.with_none.Statement.{statement}
 use Rattle.planner.proofs.fill.with_none.Tie as tie
 
 abbrev Inv-loop : tie.InvT-loop
-Inv-loop n list₀ i₀ list i = Fronted n (λ j. replicate j NONE) list₀ list i
+Inv-loop n list₀ i₀ list i = Listed n (λ j. NONE) list₀ list i
 
 abbrev μ-loop : tie.MeasureT-loop
 μ-loop n list₀ i₀ list i = n - i
 
 loop-holds : tie.Need-loop-holds Inv-loop μ-loop
-loop-holds c = fronted-start _ _ _ (replicate-grows _ NONE) _
+loop-holds c = list-start _ _ _
 
 mul-list : tie.Need-mul-list Inv-loop μ-loop
 mul-list c = search needs
@@ -29,13 +29,13 @@ loop-less : tie.Need-loop-less Inv-loop μ-loop
 loop-less c = search needs
 
 loop-again : tie.Need-loop-again Inv-loop μ-loop
-loop-again c = fronted-turn _ _ _ (replicate-grows _ NONE) _ (c .before .before .pre) (c .before .loop .inv) (c .loop-test .taken)
+loop-again c = list-turn _ _ _ (c .before .before .pre) (c .before .loop .inv) (c .loop-test .taken) refl
 
 same-length : tie.Need-same-length Inv-loop μ-loop
 same-length c = search needs
 
 returns : tie.Need-returns Inv-loop μ-loop
-returns c = fronted-end _ _ _ (replicate-grows _ NONE) _ (c .before .loop .inv) (c .loop-test .left)
+returns c = rw (← listOf-same _ NONE) (list-end _ _ _ (c .before .loop .inv) (c .loop-test .left))
 
 pub with-none-spec : {M : Type 1} → statement M
 with-none-spec =

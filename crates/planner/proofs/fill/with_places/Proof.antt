@@ -1,19 +1,20 @@
--- `with_places` meets its contract: the laws of Fronts.
+-- `with_places` meets its contract: packing's laws of lists.
 use borrow.Author.Needs.{needs}
 use Prim.Native.Nat.{_-_}
+use mathlib.Core.Path.{refl}
 use Rattle.planner.specs.Lists.{upTo}
-use Rattle.planner.proofs.Fronts.{Fronted, upTo-grows, fronted-start, fronted-turn, fronted-end}
+use Rattle.packing.proofs.Lists.{Listed, list-start, list-turn, list-end}
 use Rattle.planner.proofs.fill.with_places.Statement.{statement}
 use Rattle.planner.proofs.fill.with_places.Tie as tie
 
 abbrev Inv-loop : tie.InvT-loop
-Inv-loop n list₀ i₀ list i = Fronted n upTo list₀ list i
+Inv-loop n list₀ i₀ list i = Listed n (λ j. j) list₀ list i
 
 abbrev μ-loop : tie.MeasureT-loop
 μ-loop n list₀ i₀ list i = n - i
 
 loop-holds : tie.Need-loop-holds Inv-loop μ-loop
-loop-holds c = fronted-start _ _ _ (upTo-grows _) _
+loop-holds c = list-start _ _ _
 
 cast-list : tie.Need-cast-list Inv-loop μ-loop
 cast-list c = search needs
@@ -31,13 +32,14 @@ loop-less : tie.Need-loop-less Inv-loop μ-loop
 loop-less c = search needs
 
 loop-again : tie.Need-loop-again Inv-loop μ-loop
-loop-again c = fronted-turn _ _ _ (upTo-grows _) _ (c .before .before .pre .1) (c .before .loop .inv) (c .loop-test .taken)
+loop-again c = list-turn _ _ _ (c .before .before .pre .1) (c .before .loop .inv) (c .loop-test .taken) refl
 
 same-length : tie.Need-same-length Inv-loop μ-loop
 same-length c = search needs
 
 returns : tie.Need-returns Inv-loop μ-loop
-returns c = fronted-end _ _ _ (upTo-grows _) _ (c .before .loop .inv) (c .loop-test .left)
+unfolding upTo
+returns c = list-end _ _ _ (c .before .loop .inv) (c .loop-test .left)
 
 pub with-places-spec : {M : Type 1} → statement M
 with-places-spec =

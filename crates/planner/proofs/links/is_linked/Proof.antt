@@ -1,7 +1,6 @@
 -- `is_linked` meets its contract: the laws of Lookup.
 use borrow.Author.Needs.{needs}
 use Prim.Native.Nat.{_-_}
-use native.Mathlib.Omega.{arith}
 use lib.ListN.{length}
 use Rattle.planner.proofs.Lookup.{Looked, looked-start, looked-found, looked-turn, looked-end}
 use Rattle.planner.proofs.links.is_linked.Statement.{statement}

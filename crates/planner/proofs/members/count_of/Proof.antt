@@ -1,21 +1,25 @@
--- `count_of` meets its contract: the laws of MembersLaws.
+-- `count_of` meets its contract: a count, which is the length of the list.
 use borrow.Author.Needs.{needs}
 use Prim.Native.Nat.{_-_}
+use mathlib.Core.Path.{sym, _∙_}
 use mathlib.Core.Logic.{⊎-elim}
 use native.Mathlib.Omega.{arith}
 use lib.ListN.{length}
-use Rattle.planner.proofs.MembersLaws.{Numbered, numbered-start, numbered-small, numbered-more, numbered-same, numbered-end}
+use Rattle.packing.specs.Plant.{at}
+use Rattle.packing.specs.Grouping.{follows, membersOf}
+use Rattle.packing.proofs.Counting.{Tallied, tally-start, tally-few, tally-more, tally-same, tally-end}
+use Rattle.packing.proofs.Lists.{listWhere-length}
 use Rattle.planner.proofs.members.count_of.Statement.{statement}
 use Rattle.planner.proofs.members.count_of.Tie as tie
 
 abbrev Inv-loop : tie.InvT-loop
-Inv-loop list u count₀ w₀ count w = Numbered list u count w
+Inv-loop list u count₀ w₀ count w = Tallied (length list) (follows (at list) u) count w
 
 abbrev μ-loop : tie.MeasureT-loop
 μ-loop list u count₀ w₀ count w = length list - w
 
 loop-holds : tie.Need-loop-holds Inv-loop μ-loop
-loop-holds c = numbered-start _ _
+loop-holds c = tally-start _ _
 
 mul-is-member : tie.Need-mul-is-member Inv-loop μ-loop
 mul-is-member c = search needs
@@ -27,7 +31,7 @@ is-member-requires : tie.Need-is-member-requires Inv-loop μ-loop
 is-member-requires c κs = search needs
 
 add-count : tie.Need-add-count Inv-loop μ-loop
-add-count c = omega (arith, numbered-small _ _ (c .before .before .before .before .loop .inv))
+add-count c = omega (arith, tally-few _ _ (c .before .before .before .before .loop .inv))
 
 add-w : tie.Need-add-w Inv-loop μ-loop
 add-w c = search needs
@@ -37,12 +41,13 @@ loop-less c = search needs
 
 loop-again : tie.Need-loop-again Inv-loop μ-loop
 loop-again c = let turn = c .before .before .before in
-    ⊎-elim (λ k. rw (k .1) (numbered-more _ _ (turn .before .loop .inv) (turn .loop-test .taken) (c .before .is-member .ensures) (k .0 .taken)))
-    (λ k. rw (k .1) (numbered-same _ _ (turn .before .loop .inv) (turn .loop-test .taken) (c .before .is-member .ensures) (k .0 .left)))
+    ⊎-elim (λ k. rw (k .1) (tally-more _ _ (turn .before .loop .inv) (turn .loop-test .taken) (c .before .is-member .ensures) (k .0 .taken)))
+    (λ k. rw (k .1) (tally-same _ _ (turn .before .loop .inv) (turn .loop-test .taken) (c .before .is-member .ensures) (k .0 .left)))
     (c .if1 .came)
 
 returns : tie.Need-returns Inv-loop μ-loop
-returns c = numbered-end _ _ (c .before .loop .inv) (c .loop-test .left)
+unfolding membersOf
+returns c = tally-end _ _ (c .before .loop .inv) (c .loop-test .left) ∙ sym (listWhere-length _ _)
 
 pub count-of-spec : {M : Type 1} → statement M
 count-of-spec =

@@ -1,21 +1,24 @@
--- `write_listed` meets its contract: the laws of MembersLaws.
+-- `write_listed` meets its contract: packing's laws of lists.
 use borrow.Author.Needs.{needs}
 use Prim.Native.Nat.{_-_}
 use mathlib.Core.Logic.{⊎-elim}
 use native.Mathlib.Omega.{arith}
 use lib.ListN.{length}
-use Rattle.planner.proofs.MembersLaws.{Gathered, numbered-small, numbered-room, gathered-start, gathered-more, gathered-same, gathered-end}
+use Rattle.packing.specs.Plant.{at}
+use Rattle.packing.specs.Grouping.{follows, membersOf}
+use Rattle.packing.proofs.Counting.{tally-few}
+use Rattle.packing.proofs.Lists.{Gathered, gather-start, gather-place, gather-more, gather-same, gather-end}
 use Rattle.planner.proofs.members.write_listed.Statement.{statement}
 use Rattle.planner.proofs.members.write_listed.Tie as tie
 
 abbrev Inv-loop : tie.InvT-loop
-Inv-loop list u out₀ count₀ w₀ out count w = Gathered list u out₀ out count w
+Inv-loop list u out₀ count₀ w₀ out count w = Gathered (length list) (follows (at list) u) out₀ out count w
 
 abbrev μ-loop : tie.MeasureT-loop
 μ-loop list u out₀ count₀ w₀ out count w = length list - w
 
 loop-holds : tie.Need-loop-holds Inv-loop μ-loop
-loop-holds c = gathered-start _ _ _
+loop-holds c = gather-start _ _ _
 
 mul-is-member : tie.Need-mul-is-member Inv-loop μ-loop
 mul-is-member c = search needs
@@ -30,14 +33,16 @@ cast-out : tie.Need-cast-out Inv-loop μ-loop
 cast-out c = search needs
 
 mul-out : tie.Need-mul-out Inv-loop μ-loop
-mul-out c = omega (arith, numbered-small _ _ (c .before .before .before .before .loop .inv .numbered))
+mul-out c = omega (arith, tally-few _ _ (c .before .before .before .before .loop .inv .tallied))
 
 slice-write-out : tie.Need-slice-write-out Inv-loop μ-loop
+unfolding membersOf
 slice-write-out c = let turn = c .before .before .before in
-    omega (arith, numbered-room _ _ (turn .before .loop .inv .numbered) (turn .loop-test .taken) (c .before .is-member .ensures) (c .if1 .taken))
+    let inv = turn .before .loop .inv in
+    omega (arith, inv .same, gather-place _ _ _ inv (turn .loop-test .taken) (c .before .is-member .ensures) (turn .before .before .before .before .pre .1) (c .if1 .taken))
 
 add-count : tie.Need-add-count Inv-loop μ-loop
-add-count c = omega (arith, numbered-small _ _ (c .before .before .before .before .loop .inv .numbered))
+add-count c = omega (arith, tally-few _ _ (c .before .before .before .before .loop .inv .tallied))
 
 add-w : tie.Need-add-w Inv-loop μ-loop
 add-w c = search needs
@@ -46,16 +51,18 @@ loop-less : tie.Need-loop-less Inv-loop μ-loop
 loop-less c = search needs
 
 loop-again : tie.Need-loop-again Inv-loop μ-loop
+unfolding membersOf
 loop-again c = let turn = c .before .before .before in
-    ⊎-elim (λ k. rw (k .1, k .2) (gathered-more _ _ _ (turn .before .before .before .before .pre .1) (turn .before .loop .inv) (turn .loop-test .taken) (c .before .is-member .ensures) (k .0 .taken)))
-    (λ k. rw (k .1, k .2) (gathered-same _ _ _ (turn .before .loop .inv) (turn .loop-test .taken) (c .before .is-member .ensures) (k .0 .left)))
+    ⊎-elim (λ k. rw (k .1, k .2) (gather-more _ _ _ (turn .before .loop .inv) (turn .loop-test .taken) (c .before .is-member .ensures) (turn .before .before .before .before .pre .1) (k .0 .taken)))
+    (λ k. rw (k .1, k .2) (gather-same _ _ _ (turn .before .loop .inv) (turn .loop-test .taken) (c .before .is-member .ensures) (k .0 .left)))
     (c .if1 .came)
 
 same-length : tie.Need-same-length Inv-loop μ-loop
 same-length c = search needs
 
 returns : tie.Need-returns Inv-loop μ-loop
-returns c = gathered-end _ _ _ (c .before .loop .inv) (c .loop-test .left)
+unfolding membersOf
+returns c = gather-end _ _ _ (c .before .loop .inv) (c .loop-test .left)
 
 pub write-listed-spec : {M : Type 1} → statement M
 write-listed-spec =

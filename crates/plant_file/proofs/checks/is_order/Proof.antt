@@ -1,5 +1,4 @@
 -- `is_order` meets its contract: the laws of Filled.
-use native.Mathlib.Omega.{arith}
 use Rattle.plant_file.proofs.Filled.{order-front-long, order-tested}
 use borrow.Author.Needs.{needs}
 use Rattle.plant_file.proofs.checks.is_order.Statement.{statement}
@@ -24,10 +23,12 @@ slice-aggregate-is-order : tie.Need-slice-aggregate-is-order
 slice-aggregate-is-order c = order-front-long _ _ (c .before .before .before .before .gateways .ensures) (c .before .before .with-order .ensures)
 
 is-order-requires : tie.Need-is-order-requires
-is-order-requires c κs = (omega arith, omega (arith, order-front-long _ _ (c .before .before .before .before .gateways .ensures) (c .before .before .with-order .ensures)))
+is-order-requires c κs = search needs
 
 returns : tie.Need-returns
-returns c = order-tested _ _ (c .before .before .before .before .before .gateways .ensures) (c .before .before .before .with-order .ensures) (c .is-order .ensures)
+returns c = let filled = c .before .before .before in
+    let read = filled .before .before in
+    order-tested _ _ (read .gateways .ensures) (filled .with-order .ensures) (read .before .before .pre) (c .is-order .ensures)
 
 pub is-order-spec : {M : Type 1} → statement M
 is-order-spec =

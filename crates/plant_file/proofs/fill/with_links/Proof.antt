@@ -1,13 +1,16 @@
--- `with_links` meets its contract: the laws of Filled.
+-- `with_links` meets its contract: packing's laws of lists, two entries a turn.
 use native.Mathlib.Omega.{arith}
 use borrow.Author.Needs.{needs}
-use Prim.Native.Nat.{_-_}
-use Rattle.plant_file.proofs.Filled.{LinksIn, links-start, links-turn, links-end}
+use Prim.Native.Nat.{_*_, _-_}
+use Rattle.packing.proofs.Lists.{Listed, list-start, list-end}
+use Rattle.plant_file.specs.PlantFile.{fileM, fileLinks}
+use Rattle.plant_file.proofs.Steps.{linkNumber}
+use Rattle.plant_file.proofs.Filled.{links-turn}
 use Rattle.plant_file.proofs.fill.with_links.Statement.{statement}
 use Rattle.plant_file.proofs.fill.with_links.Tie as tie
 
 abbrev Inv-loop : tie.InvT-loop
-Inv-loop file links₀ m i₀ links i = LinksIn file links₀ links i
+Inv-loop file links₀ m i₀ links i = Listed (2 * fileM file) (linkNumber file) links₀ links (2 * i)
 
 abbrev μ-loop : tie.MeasureT-loop
 μ-loop file links₀ m i₀ links i = m - i
@@ -19,7 +22,7 @@ cast-m : tie.Need-cast-m Inv-loop μ-loop
 cast-m c = search needs
 
 loop-holds : tie.Need-loop-holds Inv-loop μ-loop
-loop-holds c = links-start _ _
+loop-holds c = list-start _ _ _
 
 with-link-requires : tie.Need-with-link-requires Inv-loop μ-loop
 with-link-requires c κs = search needs
@@ -38,7 +41,8 @@ same-length : tie.Need-same-length Inv-loop μ-loop
 same-length c = search needs
 
 returns : tie.Need-returns Inv-loop μ-loop
-returns c = links-end _ _ (c .before .loop .inv) (omega arith)
+unfolding fileLinks
+returns c = list-end _ _ _ (c .before .loop .inv) (omega arith)
 
 pub with-links-spec : {M : Type 1} → statement M
 with-links-spec =

@@ -1,13 +1,16 @@
--- `with_order` meets its contract: the laws of Filled.
+-- `with_order` meets its contract: packing's laws of lists.
 use native.Mathlib.Omega.{arith}
 use borrow.Author.Needs.{needs}
 use Prim.Native.Nat.{_-_}
-use Rattle.plant_file.proofs.Filled.{OrderIn, order-start, order-turn, order-end}
+use Rattle.packing.proofs.Lists.{Listed, list-start, list-turn, list-end}
+use Rattle.plant_file.specs.PlantFile.{fileN, fileOrder}
+use Rattle.plant_file.proofs.Steps.{orderNumber}
+use Rattle.plant_file.proofs.Filled.{order-entry}
 use Rattle.plant_file.proofs.fill.with_order.Statement.{statement}
 use Rattle.plant_file.proofs.fill.with_order.Tie as tie
 
 abbrev Inv-loop : tie.InvT-loop
-Inv-loop file order₀ n start i₀ order i = OrderIn file order₀ order i
+Inv-loop file order₀ n start i₀ order i = Listed (fileN file) (orderNumber file) order₀ order i
 
 abbrev μ-loop : tie.MeasureT-loop
 μ-loop file order₀ n start i₀ order i = n - i
@@ -31,7 +34,7 @@ add-start : tie.Need-add-start Inv-loop μ-loop
 add-start c = search needs
 
 loop-holds : tie.Need-loop-holds Inv-loop μ-loop
-loop-holds c = order-start _ _
+loop-holds c = list-start _ _ _
 
 mul-number-at : tie.Need-mul-number-at Inv-loop μ-loop
 mul-number-at c = search needs
@@ -56,13 +59,14 @@ loop-less c = search needs
 
 loop-again : tie.Need-loop-again Inv-loop μ-loop
 loop-again c = let at = c .before .before in
-    order-turn _ _ (at .before .before .before .before .before .pre) (at .loop .inv) (omega arith) (at .before .link-count .ensures) (c .number-at .ensures)
+    list-turn _ _ _ (at .before .before .before .before .before .pre) (at .loop .inv) (omega arith) (order-entry _ _ (at .before .link-count .ensures) (c .number-at .ensures))
 
 same-length : tie.Need-same-length Inv-loop μ-loop
 same-length c = search needs
 
 returns : tie.Need-returns Inv-loop μ-loop
-returns c = order-end _ _ (c .before .loop .inv) (omega arith)
+unfolding fileOrder
+returns c = list-end _ _ _ (c .before .loop .inv) (omega arith)
 
 pub with-order-spec : {M : Type 1} → statement M
 with-order-spec =

@@ -2,7 +2,6 @@
 use Prim.Native.Nat.{_-_}
 use borrow.Author.Needs.{needs}
 use lib.ListN.{length}
-use Rattle.packing.specs.Lists.{written}
 use Rattle.search.specs.ChokePre.{seenByte}
 use Rattle.search.proofs.Seen.{byte-seen}
 use Rattle.packing.proofs.Lists.{Listed, list-start, list-turn, list-end}
@@ -43,7 +42,6 @@ same-length : tie.Need-same-length Inv-loop μ-loop
 same-length c = search needs
 
 returns : tie.Need-returns Inv-loop μ-loop
-unfolding written
 returns c = list-end _ _ _ (c .before .loop .inv) (c .loop-test .left)
 
 pub write-seen-spec : {M : Type 1} → statement M

@@ -1,5 +1,5 @@
 -- `free_or_marked` meets its contract.
-use borrow.Author.Tests.{eq-eqb, ne-eqb, lt-ltb, le-ltb, lt-leb, le-leb}
+use borrow.Author.Tests.{eq-eqb, ne-eqb}
 use Rattle.sound.proofs.marks.free_or_marked.Statement.{statement}
 use Rattle.sound.proofs.marks.free_or_marked.Tie as tie
 

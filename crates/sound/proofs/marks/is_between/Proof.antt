@@ -1,5 +1,5 @@
 -- `is_between` meets its contract.
-use borrow.Author.Tests.{eq-eqb, ne-eqb, lt-ltb, le-ltb, lt-leb, le-leb}
+use borrow.Author.Tests.{lt-leb, le-leb}
 use Rattle.sound.proofs.marks.is_between.Statement.{statement}
 use Rattle.sound.proofs.marks.is_between.Tie as tie
 

@@ -1,7 +1,6 @@
 -- `over_links` meets its contract: the laws of Walk.
 use borrow.Author.Needs.{needs}
-use Prim.Native.Nat.{_+_, _-_}
-use native.Mathlib.Omega.{arith}
+use Prim.Native.Nat.{_-_}
 use lib.ListN.{length}
 use Rattle.sound.proofs.Walk.{Walked, walk-start, walk-turn, walk-end}
 use Rattle.sound.proofs.passes.over_links.Statement.{statement}

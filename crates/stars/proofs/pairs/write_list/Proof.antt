@@ -3,7 +3,6 @@ use borrow.Author.Needs.{needs}
 use Prim.Native.Nat.{_-_}
 use lib.Dec.{ltb}
 use Rattle.packing.specs.Plant.{at}
-use Rattle.packing.specs.Lists.{written}
 use Rattle.stars.specs.Stars.{ruleFive}
 use Rattle.packing.proofs.Lists.{Listed, list-start, list-turn, list-end}
 use Rattle.stars.proofs.pairs.write_list.Statement.{statement}
@@ -44,7 +43,6 @@ same-length : tie.Need-same-length Inv-loop μ-loop
 same-length c = search needs
 
 returns : tie.Need-returns Inv-loop μ-loop
-unfolding written
 returns c = list-end _ _ _ (c .before .loop .inv) (c .loop-test .left)
 
 pub write-list-spec : {M : Type 1} → statement M
