@@ -1,8 +1,8 @@
 -- Groupings and choke differences look at nothing from n on.
 use Prim.Native.Nat.{ℕ, _+_, _<_}
-use mathlib.Core.Path.{_≡_, refl, sym, ap, _∙_}
-use mathlib.Core.Bool.{Bool, true, false, not, _&&_, _||_}
-use lib.Dec.{eqb, ltb, leb}
+use mathlib.Core.Path.{_≡_, sym, ap, _∙_}
+use mathlib.Core.Bool.{Bool, not, _&&_, _||_}
+use lib.Dec.{eqb, ltb}
 use borrow.Author.Tests.{ltb-true}
 use Rattle.packing.specs.Count.{pick, sum, count, sumOver, all}
 use Rattle.packing.specs.Grouping.{Grouping, memberCount, isAlone, isLeader, isMember}

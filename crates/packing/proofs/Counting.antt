@@ -5,25 +5,33 @@ use mathlib.Core.Bool.{Bool, true, false}
 use native.Mathlib.Nat.{add-zero, le-antisymm}
 use native.Mathlib.Numerals.{add-one}
 use native.Mathlib.Omega.{arith}
+use lib.Dec.{eqb}
 use Rattle.packing.specs.Count.{pick, sum, count}
-use Rattle.packing.proofs.Sums.{count-suc, count-bound, count-longer}
+use Rattle.packing.proofs.Sums.{count-suc, count-longer}
 
 -- k of the first w have p
 pub record Tallied (n : ℕ) (p : ℕ → Bool) (k w : ℕ) : Type 0 where
   pub upto : w ≤ n
+  pub few : k ≤ w
   pub counted : k ≡ count w p
+
+-- a test as a number is 1 where it holds, ..
+pub pick-test : (b : Bool) → eqb (pick b 1) 1 ≡ b
+pick-test true = refl
+pick-test false = refl
+
+-- .. and adds at most 1
+pub pick-few : (b : Bool) {x : ℕ} → x ≡ pick b 1 → x ≤ 1
+pick-few true e = omega arith
+pick-few false e = omega arith
 
 module _ (n : ℕ) (p : ℕ → Bool) where
   pub tally-start : Tallied n p 0 0
   unfolding count sum
-  tally-start = record { upto = omega arith; counted = refl }
+  tally-start = record { upto = omega arith; few = omega arith; counted = refl }
 
-  -- it never counts more than it has passed
-  pub tally-few : {k w : ℕ} → Tallied n p k w → k ≤ w
-  tally-few {k} {w} t = omega (arith, t .counted, count-bound w p)
-
-  tally-turn : {k x w : ℕ} → Tallied n p k w → w < n → x ≡ pick (p w) 1 → Tallied n p (k + x) (w + 1)
-  tally-turn {k} {x} {w} t h e = record { upto = omega arith; counted = rw (t .counted, e, add-one w, count-suc) }
+  pub tally-turn : {k x w : ℕ} → Tallied n p k w → w < n → x ≡ pick (p w) 1 → Tallied n p (k + x) (w + 1)
+  tally-turn {k} {x} {w} t h e = record { upto = omega arith; few = omega (arith, t .few, pick-few (p w) e); counted = rw (t .counted, e, add-one w, count-suc) }
 
   pub tally-more : {k w : ℕ} {b : Bool} → Tallied n p k w → w < n → b ≡ p w → b ≡ true → Tallied n p (k + 1) (w + 1)
   tally-more t h e f = tally-turn t h (ap (λ (b : Bool). pick b 1) (sym f ∙ e))

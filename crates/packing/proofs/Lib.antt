@@ -4,6 +4,7 @@ pub mod Sums
 pub mod Counting
 pub mod Flat
 pub mod Lists
+pub mod Fitted
 pub mod Tight
 pub mod Hall
 pub mod Pairs

@@ -10,10 +10,10 @@ use native.Mathlib.Omega.{arith}
 use lib.Dec.{eqb}
 use lib.ListN.{length, getD, set, take, drop, replicate, length-append, length-drop, length-set, replicate-append-replicate, List·getD-append}
 use lib.Seq.{getD-at, drop-cons, set-at, take-at, append-snoc, ext-getD}
-use borrow.Author.Tests.{eqb-true, eq-eqb, leb-true, le-leb}
+use borrow.Author.Tests.{eqb-true, eq-eqb}
 use Rattle.packing.specs.Count.{pick, sum, count}
-use Rattle.packing.specs.Lists.{listOf, listWhere, written, fits}
-use Rattle.packing.proofs.Tests.{tests, below-suc, or-cases, or-l, or-r}
+use Rattle.packing.specs.Lists.{listOf, listWhere, written}
+use Rattle.packing.proofs.Tests.{below-suc, or-cases, or-l, or-r}
 use Rattle.packing.proofs.Counting.{Tallied, tally-start, tally-more, tally-same, tally-less, tally-end}
 use Rattle.packing.proofs.Links.{memberOf}
 
@@ -169,12 +169,3 @@ module _ (n : ℕ) (p : ℕ → Bool) (old : List ℕ) where
 
   pub gather-end : {new : List ℕ} {k w : ℕ} → Gathered n p old new k w → n ≤ w → (k ≡ length (listWhere n p)) × (new ≡ written k (listWhere n p) old)
   gather-end g h = (tally-end n p (g .tallied) h ∙ sym (listWhere-length n p), rw (le-antisymm (g .tallied .upto) h) at (g .list))
-
--- what the test of n and the lengths says, and what it takes
-pub fits-means : (n : ℕ) (read out : List ℕ) → fits n read out ≡ true → (n ≤ 1024) × (n ≤ length read) × (n ≤ length out)
-unfolding fits
-fits-means n read out e = search (tests, leb-true)
-
-pub fits-holds : (n : ℕ) (read out : List ℕ) → n ≤ 1024 → n ≤ length read → n ≤ length out → fits n read out ≡ true
-unfolding fits
-fits-holds n read out few held room = rw (le-leb n 1024 few, le-leb n (length read) held, le-leb n (length out) room)

@@ -128,11 +128,6 @@ unfolding count
 count-same n p q h e i l t =
     pick-one (p i) (sum-equal n (λ j. pick (p j) 1) (λ j. pick (q j) 1) (λ j k. pick-mono (p j) (q j) (h j k)) e i l ∙ ap (λ (b : Bool). pick b 1) t)
 
--- of those equal to a there is one below n
-pub count-at : (n a : ℕ) → a < n → count n (λ i. eqb a i) ≡ 1
-unfolding count
-count-at n a l = sum-single n a (λ u. 1) l
-
 -- where one has p the count is not 0, and a count that is not 0 has one with p
 pub count-some : (n : ℕ) (p : ℕ → Bool) (i : ℕ) → i < n → p i ≡ true → 1 ≤ count n p
 unfolding count

@@ -55,14 +55,6 @@ pub or-false-r : (a b : Bool) → (a || b) ≡ false → b ≡ false
 or-false-r true b e = absurd (true≢false e)
 or-false-r false b e = e
 
-pub and-false-l : (a b : Bool) → a ≡ false → (a && b) ≡ false
-and-false-l true b e = absurd (true≢false e)
-and-false-l false b e = refl
-
-pub and-false-r : (a b : Bool) → b ≡ false → (a && b) ≡ false
-and-false-r true b e = e
-and-false-r false b e = refl
-
 pub not-i : (b : Bool) → b ≡ false → not b ≡ true
 not-i true e = absurd (true≢false e)
 not-i false e = refl
@@ -95,9 +87,6 @@ unfolding all
 all-intro zero p h = refl
 all-intro (suc n) p h = and-i (all n p) (p n) (all-intro n p (λ i l. h i (omega arith))) (h n (omega arith))
 
-pub all-false : (n : ℕ) (p : ℕ → Bool) (i : ℕ) → i < n → p i ≡ false → all n p ≡ false
-all-false n p i l e = not-test (all n p) (λ t. clash (p i) (all-elim n p t i l) e)
-
 pub all-ext : (n : ℕ) (p q : ℕ → Bool) → ((i : ℕ) → i < n → p i ≡ q i) → all n p ≡ all n q
 unfolding all
 all-ext zero p q h = refl
@@ -114,14 +103,6 @@ all-end n p ok i u l e = e ∙ ap (λ (k : ℕ). all k p) (last u l)
   where
     last : i ≤ n → n ≤ i → i ≡ n
     last a b = omega arith
-
--- where not every one has p, one has not
-pub all-fails : (n : ℕ) (p : ℕ → Bool) → all n p ≡ false → (i : ℕ) × (i < n) × (p i ≡ false)
-unfolding all
-all-fails zero p e = absurd (true≢false e)
-all-fails (suc n) p e =
-    by-bool (all n p) (λ t. by-bool (p n) (λ q. clash (all n p && p n) (and-i (all n p) (p n) t q) e) (λ q. (n, (omega arith), q)))
-    (λ f. let r = all-fails n p f in (r .0, omega (arith, r .1), r .2))
 
 pub any-intro : (n : ℕ) (p : ℕ → Bool) (i : ℕ) → i < n → p i ≡ true → any n p ≡ true
 unfolding any

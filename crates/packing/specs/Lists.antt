@@ -1,5 +1,5 @@
 -- Lists of numbers by gateway, and what a lent list holds once its front is written.
-use Prim.Native.Nat.{ℕ, zero, suc}
+use Prim.Native.Nat.{ℕ, zero, suc, _≤_}
 use mathlib.Core.Bool.{Bool, cond, _&&_}
 use mathlib.Core.List.{List, [], _∷_, _++_}
 use lib.Dec.{leb}
@@ -22,3 +22,13 @@ written n front lent = front ++ drop n lent
 -- n is in range (01, "The product"), and there are n entries in a list that is read by gateway and in one that is written
 unfoldable pub fits : ℕ → List ℕ → List ℕ → Bool
 fits n read out = leb n 1024 && leb n (length read) && leb n (length out)
+
+-- .. as facts
+pub record Lent (n : ℕ) (read out : List ℕ) : Type 0 where
+  pub few : n ≤ 1024
+  pub entries : n ≤ length read
+  pub places : n ≤ length out
+
+-- a lent list after a call that writes f's value for each gateway where that fits: as it came where it does not
+unfoldable pub fitted : ℕ → List ℕ → (ℕ → ℕ) → List ℕ → List ℕ
+fitted n read f out = cond (fits n read out) (written n (listOf n f) out) out

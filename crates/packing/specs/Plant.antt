@@ -1,7 +1,7 @@
 -- A plant (01, "The record"): gateways 0 to n - 1, the links as a list of two numbers each in order of arrival, a limit for each gateway, and an order.
 -- Limits are a function of the gateway throughout; a plant with the common limit T has T for every gateway.
 use Prim.Native.Nat.{ℕ, _*_}
-use mathlib.Core.Bool.{Bool, true, false, _&&_, _||_, cond}
+use mathlib.Core.Bool.{Bool, false, _&&_, _||_, cond}
 use mathlib.Core.List.{List, [], _∷_}
 use lib.Dec.{eqb}
 use lib.ListN.{take, getD}

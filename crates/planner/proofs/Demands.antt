@@ -1,17 +1,18 @@
 -- The claims of specs/Claims.antt.
 use Prim.Native.Nat.{ℕ, zero, suc, _<_, _≤_}
 use mathlib.Core.Path.{_≡_, refl, sym, ap, _∙_}
-use mathlib.Core.Bool.{Bool, true, false, not}
+use mathlib.Core.Bool.{Bool, not}
 use mathlib.Core.List.{List, [], _∷_}
 use native.Mathlib.Omega.{arith}
 use lib.Dec.{eqb}
 use lib.ListN.{length}
-use Rattle.packing.specs.Count.{pick, count}
+use Rattle.packing.specs.Count.{count}
 use Rattle.packing.specs.Plant.{NONE, at, common, linked}
 use Rattle.packing.specs.Grouping.{Grouping, covered, countFirst, coveredFirst}
 use Rattle.packing.specs.Holders.{held}
 use Rattle.packing.specs.Choke.{ChokeDifference}
 use Rattle.packing.proofs.Sums.{count-ext}
+use Rattle.packing.proofs.Counting.{pick-test}
 use Rattle.packing.proofs.Lists.{listed-at}
 use Rattle.packing.proofs.Prefixes.{order-whole}
 use Rattle.packing.proofs.Below.{grouping-below, difference-below}
@@ -53,11 +54,7 @@ module _ {s : State} {p : Told} (a : Agrees s p) (leaders choke : List ℕ) (z :
 
   choke-is : (v : ℕ) → v < p .n → inChoke (p .n) (p .links) (s .holders) v ≡ chokeRead s leaders choke v
   unfolding chokeByte
-  choke-is v l = bit (inChoke (p .n) (p .links) (s .holders) v) ∙ ap (λ (x : ℕ). eqb x 1) (sym (choke-at v l))
-    where
-      bit : (b : Bool) → b ≡ eqb (pick b 1) 1
-      bit true = refl
-      bit false = refl
+  choke-is v l = sym (pick-test (inChoke (p .n) (p .links) (s .holders) v)) ∙ ap (λ (x : ℕ). eqb x 1) (sym (choke-at v l))
 
   -- the record's links and order are those told
   read-grouping : Grouping (p .n) (common (p .t)) (linked (p .links)) (leadersRead s leaders choke)

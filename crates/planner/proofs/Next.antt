@@ -9,15 +9,14 @@ use borrow.Author.Tests.{eq-eqb, ne-eqb, le-ltb, not-false}
 use Rattle.packing.specs.Lists.{listOf, written}
 use Rattle.packing.specs.Plant.{NONE, at, common, firstLinks}
 use Rattle.packing.specs.Holders.{held}
-use Rattle.packing.proofs.Lists.{fits-holds}
 use Rattle.search.specs.Search.{placedHolders, holdersAfter}
 use Rattle.search.specs.ChokeSet.{chokeByte, chokeWritten}
 use Rattle.search.specs.Pre.{Placeable}
-use Rattle.search.proofs.Tested.{holders-placed, bytes-written}
+use Rattle.search.proofs.Tested.{holders-placed}
 use Rattle.sound.specs.Sound.{isSound}
 use Rattle.sound.proofs.Meaning.{Sound, sound-means}
 use Rattle.stars.specs.Stars.{leaderList, leadersWritten}
-use Rattle.stars.proofs.Written.{leaders-written}
+use Rattle.packing.proofs.Fitted.{fitted-written}
 use Rattle.planner.specs.Refusals.{placeConditions}
 
 -- a record that passed the test of soundness
@@ -46,11 +45,13 @@ next-placed n t m k ls os hs s more e = e ∙ holders-placed (common t) (firstLi
 -- the leader list and the choke bytes fit where there is a place for each, and so they are written
 pub leaders-placed : (n t m k : ℕ) (ls os hs leaders : List ℕ) {leaders' : List ℕ} → Sound n t m k ls os hs → n ≤ length leaders → leaders' ≡ leadersWritten n hs leaders
     → leaders' ≡ written n (listOf n (leaderList n hs)) leaders
-leaders-placed n t m k ls os hs leaders s room e = e ∙ leaders-written n hs leaders (fits-holds n hs leaders (s .few) (s .holders-long) room)
+unfolding leadersWritten
+leaders-placed n t m k ls os hs leaders s room e = e ∙ fitted-written (leaderList n hs) (record { few = s .few; entries = s .holders-long; places = room })
 
 pub choke-placed : (n t m k : ℕ) (ls os hs choke : List ℕ) {choke' : List ℕ} → Sound n t m k ls os hs → n ≤ length choke → choke' ≡ chokeWritten n (firstLinks m ls) hs choke
     → choke' ≡ written n (listOf n (chokeByte n (firstLinks m ls) hs)) choke
-choke-placed n t m k ls os hs choke s room e = e ∙ bytes-written n (firstLinks m ls) hs choke (fits-holds n hs choke (s .few) (s .holders-long) room)
+unfolding chokeWritten
+choke-placed n t m k ls os hs choke s room e = e ∙ fitted-written (chokeByte n (firstLinks m ls) hs) (record { few = s .few; entries = s .holders-long; places = room })
 
 pub place-full : (n k : ℕ) → k ≡ n → 24 ≡ placeConditions n k
 unfolding placeConditions

@@ -9,7 +9,7 @@ use native.Mathlib.Omega.{arith}
 use lib.ListN.{length, set, take, length-set}
 use lib.Seq.{take-suc-set}
 use borrow.Author.Tests.{lt-ltb, le-ltb, not-true}
-use Rattle.packing.specs.Lists.{listWhere}
+use Rattle.packing.specs.Lists.{listWhere, Lent}
 use Rattle.packing.specs.Plant.{at}
 use Rattle.packing.specs.Holders.{held}
 use Rattle.packing.proofs.Tests.{not-i}
@@ -17,7 +17,7 @@ use Rattle.packing.proofs.Sums.{count-split, count-all}
 use Rattle.packing.proofs.Lists.{listWhere-length, listWhere-in, listWhere-out}
 use Rattle.packing.proofs.Links.{memberOf}
 use Rattle.search.proofs.Queue.{member-at}
-use Rattle.search.specs.Pre.{Lent, Startable}
+use Rattle.search.specs.Pre.{Startable}
 use Rattle.search.specs.ChokeSet.{withoutHolder}
 use Rattle.search.specs.ChokePre.{Queued}
 

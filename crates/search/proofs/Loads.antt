@@ -1,4 +1,4 @@
--- The two passes over the holders: the invariant of each, its turns, and its end.
+-- The pass that joins what a gateway holds to the queue: its invariant, its turns, and its end.
 use Prim.Native.Nat.{ℕ, _+_, _<_, _≤_}
 use mathlib.Core.Path.{_≡_, refl, sym, ap, _∙_}
 use mathlib.Core.Bool.{Bool}
@@ -25,26 +25,6 @@ one-more v h u e = holds-suc v h u ∙ ap (λ (b : Bool). holds v h u + pick b 1
 
 no-more : (v : ℕ) (h : ℕ → ℕ) (u : ℕ) → (h v ≡ u → ⊥) → holds (v + 1) h u ≡ holds v h u
 no-more v h u e = omega (arith, holds-suc v h u, ap (λ (b : Bool). pick b 1) (ne-eqb (h v) u e))
-
--- k of the first v are held by u
-pub record Counted (n u : ℕ) (hs : List ℕ) (k v : ℕ) : Type 0 where
-  pub upto : v ≤ n
-  pub counted : k ≡ holds v (at hs) u
-  pub small : k ≤ v
-
-module _ (n u : ℕ) (hs : List ℕ) where
-  pub count-start : Counted n u hs 0 0
-  unfolding holds count sum
-  count-start = record { upto = omega arith; counted = refl; small = omega arith }
-
-  pub count-one : {k v : ℕ} → Counted n u hs k v → v < n → at hs v ≡ u → Counted n u hs (k + 1) (v + 1)
-  count-one {k} {v} c l e = record { upto = omega arith; counted = omega (arith, one-more v (at hs) u e, c .counted); small = omega (arith, c .small) }
-
-  pub count-pass : {k v : ℕ} → Counted n u hs k v → v < n → (at hs v ≡ u → ⊥) → Counted n u hs k (v + 1)
-  count-pass {k} {v} c l e = record { upto = omega arith; counted = c .counted ∙ sym (no-more v (at hs) u e); small = omega (arith, c .small) }
-
-  pub count-end : {k v : ℕ} → Counted n u hs k v → n ≤ v → k ≡ holds n (at hs) u
-  count-end {k} {v} c l = c .counted ∙ ap (λ (w : ℕ). holds w (at hs) u) (le-antisymm (c .upto) l)
 
 -- what u holds of the first v has joined
 pub record Joining (n u : ℕ) (hs queue₀ : List ℕ) (tail : ℕ) (queue : List ℕ) (end v : ℕ) : Type 0 where

@@ -8,12 +8,12 @@ use lib.Dec.{eqb}
 use lib.ListN.{length, take, replicate, length-replicate}
 use borrow.Author.Tests.{eq-eqb, ne-eqb}
 use Rattle.packing.specs.Count.{pick}
-use Rattle.packing.specs.Lists.{listOf, written}
+use Rattle.packing.specs.Lists.{listOf, written, Lent}
 use Rattle.packing.specs.Plant.{NONE, at, common}
 use Rattle.search.specs.Search.{Search, seen, walk}
 use Rattle.search.specs.declared.Walked.{Walked}
 use Rattle.search.specs.declared.Walked.the-variants.{Found, RanOut}
-use Rattle.search.specs.Pre.{outcome, Is, Lent, Walkable}
+use Rattle.search.specs.Pre.{outcome, Is, Walkable}
 use Rattle.search.specs.ChokeSet.{chokeWalk, seenIn, inChoke, chokeByte}
 use Rattle.search.specs.ChokePre.{Queued, Workable, seenByte}
 use Rattle.packing.proofs.Lists.{listOf-ext}
@@ -43,7 +43,7 @@ module _ {n : ℕ} {hs queue from out queue' : List ℕ} {tail : ℕ} (w : Worka
   set-walkable same =
       record {
         start = rw (q .state) (left-startable n hs (w .lent .few));
-        holders = w .lent .holders;
+        holders = w .lent .entries;
         within = q .within;
         space = record { places = omega (arith, w .space .places); unseen = w .space .unseen };
       }

@@ -1,18 +1,15 @@
--- The tests that `place` and `choke_set` make of what they are lent: what each says, and what the call leaves by it. b is a test's answer.
+-- The test that `place` makes of what it is lent: what it says, and what the call leaves by it. b is its answer.
 use Prim.Native.Nat.{ℕ}
 use mathlib.Core.Path.{_≡_, sym, _∙_}
 use mathlib.Core.Bool.{Bool, true, false, not}
 use mathlib.Core.List.{List}
 use lib.ListN.{length}
 use borrow.Author.Tests.{leb-true, ltb-true, le-leb, lt-ltb, not-true, not-false}
-use Rattle.packing.specs.Lists.{listOf, written, fits}
 use Rattle.packing.specs.Plant.{at}
 use Rattle.packing.specs.Holders.{held}
 use Rattle.packing.proofs.Tests.{tests}
-use Rattle.packing.proofs.Lists.{fits-means}
 use Rattle.search.specs.Search.{placedHolders, placeable, holdersAfter}
-use Rattle.search.specs.Pre.{Lent, Placeable}
-use Rattle.search.specs.ChokeSet.{chokeByte, chokeWritten}
+use Rattle.search.specs.Pre.{Placeable}
 
 -- what the test of v says, and what it takes
 placeable-means : (n : ℕ) (hs : List ℕ) (v : ℕ) → placeable n hs v ≡ true → Placeable n hs v
@@ -46,21 +43,3 @@ module _ (n : ℕ) (hs : List ℕ) (v : ℕ) {b : Bool} (e : b ≡ placeable n h
       → (true ≡ placeable n hs v) × (hs' ≡ holdersAfter n limit ls hs v)
   unfolding holdersAfter
   place-places limit ls t h = (sym (not-false b t) ∙ e, rw (sym e ∙ not-false b t) h)
-
--- where n and the lengths fit, the choke bytes are written
-pub bytes-written : (n : ℕ) (ls hs out : List ℕ) → fits n hs out ≡ true → chokeWritten n ls hs out ≡ written n (listOf n (chokeByte n ls hs)) out
-unfolding chokeWritten
-bytes-written n ls hs out e = rw e
-
-module _ (n : ℕ) (hs out : List ℕ) {b : Bool} (e : b ≡ fits n hs out) where
-  pub choke-lent : not b ≡ false → Lent n hs out
-  choke-lent t = let r = fits-means n hs out (sym e ∙ not-false b t) in record { few = r .0; holders = r .1; places = r .2 }
-
-  pub choke-refuses : (ls : List ℕ) → not b ≡ true → (false ≡ fits n hs out) × (out ≡ chokeWritten n ls hs out)
-  unfolding chokeWritten
-  choke-refuses ls f = (sym (not-true b f) ∙ e, rw (sym e ∙ not-true b f))
-
-  pub choke-writes : (ls : List ℕ) {out' : List ℕ} → not b ≡ false → out' ≡ written n (listOf n (chokeByte n ls hs)) out
-      → (true ≡ fits n hs out) × (out' ≡ chokeWritten n ls hs out)
-  unfolding chokeWritten
-  choke-writes ls t h = (sym (not-false b t) ∙ e, rw (sym e ∙ not-false b t) h)

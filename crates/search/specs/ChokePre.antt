@@ -4,8 +4,9 @@ use mathlib.Core.Path.{_≡_}
 use mathlib.Core.List.{List}
 use lib.ListN.{length, take}
 use Rattle.packing.specs.Count.{pick}
+use Rattle.packing.specs.Lists.{Lent}
 use Rattle.search.specs.Search.{seen}
-use Rattle.search.specs.Pre.{Lent, Workspace}
+use Rattle.search.specs.Pre.{Workspace}
 use Rattle.search.specs.ChokeSet.{withoutHolder}
 
 -- the first places of the queue are the gateways without holder

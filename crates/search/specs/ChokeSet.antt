@@ -1,10 +1,10 @@
 -- 01, "Reading": "Choke set: start the placing queue with all gateways without holder, ascending, and take nothing;
 -- each neighbour seen is in the set, and all that it holds joins the queue." ls are the plant's links, hs the holders.
 use Prim.Native.Nat.{ℕ}
-use mathlib.Core.Bool.{Bool, not, cond}
+use mathlib.Core.Bool.{Bool, not}
 use mathlib.Core.List.{List}
 use Rattle.packing.specs.Count.{pick}
-use Rattle.packing.specs.Lists.{listOf, listWhere, written, fits}
+use Rattle.packing.specs.Lists.{listWhere, fitted}
 use Rattle.packing.specs.Plant.{at, common}
 use Rattle.packing.specs.Holders.{held}
 use Rattle.search.specs.Search.{Search, found, more, seen, walk}
@@ -31,4 +31,4 @@ chokeByte n ls hs v = pick (inChoke n ls hs v) 1
 
 -- a lent list after the call: the choke bytes in its first n entries, or as it came where n or a length does not fit
 unfoldable pub chokeWritten : ℕ → List ℕ → List ℕ → List ℕ → List ℕ
-chokeWritten n ls hs out = cond (fits n hs out) (written n (listOf n (chokeByte n ls hs)) out) out
+chokeWritten n ls hs out = fitted n hs (chokeByte n ls hs) out

@@ -56,12 +56,6 @@ pub record Joined (n u : ℕ) (hs queue queue' : List ℕ) (tail tail' : ℕ) : 
   pub state : take tail' queue' ≡ take tail queue ++ heldBy n hs u
   pub within : tail' ≤ length queue'
 
--- n is in range, and there are n entries in a list that is read by gateway and in one that is written
-pub record Lent (n : ℕ) (hs out : List ℕ) : Type 0 where
-  pub few : n ≤ 1024
-  pub holders : n ≤ length hs
-  pub places : n ≤ length out
-
 -- a queue of n places, and marks of nobody, to work in
 pub record Workspace (n : ℕ) (queue from : List ℕ) : Type 0 where
   pub places : n ≤ length queue

@@ -1,5 +1,5 @@
 // The gateways without holder.
-ghost use Rattle.search.specs.Pre.{Lent};
+ghost use Rattle.packing.specs.Lists.{Lent};
 ghost use Rattle.search.specs.ChokePre.{Queued};
 
 // Queues all gateways without holder, ascending. Returns how many are queued.

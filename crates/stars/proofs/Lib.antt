@@ -18,4 +18,3 @@ pub mod Begins
 pub mod Passes
 pub mod Pairing
 pub mod Joined
-pub mod Written

@@ -1,13 +1,12 @@
--- What a loop over the i below n gathers: whether any has p, how many have it, and the first that has it.
+-- What a loop over the i below n gathers: whether any has p, and the first that has it.
 use Prim.Native.Nat.{ℕ, zero, suc, _+_, _<_, _≤_}
 use mathlib.Core.Path.{_≡_, refl, sym, ap, _∙_}
 use mathlib.Core.Bool.{Bool, true, false, _||_}
 use native.Mathlib.Nat.{not-suc-le-zero, le-antisymm}
 use native.Mathlib.Numerals.{add-one}
 use native.Mathlib.Omega.{arith}
-use Rattle.packing.specs.Count.{pick, sum, count, any, firstWith}
+use Rattle.packing.specs.Count.{any, firstWith}
 use Rattle.packing.proofs.Tests.{or-none, below-suc, any-intro, any-none, any-fails}
-use Rattle.packing.proofs.Sums.{count-suc}
 
 -- one more at the end, as a loop gathers it
 pub any-more : (n : ℕ) (p : ℕ → Bool) (found b r : Bool) → found ≡ any n p → b ≡ p n → r ≡ (found || b) → r ≡ any (n + 1) p
@@ -39,33 +38,6 @@ pub first-ext : (n : ℕ) (p q : ℕ → Bool) → ((i : ℕ) → i < n → p i 
 unfolding firstWith
 first-ext zero p q h = refl
 first-ext (suc n) p q h = rw (any-ext n p q (λ i l. h i (omega arith)), first-ext n p q (λ i l. h i (omega arith)), h n (omega arith))
-
--- a loop that counts those with p has counted k of the first w
-pub record Tallied (n : ℕ) (p : ℕ → Bool) (k w : ℕ) : Type 0 where
-  pub upto : w ≤ n
-  pub few : k ≤ w
-  pub counted : k ≡ count w p
-
--- a test adds at most 1
-pub pick-few : (b : Bool) {x : ℕ} → x ≡ pick b 1 → x ≤ 1
-pick-few true e = omega arith
-pick-few false e = omega arith
-
-module _ (n : ℕ) (p : ℕ → Bool) where
-  pub tally-start : Tallied n p 0 0
-  unfolding count sum
-  tally-start = record { upto = omega arith; few = omega arith; counted = refl }
-
-  pub tally-turn : {k w x : ℕ} (b : Bool) → Tallied n p k w → w < n → b ≡ p w → x ≡ pick b 1 → Tallied n p (k + x) (w + 1)
-  tally-turn {k} {w} {x} b t h e f =
-      record {
-        upto = omega arith;
-        few = omega (arith, pick-few b f);
-        counted = rw add-one (rw (t .counted, f, e) (sym (count-suc w p)));
-      }
-
-  pub tally-end : {k w : ℕ} → Tallied n p k w → n ≤ w → k ≡ count n p
-  tally-end {k} {w} t h = t .counted ∙ ap (λ (m : ℕ). count m p) (le-antisymm (t .upto) h)
 
 -- a loop that looks for the first with p has passed w, none of which has it
 pub record Sought (n : ℕ) (p : ℕ → Bool) (w : ℕ) : Type 0 where

@@ -1,14 +1,14 @@
 -- Arrays with a place for each gateway: filled one after the other, and read.
 use Prim.Native.Nat.{ℕ, zero, suc, _+_, _<_, _≤_}
 use mathlib.Core.Path.{_≡_, refl, sym, ap, _∙_}
-use mathlib.Core.Bool.{Bool, true, false}
+use mathlib.Core.Bool.{Bool}
 use mathlib.Core.List.{List}
 use native.Mathlib.Nat.{not-suc-le-zero, le-antisymm}
 use native.Mathlib.Numerals.{add-one}
 use native.Mathlib.Omega.{arith}
-use lib.Dec.{eqb}
 use lib.ListN.{set, replicate, length-set}
 use lib.Seq.{getD-set-same, getD-set-other}
+use Rattle.packing.proofs.Counting.{pick-test}
 use Rattle.packing.specs.Count.{pick}
 use Rattle.packing.specs.Plant.{at}
 use Rattle.packing.proofs.Tests.{below-suc}
@@ -52,9 +52,5 @@ pub mark : {b b' : Bool} {x : ℕ} → x ≡ pick b 1 → b ≡ b' → x ≡ pic
 mark e f = e ∙ ap (λ (b : Bool). pick b 1) f
 
 -- a test of which 1 or 0 is kept
-pick-test : (b : Bool) → eqb (pick b 1) 1 ≡ b
-pick-test true = refl
-pick-test false = refl
-
 pub read-mark : {n : ℕ} (p : ℕ → Bool) {l : List ℕ} → Marks n p l → (v : ℕ) → v < n → marked l v ≡ p v
 read-mark p m v h = rw (m .entry v h) (pick-test (p v))

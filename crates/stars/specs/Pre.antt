@@ -9,12 +9,6 @@ use Rattle.packing.specs.Count.{pick, any}
 use Rattle.packing.specs.Plant.{at}
 use Rattle.stars.specs.Stars.{onCycle, leadsInTrees, cut, leads}
 
--- what the leader list is made of, and where it goes: n holders and n places. An entry of hs may be any number: one from n on is no gateway.
-pub record Lent (n : ℕ) (hs out : List ℕ) : Type 0 where
-  pub few : n ≤ 1024
-  pub held : n ≤ length hs
-  pub room : n ≤ length out
-
 -- the first n entries of a list
 pub record Entries (n : ℕ) (l : List ℕ) : Type 0 where
   pub few : n ≤ 1024

@@ -8,7 +8,7 @@ use lib.Dec.{eqb, ltb, leb}
 use Rattle.packing.specs.Count.{all, any, firstWith}
 use Rattle.packing.specs.Plant.{NONE, at}
 use Rattle.packing.specs.Grouping.{follows, memberCount}
-use Rattle.packing.specs.Lists.{listOf, written, fits}
+use Rattle.packing.specs.Lists.{fitted}
 
 -- v's holder; what is no gateway has none
 unfoldable pub holder : ℕ → List ℕ → ℕ → ℕ
@@ -72,4 +72,4 @@ leaderList n hs = ruleFive ltb n (leaderOf n hs)
 
 -- a lent list after the call: the leader list in its first n entries, or as it came where n or a length does not fit
 unfoldable pub leadersWritten : ℕ → List ℕ → List ℕ → List ℕ
-leadersWritten n hs out = cond (fits n hs out) (written n (listOf n (leaderList n hs)) out) out
+leadersWritten n hs out = fitted n hs (leaderList n hs) out

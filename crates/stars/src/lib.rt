@@ -7,9 +7,8 @@ mod rounds;
 mod walks;
 
 ghost use mathlib.Core.Path.{_≡_};
-ghost use Rattle.packing.specs.Lists.{listOf, written, fits};
+ghost use Rattle.packing.specs.Lists.{listOf, written, fits, Lent};
 ghost use Rattle.stars.specs.Stars.{leaderList, leadersWritten};
-ghost use Rattle.stars.specs.Pre.{Lent};
 
 // Whether n is in range and both lists have n entries.
 fn is_fitting(n: u16, holders: &[u16], out: &[u16]) -> bool

@@ -1,5 +1,6 @@
--- `leaders` meets its contract: the laws of Written.
-use Rattle.stars.proofs.Written.{leaders-lent, leaders-refused, leaders-done}
+-- `leaders` meets its contract: the laws of packing's Fitted.
+use Rattle.packing.proofs.Fitted.{fit-lent, fit-refuses, fit-writes}
+use Rattle.stars.specs.Stars.{leadersWritten}
 use borrow.Author.Needs.{needs}
 use Rattle.stars.proofs.leaders.Statement.{statement}
 use Rattle.stars.proofs.leaders.Tie as tie
@@ -11,17 +12,19 @@ same-length : tie.Need-same-length
 same-length c = search needs
 
 returns : tie.Need-returns
-returns c = leaders-refused _ _ _ (c .before .is-fitting .ensures) (c .if1 .taken)
+unfolding leadersWritten
+returns c = fit-refuses _ _ _ (c .before .is-fitting .ensures) _ (c .if1 .taken)
 
 write-leaders-requires : tie.Need-write-leaders-requires
-write-leaders-requires c κs = let test = c .before in leaders-lent _ _ _ (test .before .is-fitting .ensures) (test .if1 .left)
+write-leaders-requires c κs = let test = c .before in fit-lent _ _ _ (test .before .is-fitting .ensures) (test .if1 .left)
 
 same-length-2 : tie.Need-same-length-2
 same-length-2 c = search needs
 
 returns-2 : tie.Need-returns-2
+unfolding leadersWritten
 returns-2 c = let test = c .before .before .before .before in
-    leaders-done _ _ _ (test .before .is-fitting .ensures) (test .if1 .left) (c .before .before .write-leaders .ensures)
+    fit-writes _ _ _ (test .before .is-fitting .ensures) _ (test .if1 .left) (c .before .before .write-leaders .ensures)
 
 pub leaders-spec : {M : Type 1} → statement M
 leaders-spec = tie.close (tie.spec is-fitting-requires same-length returns write-leaders-requires same-length-2 returns-2)

@@ -1,6 +1,5 @@
 -- `link` meets its contract.
 use native.Mathlib.Omega.{arith}
-use mathlib.Core.Path.{sym, _∙_}
 use borrow.Author.Tests.{not-true, not-false}
 use lib.ListN.{length-set}
 use Rattle.planner.specs.Calls.{linkRefusal}

@@ -1,5 +1,4 @@
 -- `open` meets its contract.
-use native.Mathlib.Omega.{arith}
 use Rattle.planner.proofs.Answers.{open-fits, open-refused, open-accepted}
 use borrow.Author.Needs.{needs}
 use Rattle.planner.proofs.Small.open.Statement.{statement}

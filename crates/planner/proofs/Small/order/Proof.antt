@@ -1,6 +1,5 @@
 -- `order` meets its contract.
 use native.Mathlib.Omega.{arith}
-use mathlib.Core.Path.{sym, _∙_, ap}
 use borrow.Author.Tests.{not-true, not-false}
 use Rattle.planner.specs.Calls.{orderRefusal}
 use Rattle.planner.proofs.Next.{checked}

@@ -3,11 +3,10 @@ use borrow.Author.Needs.{needs}
 use Prim.Native.Nat.{_-_}
 use mathlib.Core.Path.{sym, _∙_}
 use mathlib.Core.Logic.{⊎-elim}
-use native.Mathlib.Omega.{arith}
 use lib.ListN.{length}
 use Rattle.packing.specs.Plant.{at}
 use Rattle.packing.specs.Grouping.{follows, membersOf}
-use Rattle.packing.proofs.Counting.{Tallied, tally-start, tally-few, tally-more, tally-same, tally-end}
+use Rattle.packing.proofs.Counting.{Tallied, tally-start, tally-more, tally-same, tally-end}
 use Rattle.packing.proofs.Lists.{listWhere-length}
 use Rattle.planner.proofs.members.count_of.Statement.{statement}
 use Rattle.planner.proofs.members.count_of.Tie as tie
@@ -31,7 +30,7 @@ is-member-requires : tie.Need-is-member-requires Inv-loop μ-loop
 is-member-requires c κs = search needs
 
 add-count : tie.Need-add-count Inv-loop μ-loop
-add-count c = omega (arith, tally-few _ _ (c .before .before .before .before .loop .inv))
+add-count c = search needs
 
 add-w : tie.Need-add-w Inv-loop μ-loop
 add-w c = search needs

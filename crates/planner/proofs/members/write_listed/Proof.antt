@@ -6,7 +6,6 @@ use native.Mathlib.Omega.{arith}
 use lib.ListN.{length}
 use Rattle.packing.specs.Plant.{at}
 use Rattle.packing.specs.Grouping.{follows, membersOf}
-use Rattle.packing.proofs.Counting.{tally-few}
 use Rattle.packing.proofs.Lists.{Gathered, gather-start, gather-place, gather-more, gather-same, gather-end}
 use Rattle.planner.proofs.members.write_listed.Statement.{statement}
 use Rattle.planner.proofs.members.write_listed.Tie as tie
@@ -33,7 +32,7 @@ cast-out : tie.Need-cast-out Inv-loop μ-loop
 cast-out c = search needs
 
 mul-out : tie.Need-mul-out Inv-loop μ-loop
-mul-out c = omega (arith, tally-few _ _ (c .before .before .before .before .loop .inv .tallied))
+mul-out c = omega (arith, c .before .before .before .before .loop .inv .tallied .few)
 
 slice-write-out : tie.Need-slice-write-out Inv-loop μ-loop
 unfolding membersOf
@@ -42,7 +41,7 @@ slice-write-out c = let turn = c .before .before .before in
     omega (arith, inv .same, gather-place _ _ _ inv (turn .loop-test .taken) (c .before .is-member .ensures) (turn .before .before .before .before .pre .1) (c .if1 .taken))
 
 add-count : tie.Need-add-count Inv-loop μ-loop
-add-count c = omega (arith, tally-few _ _ (c .before .before .before .before .loop .inv .tallied))
+add-count c = omega (arith, c .before .before .before .before .loop .inv .tallied .few)
 
 add-w : tie.Need-add-w Inv-loop μ-loop
 add-w c = search needs

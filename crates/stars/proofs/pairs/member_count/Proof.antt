@@ -1,18 +1,19 @@
 -- `member_count` meets its contract: a count.
 use borrow.Author.Needs.{needs}
 use Prim.Native.Nat.{_-_}
-use mathlib.Core.Bool.{not, _&&_}
+use mathlib.Core.Path.{ap, _∙_}
+use mathlib.Core.Bool.{Bool}
 use native.Mathlib.Omega.{arith}
-use lib.Dec.{eqb}
+use Rattle.packing.specs.Count.{pick}
 use Rattle.packing.specs.Plant.{at}
-use Rattle.packing.specs.Grouping.{memberCount}
-use Rattle.stars.proofs.Loops.{Tallied, tally-start, tally-turn, tally-end, pick-few}
+use Rattle.packing.specs.Grouping.{follows, memberCount}
+use Rattle.packing.proofs.Counting.{Tallied, tally-start, tally-turn, tally-end, pick-few}
 use Rattle.stars.proofs.Pairing.{member-test}
 use Rattle.stars.proofs.pairs.member_count.Statement.{statement}
 use Rattle.stars.proofs.pairs.member_count.Tie as tie
 
 abbrev Inv-loop : tie.InvT-loop
-Inv-loop n groups u k₀ w₀ k w = Tallied n (λ x. eqb (at groups x) u && not (eqb x u)) k w
+Inv-loop n groups u k₀ w₀ k w = Tallied n (follows (at groups) u) k w
 
 abbrev μ-loop : tie.MeasureT-loop
 μ-loop n groups u k₀ w₀ k w = n - w
@@ -40,7 +41,8 @@ loop-less c = search needs
 
 loop-again : tie.Need-loop-again Inv-loop μ-loop
 loop-again c = let turn = c .before .before .before in
-    tally-turn _ _ (c .before .is-member .result) (turn .before .loop .inv) (turn .loop-test .taken) (member-test (at (turn .before .before .before .args .groups .now)) _ _ (c .before .before .entry .ensures) (c .before .is-member .ensures)) (c .bit .ensures)
+    tally-turn _ _ (turn .before .loop .inv) (turn .loop-test .taken)
+    (c .bit .ensures ∙ ap (λ (b : Bool). pick b 1) (member-test (at (turn .before .before .before .args .groups .now)) _ _ (c .before .before .entry .ensures) (c .before .is-member .ensures)))
 
 returns : tie.Need-returns Inv-loop μ-loop
 unfolding memberCount
