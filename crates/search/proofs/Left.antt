@@ -1,20 +1,17 @@
 -- The gateways without holder, as a list and in a queue.
 use Prim.Native.Nat.{ℕ, _+_, _<_, _≤_}
-use mathlib.Core.Path.{_≡_, refl, ap, _∙_}
-use mathlib.Core.Bool.{true, false, not}
-use mathlib.Core.List.{List, append-nil}
-use native.Mathlib.Nat.{le-antisymm}
-use native.Mathlib.Numerals.{add-one}
+use mathlib.Core.Path.{_≡_, refl, sym}
+use mathlib.Core.Bool.{Bool, true, false, not}
+use mathlib.Core.List.{List}
 use native.Mathlib.Omega.{arith}
-use lib.ListN.{length, set, take, length-set}
-use lib.Seq.{take-suc-set}
+use lib.ListN.{length, set}
 use borrow.Author.Tests.{lt-ltb, le-ltb, not-true}
 use Rattle.packing.specs.Lists.{listWhere, Lent}
 use Rattle.packing.specs.Plant.{at}
 use Rattle.packing.specs.Holders.{held}
-use Rattle.packing.proofs.Tests.{not-i}
-use Rattle.packing.proofs.Sums.{count-split, count-all}
-use Rattle.packing.proofs.Lists.{listWhere-length, listWhere-in, listWhere-out}
+use Rattle.packing.proofs.Tests.{not-i, not-i-false}
+use Rattle.packing.proofs.Sums.{count-split, count-all, count-bound}
+use Rattle.packing.proofs.Lists.{listWhere-length, listWhere-in, listWhere-out, written-room, written-front, Gathered, gather-more, gather-same, gather-end}
 use Rattle.packing.proofs.Links.{memberOf}
 use Rattle.search.proofs.Queue.{member-at}
 use Rattle.search.specs.Pre.{Startable}
@@ -46,42 +43,23 @@ left-startable n hs few =
           );
     }
 
--- those of the first v without holder are queued
-pub record Queueing (n : ℕ) (hs queue₀ queue : List ℕ) (end v : ℕ) : Type 0 where
-  pub upto : v ≤ n
-  pub same : length queue ≡ length queue₀
-  pub state : take end queue ≡ listWhere v (λ w. not (held n (at hs) w))
-  pub ends : end ≤ v
+-- The loop that queues them: packing's laws of a loop that gathers.
+abbrev pub unheld : ℕ → List ℕ → ℕ → Bool
+unheld n hs v = not (held n (at hs) v)
 
 module _ (n : ℕ) (hs queue₀ : List ℕ) (r : Lent n hs queue₀) where
-  pub queue-start : Queueing n hs queue₀ queue₀ 0 0
-  unfolding listWhere
-  queue-start = record { upto = omega arith; same = refl; state = refl; ends = omega arith }
+  room : length (listWhere n (unheld n hs)) ≤ length queue₀
+  room = omega (arith, listWhere-length n (unheld n hs), count-bound n (unheld n hs), r .places)
 
-  -- there is a place for one more
-  queue-place : {queue : List ℕ} {end v : ℕ} → Queueing n hs queue₀ queue end v → v < n → end < length queue
-  queue-place q l = omega (arith, q .same, q .ends, r .places)
+  pub queue-one : {queue : List ℕ} {end v : ℕ} → Gathered n (unheld n hs) queue₀ queue end v → v < n → n ≤ at hs v → Gathered n (unheld n hs) queue₀ (set queue end v) (end + 1) (v + 1)
+  queue-one {v = v} g l e = gather-more n (unheld n hs) queue₀ g l refl room (not-i (held n (at hs) v) (le-ltb (at hs v) n e))
 
-  pub queue-one : {queue queue' : List ℕ} {end v : ℕ} → Queueing n hs queue₀ queue end v → v < n → n ≤ at hs v → queue' ≡ set queue end v → Queueing n hs queue₀ queue' (end + 1) (v + 1)
-  unfolding listWhere
-  queue-one {queue} {queue'} {end} {v} q l e f =
-      let place : end < length queue = queue-place q l in
-      record {
-        upto = omega arith;
-        same = rw (f, length-set) (q .same);
-        state = rw (f, add-one end, add-one v, take-suc-set queue end v place, q .state, le-ltb (at hs v) n e);
-        ends = omega (arith, q .ends);
-      }
+  pub queue-pass : {queue : List ℕ} {end v : ℕ} → Gathered n (unheld n hs) queue₀ queue end v → v < n → at hs v < n → Gathered n (unheld n hs) queue₀ queue end (v + 1)
+  queue-pass {v = v} g l e = gather-same n (unheld n hs) queue₀ g l refl (not-i-false (held n (at hs) v) (lt-ltb (at hs v) n e))
 
-  pub queue-pass : {queue : List ℕ} {end v : ℕ} → Queueing n hs queue₀ queue end v → v < n → at hs v < n → Queueing n hs queue₀ queue end (v + 1)
-  unfolding listWhere
-  queue-pass {queue} {end} {v} q l e =
-      record { upto = omega arith; same = q .same; state = rw (add-one, lt-ltb (at hs v) n e, append-nil) (q .state); ends = omega (arith, q .ends) }
-
-  pub queue-end : {queue : List ℕ} {end v : ℕ} → Queueing n hs queue₀ queue end v → n ≤ v → Queued n hs queue end
+  pub queue-end : {queue : List ℕ} {end v : ℕ} → Gathered n (unheld n hs) queue₀ queue end v → n ≤ v → Queued n hs queue end
   unfolding withoutHolder
-  queue-end {queue} {end} {v} q l =
-      record {
-        state = q .state ∙ ap (λ (w : ℕ). listWhere w (λ u. not (held n (at hs) u))) (le-antisymm (q .upto) l);
-        within = omega (arith, q .same, q .ends, q .upto, r .places);
-      }
+  queue-end {end = end} g l =
+      let (long, is) = gather-end n (unheld n hs) queue₀ g l in
+      let front = listWhere n (unheld n hs) in
+      record { state = rw is (written-front end front queue₀ (sym long)); within = rw is (written-room end front queue₀ (sym long)) }

@@ -1,20 +1,21 @@
 -- `queue_left` meets its contract: the laws of Left.
 use Prim.Native.Nat.{_-_}
 use borrow.Author.Needs.{needs}
-use mathlib.Core.Path.{refl}
 use mathlib.Core.Logic.{⊎-elim}
-use Rattle.search.proofs.Left.{Queueing, queue-start, queue-one, queue-pass, queue-end}
+use native.Mathlib.Omega.{arith}
+use Rattle.packing.proofs.Lists.{Gathered, gather-start}
+use Rattle.search.proofs.Left.{unheld, queue-one, queue-pass, queue-end}
 use Rattle.search.proofs.start.queue_left.Statement.{statement}
 use Rattle.search.proofs.start.queue_left.Tie as tie
 
 abbrev Inv-loop : tie.InvT-loop
-Inv-loop n holders queue₀ end₀ v₀ queue end v = Queueing n holders queue₀ queue end v
+Inv-loop n holders queue₀ end₀ v₀ queue end v = Gathered n (unheld n holders) queue₀ queue end v
 
 abbrev μ-loop : tie.MeasureT-loop
 μ-loop n holders queue₀ end₀ v₀ queue end v = n - v
 
 loop-holds : tie.Need-loop-holds Inv-loop μ-loop
-loop-holds c = queue-start _ _ _ (c .pre)
+loop-holds c = gather-start _ _ _
 
 cast-if1 : tie.Need-cast-if1 Inv-loop μ-loop
 cast-if1 c = search needs
@@ -26,13 +27,15 @@ shared-slice-read-if1 : tie.Need-shared-slice-read-if1 Inv-loop μ-loop
 shared-slice-read-if1 c = search needs
 
 mul-queue : tie.Need-mul-queue Inv-loop μ-loop
-mul-queue c = search needs
+mul-queue c = let turn = c .before .before in omega (arith, turn .before .loop .inv .tallied .few, turn .loop-test .taken, turn .before .before .pre .few)
 
 slice-write-queue : tie.Need-slice-write-queue Inv-loop μ-loop
-slice-write-queue c = search needs
+slice-write-queue c = let turn = c .before .before in
+    let inv = turn .before .loop .inv in
+    omega (arith, inv .same, inv .tallied .few, turn .loop-test .taken, turn .before .before .pre .places)
 
 add-end : tie.Need-add-end Inv-loop μ-loop
-add-end c = search needs
+add-end c = let turn = c .before .before in omega (arith, turn .before .loop .inv .tallied .few, turn .loop-test .taken, turn .before .before .pre .few)
 
 add-v : tie.Need-add-v Inv-loop μ-loop
 add-v c = search needs
@@ -43,7 +46,7 @@ loop-less c = search needs
 loop-again : tie.Need-loop-again Inv-loop μ-loop
 loop-again c = let turn = c .before .before in
     let room = turn .before .before .pre in
-    ⊎-elim (λ w. rw (w .1, w .2) (queue-one _ _ _ room (turn .before .loop .inv) (turn .loop-test .taken) (w .0 .taken) refl))
+    ⊎-elim (λ w. rw (w .1, w .2) (queue-one _ _ _ room (turn .before .loop .inv) (turn .loop-test .taken) (w .0 .taken)))
     (λ w. rw (w .1, w .2) (queue-pass _ _ _ room (turn .before .loop .inv) (turn .loop-test .taken) (w .0 .left))) (c .if1 .came)
 
 same-length : tie.Need-same-length Inv-loop μ-loop
