@@ -19,7 +19,7 @@ use Rattle.stars.specs.Stars.{leaderList}
 use Rattle.planner.specs.Calls.{placeAnswer, placeHolders}
 use Rattle.planner.specs.Told.{Told, place, beginning, refuses}
 use Rattle.planner.specs.Run.{State, answers, step}
-use Rattle.planner.specs.Claims.{CoversKept, LeftExactly, LeftExactlyByHolders}
+use Rattle.planner.specs.Claims.{NextLeft, CoversKept, LeftExactly, LeftExactlyByHolders}
 use Rattle.planner.proofs.Next.{none-unheld, next-placeable, place-next}
 use Rattle.planner.proofs.Made.{Made, left-blocked, made-place}
 use Rattle.planner.proofs.Agree.{Agrees, same-number, run-agrees, open-agrees}
@@ -64,11 +64,11 @@ module _ {s : State} {p : Told} (a : Agrees s p) (more : p .placed < p .n) where
       (cover (at (s .order) (p .placed)) ≡ true)
       × ((i : ℕ) → i < p .placed → held (p .n) (at (s .holders)) (at (s .order) i) ≡ true → cover (at (s .order) i) ≡ true)
 
-  by-own-order : (cover : ℕ → Bool) → CoversKept (p .n) p s (p .placed) cover → KeptAnd cover
+  by-own-order : (cover : ℕ → Bool) → CoversKept (p .n) p s cover → KeptAnd cover
   unfolding KeptAnd
   by-own-order cover c = (rw (a .order (p .placed) more) (c .0), λ i l e. rw (a .order i (omega arith)) (c .1 i l (rw (a .order i (omega arith)) at e)))
 
-  by-told-order : (cover : ℕ → Bool) → KeptAnd cover → CoversKept (p .n) p s (p .placed) cover
+  by-told-order : (cover : ℕ → Bool) → KeptAnd cover → CoversKept (p .n) p s cover
   unfolding KeptAnd
   by-told-order cover c = (rw (a .order (p .placed) more) at (c .0), λ i l e. rw (a .order i (omega arith)) at (c .1 i l (rw (a .order i (omega arith)) e)))
 
@@ -102,16 +102,16 @@ module _ {s : State} {p : Told} (a : Agrees s p) (more : p .placed < p .n) where
   next-same : held (p .n) (at (step s place .holders)) (at (p .order) (p .placed)) ≡ held (p .n) (at after) (at (s .order) (p .placed))
   next-same = rw (holders-after, a .order (p .placed) more)
 
-  exactly-groupings : (held (p .n) (at (step s place .holders)) (at (p .order) (p .placed)) ≡ false)
-      ↔ ((g : ℕ → ℕ) → Grouping (p .n) (common (p .t)) (linked (p .links)) g → CoversKept (p .n) p s (p .placed) (covered g) → ⊥)
+  exactly-groupings : NextLeft (p .n) p s
+      ↔ ((g : ℕ → ℕ) → Grouping (p .n) (common (p .t)) (linked (p .links)) g → CoversKept (p .n) p s (covered g) → ⊥)
   exactly-groupings = (
     λ e g group c. left-groupings (sym next-same ∙ e) g (rw (a .links) group) (by-own-order (covered g) c),
     λ no. next-same ∙ by-bool (held (p .n) (at after) (at (s .order) (p .placed)))
         (λ e. absurd (no (leaderList (p .n) after) (rw (a .links) at (leaders-grouping (made-after .sound))) (by-told-order _ (kept-covered e)))) (λ e. e),
   )
 
-  exactly-holders : (held (p .n) (at (step s place .holders)) (at (p .order) (p .placed)) ≡ false)
-      ↔ ((h : ℕ → ℕ) → Feasible (p .n) (common (p .t)) (linked (p .links)) h → CoversKept (p .n) p s (p .placed) (held (p .n) h) → ⊥)
+  exactly-holders : NextLeft (p .n) p s
+      ↔ ((h : ℕ → ℕ) → Feasible (p .n) (common (p .t)) (linked (p .links)) h → CoversKept (p .n) p s (held (p .n) h) → ⊥)
   exactly-holders = (
     λ e h f c. left-holders (sym next-same ∙ e) h (rw (a .links) f) (by-own-order (held (p .n) h) c),
     λ no. next-same ∙ by-bool (held (p .n) (at after) (at (s .order) (p .placed)))

@@ -1,4 +1,4 @@
--- The claims of 00 and 01 about records made by calls, each as a statement. proofs/Demands.antt proves them.
+-- The claims of 00 and 01 about records made by calls, each as a statement. proofs/Demands.antt and proofs/LeftNext.antt prove them.
 use Prim.Native.Nat.{ℕ, _+_, _<_, _≤_}
 use mathlib.Core.Path.{_≡_}
 use mathlib.Core.Logic.{_↔_}
@@ -39,54 +39,61 @@ unfoldable pub SameNumbers : Type 0
 SameNumbers =
     (n t : ℕ) (ls os hs : List ℕ) → openRefusal n t os hs ≡ 0 → (calls : List Call) → runNumbers (afterOpen n t ls os hs) calls ≡ toldNumbers (beginning n t (length ls)) calls
 
--- 00, demand 3. Open accepted; any calls; n placings accepted; a read accepted: the first n of the list it wrote are a grouping of the plant told,
--- and no grouping of that plant covers more of the first k in the order told, for every k from 0 to n.
-unfoldable pub DemandThree : Type 0
-DemandThree =
+-- An open accepted, any list of calls, n placings of it accepted, and a read accepted after it: a claim about the plant told, the record made, and the lists that read was lent.
+abbrev pub OnceRead : ((n t : ℕ) (told : Told) (made : State) (leaders choke : List ℕ) → Type 0) → Type 0
+OnceRead claim =
     (n t : ℕ) (ls os hs : List ℕ) → openRefusal n t os hs ≡ 0 → (calls : List Call)
     → toldBy n t ls calls .placed ≡ n
     → (leaders choke : List ℕ) → refuses (toldBy n t ls calls) (read leaders choke) ≡ 0
-    → GroupingTold n t (toldBy n t ls calls) (leadersRead (madeBy n t ls os hs calls) leaders choke)
-    × ((other : ℕ → ℕ) → GroupingTold n t (toldBy n t ls calls) other → (k : ℕ) → k ≤ n
-    → coveredFirst k (at (toldBy n t ls calls .order)) other ≤ coveredFirst k (at (toldBy n t ls calls .order)) (leadersRead (madeBy n t ls os hs calls) leaders choke))
+    → claim n t (toldBy n t ls calls) (madeBy n t ls os hs calls) leaders choke
+
+-- 00, demand 3: the first n of the list read wrote are a grouping of the plant told, and no grouping of that plant covers more of the first k in the order told, for every k from 0 to n.
+unfoldable pub DemandThree : Type 0
+DemandThree =
+    OnceRead (λ n t told made leaders choke.
+    GroupingTold n t told (leadersRead made leaders choke)
+    × ((other : ℕ → ℕ) → GroupingTold n t told other → (k : ℕ) → k ≤ n
+    → coveredFirst k (at (told .order)) other ≤ coveredFirst k (at (told .order)) (leadersRead made leaders choke)))
 
 -- 00: "It is known that such a rule costs the desk no gateway." No grouping of the plant told covers more gateways.
 unfoldable pub MostCovered : Type 0
 MostCovered =
-    (n t : ℕ) (ls os hs : List ℕ) → openRefusal n t os hs ≡ 0 → (calls : List Call)
-    → toldBy n t ls calls .placed ≡ n
-    → (leaders choke : List ℕ) → refuses (toldBy n t ls calls) (read leaders choke) ≡ 0
-    → (other : ℕ → ℕ) → GroupingTold n t (toldBy n t ls calls) other
-    → count n (covered other) ≤ count n (covered (leadersRead (madeBy n t ls os hs calls) leaders choke))
+    OnceRead (λ n t told made leaders choke.
+    (other : ℕ → ℕ) → GroupingTold n t told other → count n (covered other) ≤ count n (covered (leadersRead made leaders choke)))
 
 -- 00, demand 2, with 01's "Every held gateway is covered. In a fully placed record made by accepted calls, no other is."
 unfoldable pub DemandTwo : Type 0
 DemandTwo =
-    (n t : ℕ) (ls os hs : List ℕ) → openRefusal n t os hs ≡ 0 → (calls : List Call)
-    → toldBy n t ls calls .placed ≡ n
-    → (leaders choke : List ℕ) → refuses (toldBy n t ls calls) (read leaders choke) ≡ 0
-    → GroupingTold n t (toldBy n t ls calls) (leadersRead (madeBy n t ls os hs calls) leaders choke)
-    × ((v : ℕ) → v < n → covered (leadersRead (madeBy n t ls os hs calls) leaders choke) v ≡ held n (at (madeBy n t ls os hs calls .holders)) v)
-    × ChokeDifference n (common t) (linked (toldBy n t ls calls .links)) (chokeRead (madeBy n t ls os hs calls) leaders choke)
-    (count n (λ v. not (covered (leadersRead (madeBy n t ls os hs calls) leaders choke) v)))
+    OnceRead (λ n t told made leaders choke.
+    GroupingTold n t told (leadersRead made leaders choke)
+    × ((v : ℕ) → v < n → covered (leadersRead made leaders choke) v ≡ held n (at (made .holders)) v)
+    × ChokeDifference n (common t) (linked (told .links)) (chokeRead made leaders choke) (count n (λ v. not (covered (leadersRead made leaders choke) v))))
 
--- the gateway at place k of the order and all that are held among those before it
-abbrev pub CoversKept : ℕ → Told → State → ℕ → (ℕ → Bool) → Type 0
-CoversKept n p s k cover = (cover (at (p .order) k) ≡ true) × ((i : ℕ) → i < k → held n (at (s .holders)) (at (p .order) i) ≡ true → cover (at (p .order) i) ≡ true)
-
--- 01, "Placing": "v is left exactly if no T-star packing covers v and all kept before it (for a record made by accepted calls)."
--- v is the next in the order told; the record before its placing is s, and kept before it are those held in s.
-unfoldable pub LeftExactly : Type 0
-LeftExactly =
+-- An open accepted and any list of calls after which a gateway is yet to be placed: a claim about the plant told and the record made.
+abbrev pub BeforePlacing : ((n t : ℕ) (told : Told) (made : State) → Type 0) → Type 0
+BeforePlacing claim =
     (n t : ℕ) (ls os hs : List ℕ) → openRefusal n t os hs ≡ 0 → (calls : List Call)
     → toldBy n t ls calls .placed < n
-    → (held n (at (step (madeBy n t ls os hs calls) place .holders)) (at (toldBy n t ls calls .order) (toldBy n t ls calls .placed)) ≡ false)
-    ↔ ((g : ℕ → ℕ) → GroupingTold n t (toldBy n t ls calls) g → CoversKept n (toldBy n t ls calls) (madeBy n t ls os hs calls) (toldBy n t ls calls .placed) (covered g) → ⊥)
+    → claim n t (toldBy n t ls calls) (madeBy n t ls os hs calls)
+
+-- the next in the order told is left by its placing
+abbrev pub NextLeft : ℕ → Told → State → Type 0
+NextLeft n told made = held n (at (step made place .holders)) (at (told .order) (told .placed)) ≡ false
+
+-- it is covered, and so are all kept before it: those before it in the order told that are held
+abbrev pub CoversKept : ℕ → Told → State → (ℕ → Bool) → Type 0
+CoversKept n told made cover =
+    (cover (at (told .order) (told .placed)) ≡ true)
+    × ((i : ℕ) → i < told .placed → held n (at (made .holders)) (at (told .order) i) ≡ true → cover (at (told .order) i) ≡ true)
+
+-- 01, "Placing": "v is left exactly if no T-star packing covers v and all kept before it (for a record made by accepted calls)."
+unfoldable pub LeftExactly : Type 0
+LeftExactly =
+    BeforePlacing (λ n t told made.
+    NextLeft n told made ↔ ((g : ℕ → ℕ) → GroupingTold n t told g → CoversKept n told made (covered g) → ⊥))
 
 -- .. and the same for feasible holders (000, Definition 2) in place of groupings.
 unfoldable pub LeftExactlyByHolders : Type 0
 LeftExactlyByHolders =
-    (n t : ℕ) (ls os hs : List ℕ) → openRefusal n t os hs ≡ 0 → (calls : List Call)
-    → toldBy n t ls calls .placed < n
-    → (held n (at (step (madeBy n t ls os hs calls) place .holders)) (at (toldBy n t ls calls .order) (toldBy n t ls calls .placed)) ≡ false)
-    ↔ ((h : ℕ → ℕ) → Feasible n (common t) (linked (toldBy n t ls calls .links)) h → CoversKept n (toldBy n t ls calls) (madeBy n t ls os hs calls) (toldBy n t ls calls .placed) (held n h) → ⊥)
+    BeforePlacing (λ n t told made.
+    NextLeft n told made ↔ ((h : ℕ → ℕ) → Feasible n (common t) (linked (told .links)) h → CoversKept n told made (held n h) → ⊥))
