@@ -49,11 +49,11 @@ fn covered(leaders: &[u16]) -> u64 {
 fn one_more_link(s: Small, links: &mut [u16], order: &[u16], holders: &[u16]) {
     lines::text(b"8192 links:");
     lines::small(s);
-    lines::list(lists::between(links, 16382, 16386));
+    lines::part(links, 16382, 16386);
     let r = s.link(links, order, holders, 0, 512);
     lines::answer(b"\none more link", r);
-    lines::list(lists::between(links, 16382, 16386));
-    lines::text(b"\n");
+    lines::part(links, 16382, 16386);
+    lines::end();
 }
 
 fn one_more_placing(s: Small, links: &[u16], order: &[u16], holders: &mut [u16]) {
@@ -61,7 +61,7 @@ fn one_more_placing(s: Small, links: &[u16], order: &[u16], holders: &mut [u16])
     lines::small(s);
     let r = s.place(links, order, holders);
     lines::answer(b"\none more placing", r);
-    lines::text(b"\n");
+    lines::end();
 }
 
 fn show_read(s: Small, links: &[u16], order: &[u16], holders: &[u16]) {
@@ -71,8 +71,8 @@ fn show_read(s: Small, links: &[u16], order: &[u16], holders: &[u16]) {
     lines::answer(b"read", r);
     lines::text(b" | covered");
     lines::number(covered(&leaders));
-    lines::list(lists::between(&leaders, 1022, 1026));
-    lines::text(b"\n");
+    lines::part(&leaders, 1022, 1026);
+    lines::end();
 }
 
 fn prepare(links: &mut [u16], order: &mut [u16], holders: &mut [u16]) -> Small {

@@ -1,9 +1,18 @@
 // Prints what a call gave.
+use crate::lists;
 use planner::Answer;
 use planner::Small;
 
 pub fn text(t: &[u8]) {
     io::write_all(1, t);
+}
+
+pub fn end() {
+    io::write_all(1, b"\n");
+}
+
+fn bar() {
+    io::write_all(1, b" |");
 }
 
 pub fn number(n: u64) {
@@ -18,11 +27,15 @@ pub fn small(s: Small) {
     number(s.k as u64);
 }
 
-pub fn answer(label: &[u8], a: Answer) {
+pub fn refusal(label: &[u8], e: u32) {
     text(label);
-    text(b":");
-    number(a.refusal as u64);
-    text(b" |");
+    io::write_all(1, b":");
+    number(e as u64);
+}
+
+pub fn answer(label: &[u8], a: Answer) {
+    refusal(label, a.refusal);
+    bar();
     let s = a.small;
     small(s);
 }
@@ -32,7 +45,7 @@ fn wide(x: u16) -> u64 {
 }
 
 pub fn list(l: &[u16]) {
-    text(b" |");
+    bar();
     let mut i: usize = 0;
     while i < l.len() {
         number(wide(l[i]));
@@ -40,23 +53,32 @@ pub fn list(l: &[u16]) {
     }
 }
 
-fn wide_byte(x: u8) -> u64 {
-    x as u64
+// The entries from place a up to place e.
+pub fn part(l: &[u16], a: usize, e: usize) {
+    list(lists::between(l, a, e));
 }
 
-pub fn bytes(l: &[u8]) {
-    text(b" |");
-    let mut i: usize = 0;
-    while i < l.len() {
-        number(wide_byte(l[i]));
-        i += 1;
-    }
-}
-
-pub fn kept(same: bool) {
+fn kept(same: bool) {
     if same {
         text(b" | kept\n");
     } else {
         text(b" | changed\n");
     }
+}
+
+// A list after a call, and whether it is as it came.
+pub fn after(l: &[u16], came: &[u16]) {
+    list(l);
+    kept(lists::same(l, came));
+}
+
+// The same of two lists that came alike.
+pub fn after_two(a: &[u16], b: &[u16], came: &[u16]) {
+    list(a);
+    list(b);
+    kept(lists::same(a, came) && lists::same(b, came));
+}
+
+pub fn after_digest(l: &[u16], came: u64) {
+    kept(came == lists::digest(l));
 }

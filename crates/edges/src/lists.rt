@@ -18,10 +18,30 @@ fn wide(x: u16) -> u64
     x as u64
 }
 
+// A case's number, and the number as a place and as 8 bits.
+pub fn number(a: &[u16], i: usize) -> u16 {
+    if i < a.len() { a[i] } else { 0 }
+}
+
+pub fn place(a: &[u16], i: usize) -> usize {
+    number(a, i) as usize
+}
+
+pub fn byte(a: &[u16], i: usize) -> u8 {
+    (number(a, i) % 256) as u8
+}
+
 // The first len entries, or the whole list where it has fewer.
 pub fn front(list: &[u16], len: usize) -> &[u16] {
     if len <= list.len() {
         return &list[..len];
+    }
+    list
+}
+
+pub fn front_mut(list: &mut [u16], len: usize) -> &mut [u16] {
+    if len <= list.len() {
+        return &mut list[..len];
     }
     list
 }
@@ -45,13 +65,6 @@ pub fn large_links(x: u16) -> [u16; 16400] {
     [x; 16400]
 }
 
-pub fn front_mut(list: &mut [u16], len: usize) -> &mut [u16] {
-    if len <= list.len() {
-        return &mut list[..len];
-    }
-    list
-}
-
 pub fn same(a: &[u16], b: &[u16]) -> bool {
     if a.len() != b.len() {
         return false;
@@ -66,20 +79,18 @@ pub fn same(a: &[u16], b: &[u16]) -> bool {
     true
 }
 
-// 0, 1, 2, ..
-pub fn count_up(list: &mut [u16]) {
-    let mut i: usize = 0;
-    while i < list.len() {
-        list[i] = (i % 65536) as u16;
-        i += 1;
+fn remainder(i: usize, period: usize) -> u16 {
+    if period == 0 {
+        return 0;
     }
+    (i % period % 65536) as u16
 }
 
-// 0, 1, 0, 1, ..: the same link over and over
-pub fn repeat_link(list: &mut [u16]) {
+// 0, 1, .. below a period, over and over: an order, or with 2 the same link each time.
+pub fn count_up(list: &mut [u16], period: usize) {
     let mut i: usize = 0;
     while i < list.len() {
-        list[i] = (i % 2) as u16;
+        list[i] = remainder(i, period);
         i += 1;
     }
 }

@@ -1,5 +1,6 @@
 // The cases at the edges (01, "At the edges") that are not proved as a table, and an example of each refusal and of each clause of soundness.
-// Each line: the case, the refusal number, the small part as n T m k, and the lists after the call; `kept` says whether they are as they came.
+// They stand in the file stdin, a line a case: a label, a bar, a number that says what is called, and the call's own numbers (script.rt, and the comment before each case).
+// Each line printed: the label, the refusal number, the small part as n T m k, and the lists after the call; `kept` says whether they are as they came.
 mod full;
 mod lines;
 mod linking;
@@ -9,15 +10,16 @@ mod opening;
 mod ordering;
 mod placing;
 mod reading;
+mod script;
 mod soundness;
 
+// Room for a script more than twice as long.
+fn room() -> [u8; 8192] {
+    [0u8; 8192]
+}
+
 fn main() {
-    opening::run();
-    linking::run();
-    ordering::run();
-    placing::run();
-    reading::run();
-    membering::run();
-    soundness::run();
-    full::run();
+    let mut file = room();
+    let count = io::read_full(0, &mut file);
+    script::run(&file[..count]);
 }

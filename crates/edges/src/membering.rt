@@ -8,23 +8,20 @@ fn show(leaders: &[u16], leader: u16, out: &mut [u16]) {
     lines::list(part);
 }
 
-fn case(label: &[u8], leader: u16, room: usize) {
+// the leader and the room
+pub fn case(label: &[u8], a: &[u16]) {
     let leaders = [0u16, 1, 1, 0, 0];
     let came = [9u16; 3];
     let mut out = came;
-    lines::text(label);
-    lines::text(b":");
-    lines::number(members::members_refusal(&leaders, leader, room) as u64);
-    show(&leaders, leader, lists::front_mut(&mut out, room));
-    lines::list(&out);
-    lines::kept(lists::same(&out, &came));
-}
-
-pub fn run() {
-    case(b"members of 0", 0, 3);
-    case(b"members of 1, just room", 1, 1);
-    case(b"members of 2, who leads nobody", 2, 3);
-    case(b"members of 5, who is not listed", 5, 3);
-    case(b"members of 0, no room", 0, 1);
-    case(b"members of 2, no room: 11 before 10", 2, 0);
+    let room = lists::place(a, 3);
+    lines::refusal(
+        label,
+        members::members_refusal(&leaders, lists::number(a, 2), room),
+    );
+    show(
+        &leaders,
+        lists::number(a, 2),
+        lists::front_mut(&mut out, room),
+    );
+    lines::after(&out, &came);
 }

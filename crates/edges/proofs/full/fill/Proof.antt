@@ -1,7 +1,7 @@
 -- The links keep their length.
 use borrow.Author.Needs.{needs}
 use Prim.Native.Nat.{_≤_, _-_}
-use mathlib.Core.Path.{_≡_, _∙_}
+use mathlib.Core.Path.{_≡_}
 use lib.ListN.{length}
 use Rattle.edges.proofs.full.fill.Statement.{statement}
 use Rattle.edges.proofs.full.fill.Tie as tie

@@ -1,7 +1,7 @@
 -- The holders keep their length.
 use borrow.Author.Needs.{needs}
 use Prim.Native.Nat.{_≤_, _-_}
-use mathlib.Core.Path.{_≡_, _∙_}
+use mathlib.Core.Path.{_≡_}
 use lib.ListN.{length}
 use Rattle.edges.proofs.full.place_all.Statement.{statement}
 use Rattle.edges.proofs.full.place_all.Tie as tie

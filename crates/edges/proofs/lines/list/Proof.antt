@@ -11,11 +11,8 @@ Inv-loop l i₀ i = i ≤ length l
 abbrev μ-loop : tie.MeasureT-loop
 μ-loop l i₀ i = length l - i
 
-slice-aggregate-text : tie.Need-slice-aggregate-text Inv-loop μ-loop
-slice-aggregate-text c = search needs
-
-text-requires : tie.Need-text-requires Inv-loop μ-loop
-text-requires c κs = search needs
+bar-requires : tie.Need-bar-requires Inv-loop μ-loop
+bar-requires c κs = search needs
 
 loop-holds : tie.Need-loop-holds Inv-loop μ-loop
 loop-holds c = search needs
@@ -50,8 +47,7 @@ list-spec =
     (tie.spec
     Inv-loop
     μ-loop
-    slice-aggregate-text
-    text-requires
+    bar-requires
     loop-holds
     mul-wide
     shared-slice-read-wide

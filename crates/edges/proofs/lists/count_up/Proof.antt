@@ -1,23 +1,22 @@
 -- The list keeps its length.
 use borrow.Author.Needs.{needs}
 use Prim.Native.Nat.{_≤_, _-_}
-use mathlib.Core.Path.{_≡_, _∙_}
-use lib.ListN.{length, length-set}
-use native.Mathlib.Omega.{arith}
+use mathlib.Core.Path.{_≡_}
+use lib.ListN.{length}
 use Rattle.edges.proofs.lists.count_up.Statement.{statement}
 use Rattle.edges.proofs.lists.count_up.Tie as tie
 
 abbrev Inv-loop : tie.InvT-loop
-Inv-loop list₀ i₀ list i = (i ≤ length list₀) × (length list ≡ length list₀)
+Inv-loop list₀ period i₀ list i = (i ≤ length list₀) × (length list ≡ length list₀)
 
 abbrev μ-loop : tie.MeasureT-loop
-μ-loop list₀ i₀ list i = length list₀ - i
+μ-loop list₀ period i₀ list i = length list₀ - i
 
 loop-holds : tie.Need-loop-holds Inv-loop μ-loop
 loop-holds c = search needs
 
-cast-list : tie.Need-cast-list Inv-loop μ-loop
-cast-list c = search needs
+remainder-requires : tie.Need-remainder-requires Inv-loop μ-loop
+remainder-requires c κs = search needs
 
 mul-list : tie.Need-mul-list Inv-loop μ-loop
 mul-list c = search needs
@@ -47,7 +46,7 @@ count-up-spec =
     Inv-loop
     μ-loop
     loop-holds
-    cast-list
+    remainder-requires
     mul-list
     slice-write-list
     add-i

@@ -1,15 +1,15 @@
--- The place stays within the list.
+-- The place stays between the start and the end.
 use borrow.Author.Needs.{needs}
 use Prim.Native.Nat.{_≤_, _-_}
 use lib.ListN.{length}
-use Rattle.edges.proofs.reading.bytes_kept.Statement.{statement}
-use Rattle.edges.proofs.reading.bytes_kept.Tie as tie
+use Rattle.edges.proofs.script.until.Statement.{statement}
+use Rattle.edges.proofs.script.until.Tie as tie
 
 abbrev Inv-loop : tie.InvT-loop
-Inv-loop choke i₀ i = i ≤ length choke
+Inv-loop file start stop i₀ i = (start ≤ i) × (i ≤ length file)
 
 abbrev μ-loop : tie.MeasureT-loop
-μ-loop choke i₀ i = length choke - i
+μ-loop file start stop i₀ i = length file - i
 
 loop-holds : tie.Need-loop-holds Inv-loop μ-loop
 loop-holds c = search needs
@@ -32,8 +32,8 @@ loop-again c = search needs
 returns-2 : tie.Need-returns-2 Inv-loop μ-loop
 returns-2 c = search needs
 
-pub bytes-kept-spec : {M : Type 1} → statement M
-bytes-kept-spec =
+pub until-spec : {M : Type 1} → statement M
+until-spec =
     tie.close
     (tie.spec
     Inv-loop
