@@ -7,6 +7,7 @@ use native.Mathlib.Omega.{arith}
 use lib.ListN.{length, getD, set, drop, length-set, length-append, drop-of-length-le}
 use lib.Seq.{sets, sets-eq, drop-cons}
 use Rattle.packing.specs.Lists.{written}
+use Rattle.packing.proofs.Lists.{sets-append}
 use Rattle.daemon.specs.Plan.{lowFirst}
 
 low-long : (l : List ℕ) → length (lowFirst l) ≡ 2 * length l
@@ -63,24 +64,14 @@ module _ (bytes : List ℕ) (start : ℕ) (first : List ℕ) where
   ones-end {now} {i} k l = rw (drop-of-length-le bytes l) at (k .rest)
 
 -- both parts
-sets-append : (a b l : List ℕ) (i : ℕ) → sets (sets l i a) (length a + i) b ≡ sets l i (a ++ b)
-sets-append [] b l i = ap (λ (k : ℕ). sets l k b) zeroth
-  where
-    zeroth : 0 + i ≡ i
-    zeroth = omega arith
-sets-append (x ∷ a) b l i = rw onward (sets-append a b (set l i x) (suc i))
-  where
-    onward : suc (length a) + i ≡ length a + suc i
-    onward = omega arith
-
 pub both-written : (n : ℕ) (numbers bytes lent : List ℕ) {mid new : List ℕ} → length numbers ≡ n → length bytes ≡ n → 3 * n ≤ length lent
     → mid ≡ sets lent 0 (lowFirst numbers) → new ≡ sets mid (2 * n) bytes → new ≡ written (3 * n) (lowFirst numbers ++ bytes) lent
 unfolding written
 both-written n numbers bytes lent {mid} {new} e f room g h =
-    h ∙ ap (λ (l : List ℕ). sets l (2 * n) bytes) g ∙ ap (λ (k : ℕ). sets (sets lent 0 (lowFirst numbers)) k bytes) place ∙ sets-append (lowFirst numbers) bytes lent 0
+    h ∙ ap (λ (l : List ℕ). sets l (2 * n) bytes) g ∙ ap (λ (k : ℕ). sets (sets lent 0 (lowFirst numbers)) k bytes) place ∙ sets-append lent 0 (lowFirst numbers) bytes
     ∙ sets-eq (lowFirst numbers ++ bytes) lent 0 (omega (arith, long)) ∙ ap (λ (k : ℕ). (lowFirst numbers ++ bytes) ++ drop k lent) whole
   where
-    place : 2 * n ≡ length (lowFirst numbers) + 0
+    place : 2 * n ≡ 0 + length (lowFirst numbers)
     place = omega (arith, low-long numbers)
 
     long : length (lowFirst numbers ++ bytes) ≡ 3 * n

@@ -4,12 +4,12 @@ use mathlib.Core.Path.{_≡_, refl, sym, ap, _∙_}
 use mathlib.Core.Logic.{⊎-elim}
 use mathlib.Core.Bool.{Bool, true, false, cond, _||_, or-assoc, false≢true}
 use mathlib.Core.List.{List, [], _∷_, _++_, append-nil}
-use native.Mathlib.Nat.{not-suc-le-zero, le-antisymm}
+use native.Mathlib.Nat.{not-suc-le-zero, le-antisymm, add-zero, add-suc, suc-add}
 use native.Mathlib.Numerals.{add-one}
 use native.Mathlib.Omega.{arith}
 use lib.Dec.{eqb}
 use lib.ListN.{length, getD, set, take, drop, replicate, length-append, length-drop, length-set, replicate-append-replicate, List·getD-append}
-use lib.Seq.{getD-at, drop-cons, set-at, take-at, append-snoc, ext-getD}
+use lib.Seq.{getD-at, drop-cons, set-at, take-at, append-snoc, ext-getD, sets}
 use borrow.Author.Tests.{eqb-true, eq-eqb}
 use Rattle.packing.specs.Count.{pick, sum, count}
 use Rattle.packing.specs.Lists.{listOf, listWhere, written}
@@ -114,6 +114,11 @@ module _ (n : ℕ) (front lent : List ℕ) (long : length front ≡ n) where
 -- .. where the front is a list of values
 pub listed-at : (n : ℕ) (f : ℕ → ℕ) (lent : List ℕ) (i : ℕ) → i < n → getD (written n (listOf n f) lent) i 0 ≡ f i
 listed-at n f lent i l = written-at n (listOf n f) lent (listOf-length n f) i l ∙ listOf-at n f i l
+
+-- one list set over another from a place on, and a second behind it, are both set together
+pub sets-append : (l : List ℕ) (i : ℕ) (a b : List ℕ) → sets (sets l i a) (i + length a) b ≡ sets l i (a ++ b)
+sets-append l i [] b = rw add-zero
+sets-append l i (x ∷ a) b = rw (add-suc i (length a), ← suc-add i (length a)) (sets-append (set l i x) (suc i) a b)
 
 -- the first v values were written over old
 pub record Listed (n : ℕ) (f : ℕ → ℕ) (old new : List ℕ) (v : ℕ) : Type 0 where
