@@ -25,7 +25,7 @@ spaced (x ∷ xs) = (32 ∷ digits x) ++ spaced xs
 unfoldable pub field : List ℕ → ℕ → List ℕ
 field word x = word ++ spaced (x ∷ [])
 
--- a word, the numbers listed after it, and "a line feed after each line"
+-- a word and the numbers listed after it; "each line ends in a line feed"
 unfoldable pub line : List ℕ → List ℕ → List ℕ
 line word numbers = word ++ spaced numbers ++ (10 ∷ [])
 
