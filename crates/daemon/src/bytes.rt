@@ -47,7 +47,7 @@ fn with_bytes(bytes: &[u8], start: usize, out: &mut [u8])
 }
 
 // The leaders and the choke bytes of a file's plan.
-pub fn with_plan(file: &[u8], out: &mut [u8])
+pub(crate) fn with_plan(file: &[u8], out: &mut [u8])
     requires { ⌜ Roomy (now file) (now out) ⌝ }
     ensures { λ _. ⌜ now (out .exit) ≡ written (3 * fileN (now (file .entry))) (planBytes (now (file .entry))) (now (out .entry)) ⌝ }
 {

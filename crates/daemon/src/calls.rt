@@ -90,7 +90,7 @@ fn make(file: &[u8], links: &mut [u16], order: &mut [u16], holders: &mut [u16]) 
 }
 
 // The record made, and read into the lent lists.
-pub fn read_all(file: &[u8], leaders: &mut [u16], choke: &mut [u8])
+pub(crate) fn read_all(file: &[u8], leaders: &mut [u16], choke: &mut [u8])
     requires { ⌜ fileRefusal (now file) ≡ 0 ⌝ }
     ensures leaders { λ _. ⌜ now (leaders .exit) ≡ readLeaders (fileState (now (file .entry)) .small) (fileState (now (file .entry)) .links) (fileState (now (file .entry)) .order) (fileState (now (file .entry)) .holders) (now (leaders .entry)) (now (choke .entry)) ⌝ }
     ensures choke { λ _. ⌜ now (choke .exit) ≡ readChoke (fileState (now (file .entry)) .small) (fileState (now (file .entry)) .links) (fileState (now (file .entry)) .order) (fileState (now (file .entry)) .holders) (now (leaders .entry)) (now (choke .entry)) ⌝ }

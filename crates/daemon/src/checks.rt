@@ -3,7 +3,7 @@ ghost use mathlib.Core.Path.{_≡_};
 ghost use lib.ListN.{length};
 ghost use Rattle.daemon.specs.Plan.{planRefusal, callRefusal};
 
-pub fn of_plan(file: &[u8], leaders: &[u16], choke: &[u8]) -> u32
+pub(crate) fn of_plan(file: &[u8], leaders: &[u16], choke: &[u8]) -> u32
     ensures { λ r. ⌜ r ≡ planRefusal (now (file .entry)) (length (now (leaders .entry))) (length (now (choke .entry))) ⌝ }
 {
     let refusal = plant_file::refusal(file);
@@ -20,7 +20,7 @@ pub fn of_plan(file: &[u8], leaders: &[u16], choke: &[u8]) -> u32
     0
 }
 
-pub fn of_call(file: &[u8], out: &[u8]) -> u32
+pub(crate) fn of_call(file: &[u8], out: &[u8]) -> u32
     ensures { λ r. ⌜ r ≡ callRefusal (now (file .entry)) (length (now (out .entry))) ⌝ }
 {
     let refusal = plant_file::refusal(file);

@@ -2,7 +2,7 @@
 mod bytes;
 mod calls;
 mod checks;
-mod lists;
+pub mod lists;
 
 ghost use mathlib.Core.Path.{_≡_};
 ghost use lib.ListN.{length};

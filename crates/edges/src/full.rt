@@ -88,7 +88,7 @@ fn whole(links: &mut [u16], order: &mut [u16], holders: &mut [u16]) {
     show_read(placed, links, order, holders);
 }
 
-pub fn run() {
+pub(crate) fn run() {
     let mut links = lists::large_links(9);
     let mut order = lists::large(9);
     let mut holders = lists::large(9);

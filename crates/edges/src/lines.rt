@@ -3,11 +3,11 @@ use crate::lists;
 use planner::Answer;
 use planner::Small;
 
-pub fn text(t: &[u8]) {
+pub(crate) fn text(t: &[u8]) {
     io::write_all(1, t);
 }
 
-pub fn end() {
+pub(crate) fn end() {
     io::write_all(1, b"\n");
 }
 
@@ -15,25 +15,25 @@ fn bar() {
     io::write_all(1, b" |");
 }
 
-pub fn number(n: u64) {
+pub(crate) fn number(n: u64) {
     io::write_all(1, b" ");
     io::print_decimal(1, n);
 }
 
-pub fn small(s: Small) {
+pub(crate) fn small(s: Small) {
     number(s.n as u64);
     number(s.t as u64);
     number(s.m as u64);
     number(s.k as u64);
 }
 
-pub fn refusal(label: &[u8], e: u32) {
+pub(crate) fn refusal(label: &[u8], e: u32) {
     text(label);
     io::write_all(1, b":");
     number(e as u64);
 }
 
-pub fn answer(label: &[u8], a: Answer) {
+pub(crate) fn answer(label: &[u8], a: Answer) {
     refusal(label, a.refusal);
     bar();
     let s = a.small;
@@ -44,7 +44,7 @@ fn wide(x: u16) -> u64 {
     x as u64
 }
 
-pub fn list(l: &[u16]) {
+pub(crate) fn list(l: &[u16]) {
     bar();
     let mut i: usize = 0;
     while i < l.len() {
@@ -54,7 +54,7 @@ pub fn list(l: &[u16]) {
 }
 
 // The entries from place a up to place e.
-pub fn part(l: &[u16], a: usize, e: usize) {
+pub(crate) fn part(l: &[u16], a: usize, e: usize) {
     list(lists::between(l, a, e));
 }
 
@@ -67,18 +67,18 @@ fn kept(same: bool) {
 }
 
 // A list after a call, and whether it is as it came.
-pub fn after(l: &[u16], came: &[u16]) {
+pub(crate) fn after(l: &[u16], came: &[u16]) {
     list(l);
     kept(lists::same(l, came));
 }
 
 // The same of two lists that came alike.
-pub fn after_two(a: &[u16], b: &[u16], came: &[u16]) {
+pub(crate) fn after_two(a: &[u16], b: &[u16], came: &[u16]) {
     list(a);
     list(b);
     kept(lists::same(a, came) && lists::same(b, came));
 }
 
-pub fn after_digest(l: &[u16], came: u64) {
+pub(crate) fn after_digest(l: &[u16], came: u64) {
     kept(came == lists::digest(l));
 }

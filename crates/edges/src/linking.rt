@@ -4,7 +4,7 @@ use crate::lists;
 use planner::Small;
 
 // n, m, k, the links' length and the two ends
-pub fn case(label: &[u8], a: &[u16]) {
+pub(crate) fn case(label: &[u8], a: &[u16]) {
     let came = [0u16, 1, 1, 2, 7, 7, 8, 8];
     let mut links = came;
     let order = [0u16, 1, 2, 3, 9];

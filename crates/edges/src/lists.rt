@@ -2,7 +2,7 @@
 ghost use Prim.Native.Nat.{_<_};
 
 // A number that tells most lists apart, for a list of which no copy is at hand.
-pub fn digest(list: &[u16]) -> u64 {
+pub(crate) fn digest(list: &[u16]) -> u64 {
     let mut sum: u64 = 0;
     let mut i: usize = 0;
     while i < list.len() {
@@ -19,27 +19,27 @@ fn wide(x: u16) -> u64
 }
 
 // A case's number, and the number as a place and as 8 bits.
-pub fn number(a: &[u16], i: usize) -> u16 {
+pub(crate) fn number(a: &[u16], i: usize) -> u16 {
     if i < a.len() { a[i] } else { 0 }
 }
 
-pub fn place(a: &[u16], i: usize) -> usize {
+pub(crate) fn place(a: &[u16], i: usize) -> usize {
     number(a, i) as usize
 }
 
-pub fn byte(a: &[u16], i: usize) -> u8 {
+pub(crate) fn byte(a: &[u16], i: usize) -> u8 {
     (number(a, i) % 256) as u8
 }
 
 // The first len entries, or the whole list where it has fewer.
-pub fn front(list: &[u16], len: usize) -> &[u16] {
+pub(crate) fn front(list: &[u16], len: usize) -> &[u16] {
     if len <= list.len() {
         return &list[..len];
     }
     list
 }
 
-pub fn front_mut(list: &mut [u16], len: usize) -> &mut [u16] {
+pub(crate) fn front_mut(list: &mut [u16], len: usize) -> &mut [u16] {
     if len <= list.len() {
         return &mut list[..len];
     }
@@ -47,7 +47,7 @@ pub fn front_mut(list: &mut [u16], len: usize) -> &mut [u16] {
 }
 
 // The entries from place a up to place e, or none where the list has fewer.
-pub fn between(list: &[u16], a: usize, e: usize) -> &[u16] {
+pub(crate) fn between(list: &[u16], a: usize, e: usize) -> &[u16] {
     if a <= e {
         if e <= list.len() {
             return &list[a..e];
@@ -57,15 +57,15 @@ pub fn between(list: &[u16], a: usize, e: usize) -> &[u16] {
 }
 
 // Large lists, each entry x.
-pub fn large(x: u16) -> [u16; 1100] {
+pub(crate) fn large(x: u16) -> [u16; 1100] {
     [x; 1100]
 }
 
-pub fn large_links(x: u16) -> [u16; 16400] {
+pub(crate) fn large_links(x: u16) -> [u16; 16400] {
     [x; 16400]
 }
 
-pub fn same(a: &[u16], b: &[u16]) -> bool {
+pub(crate) fn same(a: &[u16], b: &[u16]) -> bool {
     if a.len() != b.len() {
         return false;
     }
@@ -87,7 +87,7 @@ fn remainder(i: usize, period: usize) -> u16 {
 }
 
 // 0, 1, .. below a period, over and over: an order, or with 2 the same link each time.
-pub fn count_up(list: &mut [u16], period: usize) {
+pub(crate) fn count_up(list: &mut [u16], period: usize) {
     let mut i: usize = 0;
     while i < list.len() {
         list[i] = remainder(i, period);

@@ -9,7 +9,7 @@ fn show(leaders: &[u16], leader: u16, out: &mut [u16]) {
 }
 
 // the leader and the room
-pub fn case(label: &[u8], a: &[u16]) {
+pub(crate) fn case(label: &[u8], a: &[u16]) {
     let leaders = [0u16, 1, 1, 0, 0];
     let came = [9u16; 3];
     let mut out = came;

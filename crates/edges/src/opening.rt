@@ -4,7 +4,7 @@ use crate::lists;
 use planner::Small;
 
 // n, T, the order's length and the holders' length
-pub fn case(label: &[u8], a: &[u16]) {
+pub(crate) fn case(label: &[u8], a: &[u16]) {
     let came = [7u16; 6];
     let mut order = came;
     let mut holders = came;
@@ -21,7 +21,7 @@ pub fn case(label: &[u8], a: &[u16]) {
 }
 
 // n and the length of both lists
-pub fn large(label: &[u8], a: &[u16]) {
+pub(crate) fn large(label: &[u8], a: &[u16]) {
     let mut order = lists::large(7);
     let mut holders = lists::large(7);
     let links = [7u16; 4];

@@ -4,7 +4,7 @@ use crate::lists;
 use planner::Small;
 
 // n, k, how many numbers are told, and six numbers
-pub fn case(label: &[u8], a: &[u16]) {
+pub(crate) fn case(label: &[u8], a: &[u16]) {
     let came = [0u16, 1, 2, 3, 7, 7];
     let mut order = came;
     let links = [7u16; 2];

@@ -4,7 +4,7 @@ use crate::lists;
 use planner::Small;
 
 // n, T and k of 01's listing, which is fully placed but for k
-pub fn case(label: &[u8], a: &[u16]) {
+pub(crate) fn case(label: &[u8], a: &[u16]) {
     let links = [0u16, 2, 0, 3, 0, 4, 1, 2];
     let order = [2u16, 3, 4, 0, 1];
     let came = [2u16, 2, 1, 0, 0, 9, 9, 9];
@@ -35,7 +35,7 @@ fn place_each(label: &[u8], first: Small, links: &[u16], order: &[u16], holders:
 }
 
 // n, m, eight places of order and seven links
-pub fn steps(label: &[u8], a: &[u16]) {
+pub(crate) fn steps(label: &[u8], a: &[u16]) {
     let mut holders = [65535u16; 8];
     let s = Small {
         n: lists::number(a, 2),

@@ -38,7 +38,7 @@ fn show(leaders: &[u16], choke: &[u8], shown: usize) {
 }
 
 // T, k, the leaders' length, the choke bytes' length, the three holders, and how many places of both lists are shown
-pub fn case(label: &[u8], a: &[u16]) {
+pub(crate) fn case(label: &[u8], a: &[u16]) {
     let links = [0u16, 1, 1, 2];
     let order = [0u16, 1, 2];
     let mut leaders = [9u16; 5];

@@ -100,7 +100,7 @@ fn line(file: &[u8], start: usize) -> usize
     end
 }
 
-pub fn run(file: &[u8]) {
+pub(crate) fn run(file: &[u8]) {
     let mut i: usize = 0;
     while i < file.len() {
         i = line(file, i);

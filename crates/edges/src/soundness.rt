@@ -12,7 +12,7 @@ fn probe(label: &[u8], s: Small, links: &mut [u16], order: &[u16], holders: &[u1
 }
 
 // n, T, m, k, the lengths of links, order and holders, the last link, the order and the holders
-pub fn case(label: &[u8], a: &[u16]) {
+pub(crate) fn case(label: &[u8], a: &[u16]) {
     let mut links = [0u16, 1, 0, 2, lists::number(a, 9), lists::number(a, 10)];
     let s = Small {
         n: lists::number(a, 2),
@@ -30,7 +30,7 @@ pub fn case(label: &[u8], a: &[u16]) {
 }
 
 // n
-pub fn gateways(label: &[u8], a: &[u16]) {
+pub(crate) fn gateways(label: &[u8], a: &[u16]) {
     let mut links = [7u16; 2];
     let mut order = lists::large(7);
     let holders = lists::large(65535);
@@ -45,7 +45,7 @@ pub fn gateways(label: &[u8], a: &[u16]) {
 }
 
 // m
-pub fn many_links(label: &[u8], a: &[u16]) {
+pub(crate) fn many_links(label: &[u8], a: &[u16]) {
     let mut links = lists::large_links(0);
     let order = [0u16, 1, 2, 3];
     let holders = [65535u16; 4];

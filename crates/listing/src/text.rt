@@ -5,31 +5,19 @@ ghost use lib.Seq.{sets};
 ghost use Rattle.listing.specs.Listed.{fileText};
 
 // The longest text has 16,437 bytes.
-pub fn room() -> [u8; 16437]
+pub(crate) fn room() -> [u8; 16437]
     ensures { λ r. ⌜ r ≡ replicate 16437 0 ⌝ }
 {
     [0u8; 16437]
 }
 
-fn numbers() -> [u16; 1024]
-    ensures { λ r. ⌜ r ≡ replicate 1024 0 ⌝ }
-{
-    [0u16; 1024]
-}
-
-fn bytes() -> [u8; 1024]
-    ensures { λ r. ⌜ r ≡ replicate 1024 0 ⌝ }
-{
-    [0u8; 1024]
-}
-
 // Writes the text from the front of out on and returns its length.
-pub fn write(file: &[u8], out: &mut [u8]) -> usize
+pub(crate) fn write(file: &[u8], out: &mut [u8]) -> usize
     ensures count { λ r. ⌜ r ≡ length (fileText (now (file .entry))) ⌝ }
     ensures out { λ _. ⌜ now (out .exit) ≡ sets (now (out .entry)) 0 (fileText (now (file .entry))) ⌝ }
 {
-    let mut leaders = numbers();
-    let mut choke = bytes();
+    let mut leaders = daemon::lists::numbers();
+    let mut choke = daemon::lists::bytes();
     let refusal = daemon::plan_lists(file, &mut leaders, &mut choke);
     if refusal != 0 {
         return report::refused(refusal as u16, out);

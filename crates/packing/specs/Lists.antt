@@ -19,11 +19,11 @@ listWhere (suc n) p = listWhere n p ++ cond (p n) (n ∷ []) []
 unfoldable pub written : ℕ → List ℕ → List ℕ → List ℕ
 written n front lent = front ++ drop n lent
 
--- n is in range (01, "The product"), and there are n entries in a list that is read by gateway and in one that is written
-unfoldable pub fits : ℕ → List ℕ → List ℕ → Bool
-fits n read out = leb n 1024 && leb n (length read) && leb n (length out)
+-- n is in range (01, "The product"), and there are n entries in a list that is read by gateway and in one that is written, by their lengths
+unfoldable pub fits : ℕ → ℕ → ℕ → Bool
+fits n read out = leb n 1024 && leb n read && leb n out
 
--- .. as facts
+-- .. as facts of the lists
 pub record Lent (n : ℕ) (read out : List ℕ) : Type 0 where
   pub few : n ≤ 1024
   pub entries : n ≤ length read
@@ -31,4 +31,4 @@ pub record Lent (n : ℕ) (read out : List ℕ) : Type 0 where
 
 -- a lent list after a call that writes f's value for each gateway where that fits: as it came where it does not
 unfoldable pub fitted : ℕ → List ℕ → (ℕ → ℕ) → List ℕ → List ℕ
-fitted n read f out = cond (fits n read out) (written n (listOf n f) out) out
+fitted n read f out = cond (fits n (length read) (length out)) (written n (listOf n f) out) out

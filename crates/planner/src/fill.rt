@@ -7,7 +7,7 @@ ghost use Rattle.packing.specs.Lists.{written};
 ghost use Rattle.planner.specs.Lists.{upTo};
 
 // 0, 1, .., n - 1
-pub fn with_places(n: usize, list: &mut [u16])
+pub(crate) fn with_places(n: usize, list: &mut [u16])
     requires { ⌜ (n ≤ 1024) × (n ≤ length (now list)) ⌝ }
     ensures { λ _. ⌜ now (list .exit) ≡ written n (upTo n) (now (list .entry)) ⌝ }
 {
@@ -19,7 +19,7 @@ pub fn with_places(n: usize, list: &mut [u16])
 }
 
 // 65535 in each of the first n places
-pub fn with_none(n: usize, list: &mut [u16])
+pub(crate) fn with_none(n: usize, list: &mut [u16])
     requires { ⌜ n ≤ length (now list) ⌝ }
     ensures { λ _. ⌜ now (list .exit) ≡ written n (replicate n NONE) (now (list .entry)) ⌝ }
 {
@@ -31,7 +31,7 @@ pub fn with_none(n: usize, list: &mut [u16])
 }
 
 // another list's numbers
-pub fn with_list(numbers: &[u16], list: &mut [u16])
+pub(crate) fn with_list(numbers: &[u16], list: &mut [u16])
     requires { ⌜ length (now numbers) ≤ length (now list) ⌝ }
     ensures { λ _. ⌜ now (list .exit) ≡ written (length (now (numbers .entry))) (now (numbers .entry)) (now (list .entry)) ⌝ }
 {

@@ -6,7 +6,7 @@ ghost use lib.ListN.{length};
 ghost use Rattle.packing.specs.Plant.{firstLinks};
 ghost use Rattle.planner.specs.Refusals.{openRefusal, linkConditions, orderConditions, readConditions};
 
-pub fn of_open(n: u16, t: u8, order: &[u16], holders: &[u16]) -> u32
+pub(crate) fn of_open(n: u16, t: u8, order: &[u16], holders: &[u16]) -> u32
     ensures { λ r. ⌜ r ≡ openRefusal n t (now (order .entry)) (now (holders .entry)) ⌝ }
 {
     if 1024 < n {
@@ -28,7 +28,7 @@ pub fn of_open(n: u16, t: u8, order: &[u16], holders: &[u16]) -> u32
 }
 
 // After 26. links is the whole lent list, of which the first m links count.
-pub fn of_link(n: u16, k: u16, m: u16, links: &[u16], a: u16, b: u16) -> u32
+pub(crate) fn of_link(n: u16, k: u16, m: u16, links: &[u16], a: u16, b: u16) -> u32
     requires { ⌜ 2 * m ≤ length (now links) ⌝ }
     ensures { λ r. ⌜ r ≡ linkConditions n k m (firstLinks m (now (links .entry))) (length (now (links .entry))) a b ⌝ }
 {
@@ -58,7 +58,7 @@ pub fn of_link(n: u16, k: u16, m: u16, links: &[u16], a: u16, b: u16) -> u32
 }
 
 // After 26.
-pub fn of_order(n: u16, k: u16, numbers: &[u16]) -> u32
+pub(crate) fn of_order(n: u16, k: u16, numbers: &[u16]) -> u32
     requires { ⌜ n ≤ 1024 ⌝ }
     ensures { λ r. ⌜ r ≡ orderConditions n k (now (numbers .entry)) ⌝ }
 {
@@ -75,7 +75,7 @@ pub fn of_order(n: u16, k: u16, numbers: &[u16]) -> u32
 }
 
 // After 26.
-pub fn of_read(n: u16, k: u16, leaders: &[u16], choke: &[u8]) -> u32
+pub(crate) fn of_read(n: u16, k: u16, leaders: &[u16], choke: &[u8]) -> u32
     ensures { λ r. ⌜ r ≡ readConditions n k (length (now (leaders .entry))) (length (now (choke .entry))) ⌝ }
 {
     if k < n {

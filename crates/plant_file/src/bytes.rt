@@ -4,7 +4,7 @@ ghost use Prim.Native.Nat.{_+_, _*_};
 ghost use Rattle.packing.specs.Plant.{at};
 ghost use Rattle.plant_file.specs.PlantFile.{number};
 
-pub fn byte_at(file: &[u8], i: usize) -> u8
+pub(crate) fn byte_at(file: &[u8], i: usize) -> u8
     ensures { λ r. ⌜ r ≡ at (now (file .entry)) i ⌝ }
 {
     if i < file.len() {
@@ -20,7 +20,7 @@ fn joined(low: u8, high: u8) -> u16
     (low as u16) + 256 * (high as u16)
 }
 
-pub fn number_at(file: &[u8], i: usize) -> u16
+pub(crate) fn number_at(file: &[u8], i: usize) -> u16
     ensures { λ r. ⌜ r ≡ number (now (file .entry)) i ⌝ }
 {
     if i < file.len() {

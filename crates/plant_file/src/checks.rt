@@ -52,7 +52,7 @@ fn of_sizes(file: &[u8]) -> u32
 }
 
 // 9 for under 10 bytes, 7, 8, and then the sizes.
-pub fn of_header(file: &[u8]) -> u32
+pub(crate) fn of_header(file: &[u8]) -> u32
     ensures { λ r. ⌜ r ≡ headerRefusal (now (file .entry)) ⌝ }
 {
     if file.len() < 10 {
@@ -117,7 +117,7 @@ fn of_link(file: &[u8], n: u16, i: usize) -> u32
 }
 
 // The first refused link's number.
-pub fn of_links(file: &[u8]) -> u32
+pub(crate) fn of_links(file: &[u8]) -> u32
     ensures { λ r. ⌜ r ≡ linksRefusal (fileN (now (file .entry))) [] (fileLinks (now (file .entry))) ⌝ }
 {
     let n = crate::gateways(file);
@@ -134,7 +134,7 @@ pub fn of_links(file: &[u8]) -> u32
 }
 
 // Whether the order holds 0 to n - 1 once each.
-pub fn is_order(file: &[u8]) -> bool
+pub(crate) fn is_order(file: &[u8]) -> bool
     requires { ⌜ fileN (now file) ≤ 1024 ⌝ }
     ensures { λ r. ⌜ r ≡ onceEach (fileN (now (file .entry))) (fileOrder (now (file .entry))) ⌝ }
 {
@@ -146,7 +146,7 @@ pub fn is_order(file: &[u8]) -> bool
 }
 
 // The file's own, and then 10.
-pub fn of_load(file: &[u8], links: &[u16], order: &[u16]) -> u32
+pub(crate) fn of_load(file: &[u8], links: &[u16], order: &[u16]) -> u32
     ensures { λ r. ⌜ r ≡ loadRefusal (now (file .entry)) (length (now (links .entry))) (length (now (order .entry))) ⌝ }
 {
     let refusal = crate::refusal(file);

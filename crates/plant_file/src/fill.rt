@@ -22,7 +22,7 @@ fn with_link(file: &[u8], i: usize, links: &mut [u16])
 }
 
 // All the file's links.
-pub fn with_links(file: &[u8], links: &mut [u16])
+pub(crate) fn with_links(file: &[u8], links: &mut [u16])
     requires { ⌜ 2 * fileM (now file) ≤ length (now links) ⌝ }
     ensures { λ _. ⌜ now (links .exit) ≡ written (2 * fileM (now (file .entry))) (fileLinks (now (file .entry))) (now (links .entry)) ⌝ }
 {
@@ -35,7 +35,7 @@ pub fn with_links(file: &[u8], links: &mut [u16])
 }
 
 // The file's order.
-pub fn with_order(file: &[u8], order: &mut [u16])
+pub(crate) fn with_order(file: &[u8], order: &mut [u16])
     requires { ⌜ fileN (now file) ≤ length (now order) ⌝ }
     ensures { λ _. ⌜ now (order .exit) ≡ written (fileN (now (file .entry))) (fileOrder (now (file .entry))) (now (order .entry)) ⌝ }
 {

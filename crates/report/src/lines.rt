@@ -30,7 +30,7 @@ fn numbers(
 }
 
 // A word, these numbers, and the line feed. Both lists are passed, and which says which of them is read.
-pub fn line(
+pub(crate) fn line(
     word: &[u8],
     which: Which,
     n: u16,
@@ -48,7 +48,7 @@ pub fn line(
 }
 
 // gateways N limit T covered C
-pub fn one(n: u16, t: u8, leaders: &[u16], out: &mut [u8], place: usize) -> usize
+pub(crate) fn one(n: u16, t: u8, leaders: &[u16], out: &mut [u8], place: usize) -> usize
     requires { ⌜ Room place (text.lineOne n t (now leaders)) ⌝ }
     ensures { λ r. ⌜ Put (text.lineOne n t (now (leaders .entry))) (now (out .entry)) place (now (out .exit)) r ⌝ }
 {
@@ -71,7 +71,7 @@ fn lead(n: u16, leaders: &[u16], choke: &[u8], u: u16, out: &mut [u8], place: us
 }
 
 // a line a group
-pub fn leads(n: u16, leaders: &[u16], choke: &[u8], out: &mut [u8], place: usize) -> usize
+pub(crate) fn leads(n: u16, leaders: &[u16], choke: &[u8], out: &mut [u8], place: usize) -> usize
     requires { ⌜ Room place (text.leadLines n n (now leaders)) ⌝ }
     ensures { λ r. ⌜ Put (text.leadLines n n (now (leaders .entry))) (now (out .entry)) place (now (out .exit)) r ⌝ }
 {

@@ -7,7 +7,7 @@ ghost use Rattle.report.specs.Text.{coveredCount};
 ghost use Rattle.report.specs.Pre.{isListed};
 
 // The gateways that a line lists: the members of a leader, those alone, or the choke set.
-pub enum Which {
+pub(crate) enum Which {
     Members(u16),
     Alone,
     Choke,
@@ -36,7 +36,7 @@ fn is_alone(leaders: &[u16], v: u16) -> bool
     leader(leaders, v) == 65535
 }
 
-pub fn is_leader(leaders: &[u16], u: u16) -> bool
+pub(crate) fn is_leader(leaders: &[u16], u: u16) -> bool
     ensures { λ r. ⌜ r ≡ eqb (at (now (leaders .entry)) u) u ⌝ }
 {
     leader(leaders, u) == u
@@ -53,7 +53,7 @@ fn is_member(leaders: &[u16], u: u16, w: u16) -> bool
 }
 
 // Whether a line lists v.
-pub fn is_listed(which: Which, leaders: &[u16], choke: &[u8], v: u16) -> bool
+pub(crate) fn is_listed(which: Which, leaders: &[u16], choke: &[u8], v: u16) -> bool
     ensures { λ r. ⌜ r ≡ isListed which (now (leaders .entry)) (now (choke .entry)) v ⌝ }
 {
     match which {
@@ -64,7 +64,7 @@ pub fn is_listed(which: Which, leaders: &[u16], choke: &[u8], v: u16) -> bool
 }
 
 // The number covered.
-pub fn covered(n: u16, leaders: &[u16]) -> u16
+pub(crate) fn covered(n: u16, leaders: &[u16]) -> u16
     ensures { λ r. ⌜ r ≡ coveredCount n (now (leaders .entry)) ⌝ }
 {
     let mut count: u16 = 0;

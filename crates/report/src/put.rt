@@ -5,7 +5,7 @@ ghost use mathlib.Core.List.{[], _∷_};
 ghost use Rattle.report.specs.Text.{digits, spaced, field};
 ghost use Rattle.report.specs.Pre.{Room, Put};
 
-pub fn byte(b: u8, out: &mut [u8], place: usize) -> usize
+pub(crate) fn byte(b: u8, out: &mut [u8], place: usize) -> usize
     requires { ⌜ Room place (b ∷ []) ⌝ }
     ensures { λ r. ⌜ Put (b ∷ []) (now (out .entry)) place (now (out .exit)) r ⌝ }
 {
@@ -16,7 +16,7 @@ pub fn byte(b: u8, out: &mut [u8], place: usize) -> usize
     place + 1
 }
 
-pub fn text(text: &[u8], out: &mut [u8], place: usize) -> usize
+pub(crate) fn text(text: &[u8], out: &mut [u8], place: usize) -> usize
     requires { ⌜ Room place (now text) ⌝ }
     ensures { λ r. ⌜ Put (now (text .entry)) (now (out .entry)) place (now (out .exit)) r ⌝ }
 {
@@ -58,7 +58,7 @@ fn listed(x: u16, out: &mut [u8], place: usize) -> usize
 }
 
 // A number listed if it is wanted.
-pub fn listed_if(wanted: bool, x: u16, out: &mut [u8], place: usize) -> usize
+pub(crate) fn listed_if(wanted: bool, x: u16, out: &mut [u8], place: usize) -> usize
     requires { ⌜ Room place (spaced (cond wanted (x ∷ []) [])) ⌝ }
     ensures { λ r. ⌜ Put (spaced (cond wanted (x ∷ []) [])) (now (out .entry)) place (now (out .exit)) r ⌝ }
 {
@@ -69,7 +69,7 @@ pub fn listed_if(wanted: bool, x: u16, out: &mut [u8], place: usize) -> usize
 }
 
 // A word, and a number listed after it.
-pub fn field(word: &[u8], x: u16, out: &mut [u8], place: usize) -> usize
+pub(crate) fn field(word: &[u8], x: u16, out: &mut [u8], place: usize) -> usize
     requires { ⌜ Room place (field (now word) x) ⌝ }
     ensures { λ r. ⌜ Put (field (now (word .entry)) x) (now (out .entry)) place (now (out .exit)) r ⌝ }
 {

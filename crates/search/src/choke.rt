@@ -3,6 +3,7 @@ use crate::bytes::write_seen;
 use crate::start::queue_left;
 use crate::walk::walk;
 ghost use mathlib.Core.Path.{_≡_};
+ghost use lib.ListN.{length};
 ghost use Rattle.packing.specs.Lists.{listOf, written, fits};
 ghost use Rattle.search.specs.ChokeSet.{chokeByte, chokeWritten};
 ghost use Rattle.search.specs.ChokePre.{Workable};
@@ -24,26 +25,13 @@ fn write_set(
     write_seen(from, out);
 }
 
-// Whether n is in range and both lists have n entries.
-fn is_fitting(n: u16, holders: &[u16], out: &[u8]) -> bool
-    ensures { λ r. ⌜ r ≡ fits n (now (holders .entry)) (now (out .entry)) ⌝ }
-{
-    if 1024 < n {
-        return false;
-    }
-    if holders.len() < n as usize {
-        return false;
-    }
-    (n as usize) <= out.len()
-}
-
 // Writes the choke bytes to the first n places of out, and answers whether n and the lengths fit; if not, nothing is changed.
 // The equation shuts out, for one, the set seen from the first gateway without holder alone; and a walk that stops at a gateway with a place free.
 pub fn choke_set(n: u16, links: &[u16], holders: &[u16], out: &mut [u8]) -> bool
-    ensures done { λ r. ⌜ r ≡ fits n (now (holders .entry)) (now (out .entry)) ⌝ }
+    ensures done { λ r. ⌜ r ≡ fits n (length (now (holders .entry))) (length (now (out .entry))) ⌝ }
     ensures out { λ _. ⌜ now (out .exit) ≡ chokeWritten n (now (links .entry)) (now (holders .entry)) (now (out .entry)) ⌝ }
 {
-    if !is_fitting(n, holders, out) {
+    if !sound::is_fitting(n, holders.len(), out.len()) {
         return false;
     }
     let mut queue = [0u16; 1024];

@@ -7,7 +7,7 @@ ghost use Rattle.packing.specs.Holders.{holds};
 ghost use Rattle.search.specs.Pre.{Joinable, Joined};
 
 // How many u holds.
-pub fn load(n: usize, u: u16, holders: &[u16]) -> usize
+pub(crate) fn load(n: usize, u: u16, holders: &[u16]) -> usize
     requires { ⌜ n ≤ length (now holders) ⌝ }
     ensures { λ r. ⌜ r ≡ holds n (at (now (holders .entry))) u ⌝ }
 {
@@ -23,7 +23,7 @@ pub fn load(n: usize, u: u16, holders: &[u16]) -> usize
 }
 
 // What u holds joins the queue, ascending. Returns how many are queued then.
-pub fn join(n: usize, u: u16, holders: &[u16], queue: &mut [u16], tail: usize) -> usize
+pub(crate) fn join(n: usize, u: u16, holders: &[u16], queue: &mut [u16], tail: usize) -> usize
     requires { ⌜ Joinable n u (now holders) (now queue) tail ⌝ }
     ensures { λ r. ⌜ Joined n u (now (holders .entry)) (now (queue .entry)) (now (queue .exit)) tail r ⌝ }
 {

@@ -4,7 +4,7 @@ ghost use lib.ListN.{set};
 ghost use Rattle.packing.specs.Plant.{at};
 
 // The entry at i, and 0 past the end.
-pub fn entry(list: &[u16], i: u16) -> u16
+pub(crate) fn entry(list: &[u16], i: u16) -> u16
     ensures { λ r. ⌜ r ≡ at (now (list .entry)) i ⌝ }
 {
     let place = i as usize;
@@ -15,7 +15,7 @@ pub fn entry(list: &[u16], i: u16) -> u16
 }
 
 // Writes x at i, where there is such a place.
-pub fn put(list: &mut [u16], i: u16, x: u16)
+pub(crate) fn put(list: &mut [u16], i: u16, x: u16)
     ensures { λ _. ⌜ now (list .exit) ≡ set (now (list .entry)) i x ⌝ }
 {
     let place = i as usize;

@@ -4,7 +4,7 @@ use crate::lists::put;
 ghost use mathlib.Core.Path.{_≡_};
 ghost use Rattle.search.specs.Search.{shift};
 
-pub fn shift_back(n: usize, v: u16, u: u16, x: u16, from: &[u16], holders: &mut [u16])
+pub(crate) fn shift_back(n: usize, v: u16, u: u16, x: u16, from: &[u16], holders: &mut [u16])
     ensures { λ _. ⌜ now (holders .exit) ≡ shift n v (now (from .entry)) u x (now (holders .entry)) ⌝ }
 {
     let mut taker = u;

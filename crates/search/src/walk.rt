@@ -79,7 +79,7 @@ fn visit(
 }
 
 // The search from the first `tail` of the queue, nobody seen yet. A limit of 0 leaves nobody a place free.
-pub fn walk(
+pub(crate) fn walk(
     n: usize,
     t: u8,
     links: &[u16],

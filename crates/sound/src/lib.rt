@@ -6,6 +6,7 @@ ghost use mathlib.Core.Path.{_≡_};
 ghost use mathlib.Core.Bool.{_&&_};
 ghost use Prim.Native.Nat.{_≤_};
 ghost use lib.ListN.{length};
+ghost use Rattle.packing.specs.Lists.{fits};
 ghost use Rattle.packing.specs.Plant.{common};
 ghost use Rattle.sound.specs.Sound.{isSound, isOrder, numbersSound, listsLong, endsSound, holdersLinked, holdersWithin, onceEach, onlyPlacedHeld};
 
@@ -61,6 +62,19 @@ fn order_sound(n: u16, k: u16, order: &[u16], holders: &[u16]) -> bool
     let placed = passes::over_order(n as usize, k as usize, order, holders, &mut counts);
     let once = passes::counts_between(n as usize, 1, 1, &counts);
     marks::both(once, placed)
+}
+
+// Whether n is in range, and n entries are lent in a list that is read by gateway and in one that is written.
+pub fn is_fitting(n: u16, read: usize, out: usize) -> bool
+    ensures { λ r. ⌜ r ≡ fits n read out ⌝ }
+{
+    if 1024 < n {
+        return false;
+    }
+    if read < n as usize {
+        return false;
+    }
+    (n as usize) <= out
 }
 
 // Whether a list may be an order of n gateways. Any number, and a list of any length and contents.

@@ -8,13 +8,13 @@ ghost use Rattle.packing.specs.Plant.{NONE};
 ghost use Rattle.sound.specs.Marks.{Zeros, noted};
 
 // 1,024 counts or marks, none of them set.
-pub fn zeros() -> [u16; 1024]
+pub(crate) fn zeros() -> [u16; 1024]
     ensures { λ r. ⌜ (Zeros r) × (1024 ≡ length r) ⌝ }
 {
     [0; 1024]
 }
 
-pub fn both(a: bool, b: bool) -> bool
+pub(crate) fn both(a: bool, b: bool) -> bool
     ensures { λ r. ⌜ r ≡ (a && b) ⌝ }
 {
     if a {
@@ -23,7 +23,7 @@ pub fn both(a: bool, b: bool) -> bool
     false
 }
 
-pub fn ends_sound(n: u16, a: u16, b: u16) -> bool
+pub(crate) fn ends_sound(n: u16, a: u16, b: u16) -> bool
     ensures { λ r. ⌜ r ≡ (not (eqb a b) && ltb a n && ltb b n) ⌝ }
 {
     if a == b {
@@ -35,7 +35,7 @@ pub fn ends_sound(n: u16, a: u16, b: u16) -> bool
     b < n
 }
 
-pub fn is_between(low: u16, high: u16, x: u16) -> bool
+pub(crate) fn is_between(low: u16, high: u16, x: u16) -> bool
     ensures { λ r. ⌜ r ≡ (leb low x && leb x high) ⌝ }
 {
     if x < low {
@@ -45,7 +45,7 @@ pub fn is_between(low: u16, high: u16, x: u16) -> bool
 }
 
 // Whether u is no holder, or its gateway is marked.
-pub fn free_or_marked(u: u16, mark: u16) -> bool
+pub(crate) fn free_or_marked(u: u16, mark: u16) -> bool
     ensures { λ r. ⌜ r ≡ (eqb u NONE || eqb mark 1) ⌝ }
 {
     if u == 65535 {
@@ -55,7 +55,7 @@ pub fn free_or_marked(u: u16, mark: u16) -> bool
 }
 
 // Whether place i of the order is among the first k, or x, which stands there, has no holder.
-pub fn placed_or_free(i: usize, k: usize, x: u16, holders: &[u16]) -> bool
+pub(crate) fn placed_or_free(i: usize, k: usize, x: u16, holders: &[u16]) -> bool
     ensures { λ r. ⌜ r ≡ (ltb i k || eqb (getD (now (holders .entry)) x 0) NONE) ⌝ }
 {
     if i < k {
@@ -69,7 +69,7 @@ pub fn placed_or_free(i: usize, k: usize, x: u16, holders: &[u16]) -> bool
 }
 
 // One more at x, where x has a count.
-pub fn tally(counts: &mut [u16], x: u16)
+pub(crate) fn tally(counts: &mut [u16], x: u16)
     requires { ⌜ getD (now counts) x 0 < 65535 ⌝ }
     ensures { λ _. ⌜ now (counts .exit) ≡ set (now (counts .entry)) x (getD (now (counts .entry)) x 0 + 1) ⌝ }
 {
@@ -80,7 +80,7 @@ pub fn tally(counts: &mut [u16], x: u16)
 }
 
 // Marks v, where v has a place among the marks and u is its holder.
-pub fn note(v: u16, u: u16, holders: &[u16], marks: &mut [u16])
+pub(crate) fn note(v: u16, u: u16, holders: &[u16], marks: &mut [u16])
     ensures { λ _. ⌜ now (marks .exit) ≡ noted (now (holders .entry)) (now (marks .entry)) v u ⌝ }
 {
     let at = v as usize;

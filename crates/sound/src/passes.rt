@@ -15,7 +15,7 @@ ghost use Rattle.packing.specs.Count.{all};
 ghost use Rattle.sound.specs.Marks.{Zeros, Room, LinksPassed, HoldersPassed, OrderPassed};
 
 // The links: whether the ends of each differ and are below n. Marks each gateway whose holder is linked to it.
-pub fn over_links(n: u16, links: &[u16], holders: &[u16], marks: &mut [u16]) -> bool
+pub(crate) fn over_links(n: u16, links: &[u16], holders: &[u16], marks: &mut [u16]) -> bool
     requires { ⌜ Zeros (now marks) ⌝ }
     ensures { λ r. ⌜ LinksPassed n (now (links .entry)) (now (holders .entry)) (now (marks .exit)) r ⌝ }
 {
@@ -33,7 +33,7 @@ pub fn over_links(n: u16, links: &[u16], holders: &[u16], marks: &mut [u16]) -> 
 }
 
 // The holders: whether each is none or its gateway is marked. Counts how many each gateway holds.
-pub fn over_holders(n: usize, holders: &[u16], marks: &[u16], loads: &mut [u16]) -> bool
+pub(crate) fn over_holders(n: usize, holders: &[u16], marks: &[u16], loads: &mut [u16]) -> bool
     requires { ⌜ Room n (now holders) (now marks) (now loads) ⌝ }
     ensures { λ r. ⌜ HoldersPassed n (now (holders .entry)) (now (marks .entry)) (now (loads .exit)) r ⌝ }
 {
@@ -49,7 +49,13 @@ pub fn over_holders(n: usize, holders: &[u16], marks: &[u16], loads: &mut [u16])
 }
 
 // The order: whether those from place k on have no holder. Counts how often each gateway stands in it.
-pub fn over_order(n: usize, k: usize, order: &[u16], holders: &[u16], counts: &mut [u16]) -> bool
+pub(crate) fn over_order(
+    n: usize,
+    k: usize,
+    order: &[u16],
+    holders: &[u16],
+    counts: &mut [u16],
+) -> bool
     requires { ⌜ Room n (now order) (now order) (now counts) ⌝ }
     ensures { λ r. ⌜ OrderPassed n k (now (order .entry)) (now (holders .entry)) (now (counts .exit)) r ⌝ }
 {
@@ -65,7 +71,7 @@ pub fn over_order(n: usize, k: usize, order: &[u16], holders: &[u16], counts: &m
 }
 
 // Whether each of the first n counts is from low to high.
-pub fn counts_between(n: usize, low: u16, high: u16, counts: &[u16]) -> bool
+pub(crate) fn counts_between(n: usize, low: u16, high: u16, counts: &[u16]) -> bool
     requires { ⌜ n ≤ length (now counts) ⌝ }
     ensures { λ r. ⌜ r ≡ all n (λ v. leb low (getD (now (counts .entry)) v 0) && leb (getD (now (counts .entry)) v 0) high) ⌝ }
 {

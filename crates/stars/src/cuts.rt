@@ -54,7 +54,7 @@ fn is_cut(n: u16, holders: &[u16], cycles: &[u16], trees: &[u16], v: u16) -> boo
 }
 
 // Marks each gateway whose arc is cut.
-pub fn cut_arcs(n: u16, holders: &[u16], cycles: &[u16], trees: &[u16]) -> [u16; 1024]
+pub(crate) fn cut_arcs(n: u16, holders: &[u16], cycles: &[u16], trees: &[u16]) -> [u16; 1024]
     requires { ⌜ Treed n (now holders) (now cycles) (now trees) ⌝ }
     ensures { λ r. ⌜ Marks n (cut n (now (holders .entry))) r ⌝ }
 {

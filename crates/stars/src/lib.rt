@@ -7,21 +7,9 @@ mod rounds;
 mod walks;
 
 ghost use mathlib.Core.Path.{_≡_};
+ghost use lib.ListN.{length};
 ghost use Rattle.packing.specs.Lists.{listOf, written, fits, Lent};
 ghost use Rattle.stars.specs.Stars.{leaderList, leadersWritten};
-
-// Whether n is in range and both lists have n entries.
-fn is_fitting(n: u16, holders: &[u16], out: &[u16]) -> bool
-    ensures { λ r. ⌜ r ≡ fits n (now (holders .entry)) (now (out .entry)) ⌝ }
-{
-    if 1024 < n {
-        return false;
-    }
-    if holders.len() < n as usize {
-        return false;
-    }
-    (n as usize) <= out.len()
-}
 
 // Each step fills one array: the cycles, who leads by rule 1, the cut arcs, who leads by rules 1 to 4, and their leaders.
 fn write_leaders(n: u16, holders: &[u16], out: &mut [u16])
@@ -39,10 +27,10 @@ fn write_leaders(n: u16, holders: &[u16], out: &mut [u16])
 // Writes the leader list to the first n places of out, and answers whether n and the lengths fit; if not, nothing is changed.
 // The equation shuts out, for one, the holders passed on as leaders, since a chain of holders is no star; and an odd cycle whose last gateway is left alone, where its first three are to be one group.
 pub fn leaders(n: u16, holders: &[u16], out: &mut [u16]) -> bool
-    ensures done { λ r. ⌜ r ≡ fits n (now (holders .entry)) (now (out .entry)) ⌝ }
+    ensures done { λ r. ⌜ r ≡ fits n (length (now (holders .entry))) (length (now (out .entry))) ⌝ }
     ensures out { λ _. ⌜ now (out .exit) ≡ leadersWritten n (now (holders .entry)) (now (out .entry)) ⌝ }
 {
-    if !is_fitting(n, holders, out) {
+    if !sound::is_fitting(n, holders.len(), out.len()) {
         return false;
     }
     write_leaders(n, holders, out);

@@ -8,13 +8,13 @@ ghost use Rattle.packing.specs.Plant.{at};
 ghost use Rattle.stars.specs.Pre.{Blank, marked};
 
 // 1,024 places, none of them marked.
-pub fn zeros() -> [u16; 1024]
+pub(crate) fn zeros() -> [u16; 1024]
     ensures { λ r. ⌜ Blank r ⌝ }
 {
     [0; 1024]
 }
 
-pub fn both(a: bool, b: bool) -> bool
+pub(crate) fn both(a: bool, b: bool) -> bool
     ensures { λ r. ⌜ r ≡ (a && b) ⌝ }
 {
     if a {
@@ -23,7 +23,7 @@ pub fn both(a: bool, b: bool) -> bool
     false
 }
 
-pub fn either(a: bool, b: bool) -> bool
+pub(crate) fn either(a: bool, b: bool) -> bool
     ensures { λ r. ⌜ r ≡ (a || b) ⌝ }
 {
     if a {
@@ -33,7 +33,7 @@ pub fn either(a: bool, b: bool) -> bool
 }
 
 // The mark of a test.
-pub fn bit(b: bool) -> u16
+pub(crate) fn bit(b: bool) -> u16
     ensures { λ r. ⌜ r ≡ pick b 1 ⌝ }
 {
     if b {
@@ -42,7 +42,7 @@ pub fn bit(b: bool) -> u16
     0
 }
 
-pub fn entry(l: &[u16], v: u16) -> u16
+pub(crate) fn entry(l: &[u16], v: u16) -> u16
     requires { ⌜ v < length (now l) ⌝ }
     ensures { λ r. ⌜ r ≡ at (now (l .entry)) v ⌝ }
 {
@@ -50,7 +50,7 @@ pub fn entry(l: &[u16], v: u16) -> u16
     l[place]
 }
 
-pub fn is_marked(l: &[u16], v: u16) -> bool
+pub(crate) fn is_marked(l: &[u16], v: u16) -> bool
     requires { ⌜ v < length (now l) ⌝ }
     ensures { λ r. ⌜ r ≡ marked (now (l .entry)) v ⌝ }
 {
@@ -58,7 +58,7 @@ pub fn is_marked(l: &[u16], v: u16) -> bool
 }
 
 // Marks u, where yes is true and u has a place.
-pub fn note(l: &mut [u16], u: u16, yes: bool)
+pub(crate) fn note(l: &mut [u16], u: u16, yes: bool)
     ensures { λ _. ⌜ now (l .exit) ≡ cond yes (set (now (l .entry)) u 1) (now (l .entry)) ⌝ }
 {
     let place = u as usize;

@@ -83,7 +83,7 @@ fn rule_five(n: u16, groups: &[u16], v: u16) -> u16
 }
 
 // The list of n entries, written to the front of out.
-pub fn write_list(n: u16, groups: &[u16], out: &mut [u16])
+pub(crate) fn write_list(n: u16, groups: &[u16], out: &mut [u16])
     requires { ⌜ (Entries n (now groups)) × (n ≤ length (now out)) ⌝ }
     ensures { λ _. ⌜ now (out .exit) ≡ written n (listOf n (ruleFive ltb n (at (now (groups .entry))))) (now (out .entry)) ⌝ }
 {

@@ -36,7 +36,7 @@ fn leader_of(n: u16, holders: &[u16], cycles: &[u16], cuts: &[u16], leading: &[u
 }
 
 // The leader of each gateway.
-pub fn leaders_of(
+pub(crate) fn leaders_of(
     n: u16,
     holders: &[u16],
     cycles: &[u16],

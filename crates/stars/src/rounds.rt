@@ -38,7 +38,7 @@ fn round(n: u16, holders: &[u16], stops: &[u16], leading: &[u16]) -> [u16; 1024]
 }
 
 // Marks who leads after n rounds.
-pub fn leading(n: u16, holders: &[u16], stops: &[u16]) -> [u16; 1024]
+pub(crate) fn leading(n: u16, holders: &[u16], stops: &[u16]) -> [u16; 1024]
     requires { ⌜ Stopped n (now holders) (now stops) ⌝ }
     ensures { λ r. ⌜ Marks n (leadsIn n n (now (holders .entry)) (λ w. not (marked (now (stops .entry)) w))) r ⌝ }
 {

@@ -10,7 +10,7 @@ ghost use Rattle.stars.specs.Stars.{holder, onCycle, nextOnCycle};
 ghost use Rattle.stars.specs.Pre.{Entries, Marks, Cycled};
 
 // v's holder; what is no gateway has none.
-pub fn holder_of(n: u16, holders: &[u16], v: u16) -> u16
+pub(crate) fn holder_of(n: u16, holders: &[u16], v: u16) -> u16
     requires { ⌜ Entries n (now holders) ⌝ }
     ensures { λ r. ⌜ r ≡ holder n (now (holders .entry)) v ⌝ }
 {
@@ -37,7 +37,7 @@ fn on_cycle(n: u16, holders: &[u16], v: u16) -> bool
 }
 
 // Marks each gateway on a cycle.
-pub fn on_cycles(n: u16, holders: &[u16]) -> [u16; 1024]
+pub(crate) fn on_cycles(n: u16, holders: &[u16]) -> [u16; 1024]
     requires { ⌜ Entries n (now holders) ⌝ }
     ensures { λ r. ⌜ Marks n (onCycle n (now (holders .entry))) r ⌝ }
 {
@@ -52,7 +52,7 @@ pub fn on_cycles(n: u16, holders: &[u16]) -> [u16; 1024]
 }
 
 // The lowest number on a cycle that v holds; n where there is none.
-pub fn next_on_cycle(n: u16, holders: &[u16], cycles: &[u16], v: u16) -> u16
+pub(crate) fn next_on_cycle(n: u16, holders: &[u16], cycles: &[u16], v: u16) -> u16
     requires { ⌜ Cycled n (now holders) (now cycles) ⌝ }
     ensures { λ r. ⌜ r ≡ nextOnCycle n (now (holders .entry)) v ⌝ }
 {

@@ -1,8 +1,8 @@
 -- `is_fitting` meets its contract: each return rewrites by the tests that led there.
 use borrow.Author.Tests.{lt-leb, le-leb}
 use Rattle.packing.specs.Lists.{fits}
-use Rattle.stars.proofs.is_fitting.Statement.{statement}
-use Rattle.stars.proofs.is_fitting.Tie as tie
+use Rattle.sound.proofs.is_fitting.Statement.{statement}
+use Rattle.sound.proofs.is_fitting.Tie as tie
 
 returns : tie.Need-returns
 unfolding fits
