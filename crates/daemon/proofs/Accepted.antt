@@ -10,11 +10,11 @@ use borrow.Author.Tests.{le-ltb, lt-leb, eq-eqb, ne-eqb}
 use Rattle.packing.specs.Plant.{at}
 use Rattle.packing.proofs.Tests.{or-none}
 use Rattle.packing.proofs.Flat.{pair-at}
-use Rattle.planner.specs.Lists.{upTo, repeatsOrOutside}
+use Rattle.packing.specs.Orders.{upTo, repeatsOrOutside}
 use Rattle.planner.specs.Refusals.{openRefusal, linkConditions, orderConditions, placeConditions, readConditions}
 use Rattle.planner.specs.Told.{Call, Told, link, order, place, read, beginning, refuses, accepted, tellOne, tell}
 use Rattle.planner.specs.Cases.{linkCalls, placeCalls}
-use Rattle.planner.proofs.Answers.{refuse-none}
+use Rattle.packing.proofs.Refusals.{refuse-none}
 use Rattle.plant_file.specs.PlantFile.{fileN, fileT, fileM, fileLinks, fileOrder, linksRefusal, fileRefusal}
 use Rattle.plant_file.specs.Pre.{headerRefusal}
 use Rattle.plant_file.proofs.Steps.{links-long, order-long}

@@ -10,7 +10,7 @@ use borrow.Author.Tests.{ltb-false, lt-ltb, le-ltb}
 use Rattle.packing.proofs.Tests.{or-l, or-r, or-none, or-false-l, or-false-r}
 use Rattle.packing.specs.Lists.{written}
 use Rattle.planner.specs.Calls.{readLeaders, readChoke}
-use Rattle.planner.proofs.Answers.{refuse-none, refused, accepted}
+use Rattle.packing.proofs.Refusals.{refuse-none, refused, accepted}
 use Rattle.plant_file.specs.PlantFile.{fileN, fileRefusal}
 use Rattle.plant_file.proofs.Parts.{first-refused, first-passed, first-none}
 use Rattle.daemon.specs.Plan.{fileState, planRefusal, planLeaders, planChoke, planBytes, callRefusal, callOut}

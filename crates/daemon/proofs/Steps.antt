@@ -11,7 +11,8 @@ use Rattle.packing.proofs.Lists.{written-room, written-front}
 use Rattle.planner.specs.declared.Small.{Small}
 use Rattle.planner.specs.declared.Answer.{Answer}
 use Rattle.packing.specs.Lists.{written}
-use Rattle.planner.specs.Calls.{byNumber, openAnswer, openOrder, openHolders, linkAnswer, linkLinks, orderAnswer, orderOrder, placeAnswer, placeHolders, readLeaders, readChoke}
+use Rattle.planner.specs.Calls.{openAnswer, openOrder, openHolders, linkAnswer, linkLinks, orderAnswer, orderOrder, placeAnswer, placeHolders, readLeaders, readChoke}
+use Rattle.packing.specs.Refusals.{byNumber}
 use Rattle.planner.specs.Told.{Call, order, place}
 use Rattle.planner.specs.Run.{State, afterOpen, step, run}
 use Rattle.planner.specs.Claims.{madeBy}

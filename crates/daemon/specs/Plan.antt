@@ -5,13 +5,13 @@ use mathlib.Core.List.{List, [], _∷_, _++_}
 use lib.Dec.{ltb}
 use lib.ListN.{length, replicate}
 use Rattle.packing.specs.Lists.{written}
-use Rattle.planner.specs.Refusals.{refuse}
-use Rattle.planner.specs.Calls.{byNumber, readLeaders, readChoke}
+use Rattle.packing.specs.Refusals.{refuse, byNumber, firstOf}
+use Rattle.planner.specs.Calls.{readLeaders, readChoke}
 use Rattle.planner.specs.Told.{Call, order}
 use Rattle.planner.specs.Run.{State}
 use Rattle.planner.specs.Claims.{madeBy}
 use Rattle.planner.specs.Cases.{linkCalls, placeCalls}
-use Rattle.plant_file.specs.PlantFile.{fileN, fileT, fileLinks, fileOrder, firstOf, fileRefusal}
+use Rattle.plant_file.specs.PlantFile.{fileN, fileT, fileLinks, fileOrder, fileRefusal}
 
 -- the list of calls that the file stands for: each link, the order, n placings
 unfoldable pub fileCalls : List ℕ → List Call

@@ -8,9 +8,9 @@ use lib.Dec.{eqb, ltb, leb}
 use lib.ListN.{length, take, replicate, length-replicate}
 use lib.Seq.{sets, length-sets, length-take-le}
 use Rattle.packing.specs.Plant.{linked}
-use Rattle.planner.specs.Lists.{repeatsOrOutside}
-use Rattle.planner.specs.Refusals.{refuse}
-use Rattle.plant_file.specs.PlantFile.{number, fileN, fileT, fileM, fileLinks, fileOrder, beginsPLT, firstOf, endsRefusal, linksRefusal, fileRefusal}
+use Rattle.packing.specs.Orders.{repeatsOrOutside}
+use Rattle.packing.specs.Refusals.{refuse, firstOf}
+use Rattle.plant_file.specs.PlantFile.{number, fileN, fileT, fileM, fileLinks, fileOrder, beginsPLT, endsRefusal, linksRefusal, fileRefusal}
 use Rattle.plant_file.proofs.Accepted.{file-fits}
 use Rattle.daemon.specs.Plan.{planRefusal, planLeaders, planChoke}
 use Rattle.daemon.proofs.Numbers.{plan-room}

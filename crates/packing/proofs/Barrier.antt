@@ -12,7 +12,7 @@ use Rattle.packing.proofs.Tests.{by-bool, clash, and-l, and-r, and-i, o
 use Rattle.packing.proofs.Sums.{count-mono, count-ext, count-split, count-some, sumOver-mono, sumOver-const}
 use Rattle.packing.proofs.Hall.{hall-met}
 use Rattle.packing.proofs.Tight.{Tight}
-use Rattle.packing.proofs.Pairs.{tight-holds}
+use Rattle.packing.proofs.TightPairs.{tight-holds}
 use Rattle.packing.proofs.Groupings.{Sym}
 
 module _

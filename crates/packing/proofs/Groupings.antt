@@ -14,7 +14,7 @@ use Rattle.packing.specs.Holders.{held, holds, Feasible}
 use Rattle.packing.proofs.Tests.{by-bool, clash, and-l, and-r, and-i, or-cases, not-i, iff-test, any-intro, first-found}
 use Rattle.packing.proofs.Sums.{count-mono, count-ext, count-find, count-unique}
 use Rattle.packing.proofs.Tight.{Tight}
-use Rattle.packing.proofs.Pairs.{tight-most}
+use Rattle.packing.proofs.TightPairs.{tight-most}
 
 -- links go both ways
 abbrev pub Sym : ℕ → (ℕ → ℕ → Bool) → Type 0

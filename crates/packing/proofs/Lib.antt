@@ -5,9 +5,11 @@ pub mod Counting
 pub mod Flat
 pub mod Lists
 pub mod Fitted
+pub mod Refusals
 pub mod Tight
 pub mod Hall
-pub mod Pairs
+pub mod TightPairs
+pub mod Placing
 pub mod Groupings
 pub mod Below
 pub mod Prefixes

@@ -7,6 +7,7 @@ use native.Mathlib.Omega.{arith}
 use lib.Dec.{eqb}
 use lib.ListN.{length}
 use borrow.Author.Tests.{eqb-true, eqb-false}
+use Rattle.packing.specs.Lists.{memberOf}
 use Rattle.packing.specs.Plant.{joins, linked, otherEnd, neighbours}
 use Rattle.packing.proofs.Tests.{by-bool, and-l, and-r, not-test}
 
@@ -16,11 +17,6 @@ unfolding linked
 linked-sym [] x y = refl
 linked-sym (a ∷ []) x y = refl
 linked-sym (a ∷ b ∷ rest) x y = rw (linked-sym rest x y, or-comm (eqb a x && eqb b y) (eqb a y && eqb b x))
-
--- y is in the list
-unfoldable pub memberOf : List ℕ → ℕ → Bool
-memberOf [] y = false
-memberOf (a ∷ l) y = eqb a y || memberOf l y
 
 -- x's neighbours are the gateways that x is linked to. It holds of any list: a link x-x gives x as its own neighbour.
 pub neighbours-linked : (l : List ℕ) (x y : ℕ) → memberOf (neighbours l x) y ≡ linked l x y

@@ -12,10 +12,9 @@ use lib.ListN.{length, getD, set, take, drop, replicate, length-append, length-d
 use lib.Seq.{getD-at, drop-cons, set-at, take-at, append-snoc, ext-getD, sets}
 use borrow.Author.Tests.{eqb-true, eq-eqb}
 use Rattle.packing.specs.Count.{pick, sum, count}
-use Rattle.packing.specs.Lists.{listOf, listWhere, written}
+use Rattle.packing.specs.Lists.{listOf, listWhere, written, memberOf}
 use Rattle.packing.proofs.Tests.{below-suc, or-cases, or-l, or-r}
 use Rattle.packing.proofs.Counting.{Tallied, tally-start, tally-more, tally-same, tally-less, tally-end}
-use Rattle.packing.proofs.Links.{memberOf}
 
 pub listOf-length : (n : ℕ) (f : ℕ → ℕ) → length (listOf n f) ≡ n
 unfolding listOf

@@ -13,7 +13,7 @@ use Rattle.packing.specs.Holders.{held, Feasible}
 use Rattle.packing.proofs.Tests.{by-bool, clash, below-suc, and-l, and-r, and-i, or-cases, or-l, or-r, any-intro, any-elim}
 use Rattle.packing.proofs.Sums.{count-same, count-bound, count-ext, count-within, count-all, count-some, count-unique, fibre, sumOver-ext}
 use Rattle.packing.proofs.Tight.{Tight, Blocked}
-use Rattle.packing.proofs.Pairs.{tight-most, tight-none, tight-union, transfer-held}
+use Rattle.packing.proofs.TightPairs.{tight-most, tight-none, tight-union, transfer-held}
 use Rattle.packing.proofs.Groupings.{Sym, Loopless, groupHolder, grouping-holds, grouping-feasible}
 
 -- the gateways below n, each at one place below n

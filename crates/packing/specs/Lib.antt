@@ -2,6 +2,8 @@
 pub mod Count
 pub mod Lists
 pub mod Plant
+pub mod Orders
+pub mod Refusals
 pub mod Grouping
 pub mod Holders
 pub mod Choke

@@ -1,8 +1,8 @@
 -- Lists of numbers by gateway, and what a lent list holds once its front is written.
 use Prim.Native.Nat.{ℕ, zero, suc, _≤_}
-use mathlib.Core.Bool.{Bool, cond, _&&_}
+use mathlib.Core.Bool.{Bool, false, cond, _&&_, _||_}
 use mathlib.Core.List.{List, [], _∷_, _++_}
-use lib.Dec.{leb}
+use lib.Dec.{eqb, leb}
 use lib.ListN.{length, drop}
 
 -- f 0, .., f (n - 1) as a list
@@ -14,6 +14,11 @@ listOf (suc n) f = listOf n f ++ (f n ∷ [])
 unfoldable pub listWhere : ℕ → (ℕ → Bool) → List ℕ
 listWhere zero p = []
 listWhere (suc n) p = listWhere n p ++ cond (p n) (n ∷ []) []
+
+-- y is in the list
+unfoldable pub memberOf : List ℕ → ℕ → Bool
+memberOf [] y = false
+memberOf (a ∷ l) y = eqb a y || memberOf l y
 
 -- a lent list once its first n entries are written (01: "Entries past these lengths never change")
 unfoldable pub written : ℕ → List ℕ → List ℕ → List ℕ

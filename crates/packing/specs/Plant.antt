@@ -10,6 +10,19 @@ use lib.ListN.{take, getD}
 abbrev pub NONE : ℕ
 NONE = 65535
 
+-- the most gateways and links of a plant, and the lowest and highest limit (01, "The product")
+abbrev pub GATEWAYS : ℕ
+GATEWAYS = 1024
+
+abbrev pub LINKS : ℕ
+LINKS = 8192
+
+abbrev pub LOWEST : ℕ
+LOWEST = 2
+
+abbrev pub HIGHEST : ℕ
+HIGHEST = 16
+
 -- the entry of a list at a place
 abbrev pub at : List ℕ → ℕ → ℕ
 at l i = getD l i 0

@@ -9,13 +9,14 @@ use Rattle.packing.proofs.Lists.{listOf-at, written-at, listed-at}
 use Rattle.sound.specs.Sound.{isSound}
 use Rattle.sound.proofs.Meaning.{means-sound}
 use Rattle.planner.specs.declared.Small.{Small}
-use Rattle.planner.specs.Lists.{upTo}
+use Rattle.packing.specs.Orders.{upTo}
 use Rattle.planner.specs.Refusals.{openRefusal}
-use Rattle.planner.specs.Calls.{byNumber, openAnswer, openOrder, openHolders, linkRefusal, linkAnswer, linkLinks, orderRefusal, orderAnswer, orderOrder, placeRefusal, placeAnswer, placeHolders, readRefusal, readAnswer}
+use Rattle.planner.specs.Calls.{openAnswer, openOrder, openHolders, linkRefusal, linkAnswer, linkLinks, orderRefusal, orderAnswer, orderOrder, placeRefusal, placeAnswer, placeHolders, readRefusal, readAnswer}
+use Rattle.packing.specs.Refusals.{byNumber}
 use Rattle.planner.specs.Told.{Call, link, order, place, read, Told, beginning, refuses, accepted, tellOne, tell, toldNumbers}
 use Rattle.planner.specs.Run.{State, afterOpen, answers, step, run, runNumbers}
 use Rattle.planner.proofs.Answers.{sound-number, open-fits, link-fits, order-fits, place-fits}
-use Rattle.planner.proofs.Orders.{order-right}
+use Rattle.sound.proofs.Orders.{order-right}
 use Rattle.planner.proofs.Made.{Made, links-appended, made-open, made-link, made-order, made-place}
 
 -- the small part that was told

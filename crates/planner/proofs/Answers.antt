@@ -9,32 +9,17 @@ use lib.ListN.{length, set, replicate}
 use Rattle.packing.specs.Plant.{NONE, at, common, firstLinks, linked}
 use borrow.Author.Tests.{ltb-false, leb-false, eqb-true, eqb-false, not-false}
 use Rattle.packing.proofs.Tests.{or-false-l, or-false-r}
+use Rattle.packing.proofs.Refusals.{refuse-none, refused, accepted}
 use Rattle.packing.specs.Lists.{listOf, written}
 use Rattle.search.specs.Search.{placedHolders}
 use Rattle.stars.specs.Stars.{leaderList}
 use Rattle.search.specs.ChokeSet.{chokeByte}
 use Rattle.planner.specs.declared.Small.{Small}
 use Rattle.planner.specs.declared.Answer.{Answer}
-use Rattle.planner.specs.Refusals.{refuse, openRefusal, linkConditions, orderConditions, placeConditions, readConditions}
-use Rattle.planner.specs.Lists.{upTo, repeatsOrOutside}
-use Rattle.planner.specs.Calls.{byNumber, answer, opened, openAnswer, openOrder, openHolders, linkRefusal, linkAnswer, linkLinks, orderRefusal, orderAnswer, orderOrder, placeRefusal, placeAnswer, placeHolders, readRefusal, readAnswer, readLeaders, readChoke}
-
--- no refusal: the condition does not hold, and no later one
-pub refuse-none : (b : Bool) (e later : ℕ) → 0 < e → refuse b e later ≡ 0 → (b ≡ false) × (later ≡ 0)
-refuse-none true e later p q = absurd (omega arith)
-refuse-none false e later p q = (refl, q)
-
-module _ {A : Type 0} (changed kept : A) where
-  by-refused : (e : ℕ) → (e ≡ 0 → ⊥) → kept ≡ byNumber e changed kept
-  by-refused zero h = absurd (h refl)
-  by-refused (suc e) h = refl
-
-  -- a refused call leaves what was there, an accepted one gives what changed
-  pub refused : {e r : ℕ} → e ≡ r → (e ≡ 0 → ⊥) → kept ≡ byNumber r changed kept
-  refused {e} {r} g h = by-refused r (λ z. h (g ∙ z))
-
-  pub accepted : {e r : ℕ} {l : A} → e ≡ r → e ≡ 0 → l ≡ changed → l ≡ byNumber r changed kept
-  accepted g z h = rw (sym g ∙ z) h
+use Rattle.planner.specs.Refusals.{openRefusal, linkConditions, orderConditions, placeConditions, readConditions}
+use Rattle.packing.specs.Refusals.{refuse, byNumber}
+use Rattle.packing.specs.Orders.{upTo, repeatsOrOutside}
+use Rattle.planner.specs.Calls.{answer, opened, openAnswer, openOrder, openHolders, linkRefusal, linkAnswer, linkLinks, orderRefusal, orderAnswer, orderOrder, placeRefusal, placeAnswer, placeHolders, readRefusal, readAnswer, readLeaders, readChoke}
 
 refused-answer : (changed kept : Small) {e r : ℕ} → e ≡ r → (e ≡ 0 → ⊥) → _≡_ {A = Answer} (record { refusal = e; small = kept }) (answer r changed kept)
 refused-answer changed kept g h = λ i. record { refusal = g i; small = refused changed kept g h i }

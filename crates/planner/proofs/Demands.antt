@@ -18,7 +18,8 @@ use Rattle.packing.proofs.Prefixes.{order-whole}
 use Rattle.packing.proofs.Below.{grouping-below, difference-below}
 use Rattle.stars.specs.Stars.{leaderList}
 use Rattle.search.specs.ChokeSet.{inChoke, chokeByte}
-use Rattle.planner.specs.Calls.{byNumber, readAnswer, readLeaders, readChoke}
+use Rattle.planner.specs.Calls.{readAnswer, readLeaders, readChoke}
+use Rattle.packing.specs.Refusals.{byNumber}
 use Rattle.planner.specs.Told.{Call, Told, link, order, place, read, beginning, refuses, accepted, tellOne, tell}
 use Rattle.planner.specs.Run.{State, answers}
 use Rattle.planner.specs.Claims.{leadersRead, chokeRead, SameNumbers, DemandThree, MostCovered, DemandTwo}

@@ -7,6 +7,4 @@ pub mod Optimal
 pub mod Demands
 pub mod LeftNext
 pub mod Table
-pub mod Orders
-pub mod Lookup
 pub mod MembersLaws

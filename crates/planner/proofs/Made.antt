@@ -19,14 +19,14 @@ use Rattle.packing.proofs.Sums.{count-none}
 use Rattle.packing.proofs.Lists.{listOf-length, written-length, written-at, listed-at}
 use Rattle.packing.proofs.Links.{linked-append}
 use Rattle.packing.proofs.Tight.{Blocked}
-use Rattle.packing.proofs.Pairs.{transfer-blocked}
+use Rattle.packing.proofs.TightPairs.{transfer-blocked}
 use Rattle.packing.proofs.Prefixes.{IsOrder, order-place}
 use Rattle.search.specs.Search.{placedHolders}
 use Rattle.search.specs.Pre.{Placeable}
 use Rattle.search.proofs.Shifting.{Kept}
 use Rattle.search.proofs.Placing.{Left, place-cases, placed-range, placed-length}
 use Rattle.sound.proofs.Meaning.{Sound, joined-ends}
-use Rattle.planner.specs.Lists.{upTo}
+use Rattle.packing.specs.Orders.{upTo}
 use Rattle.planner.proofs.Next.{none-unheld, next-placeable}
 
 -- sound, and each placed gateway without holder has a tight pair around it with only held gateways before it in the order

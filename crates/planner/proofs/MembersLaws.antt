@@ -12,7 +12,7 @@ use Rattle.packing.specs.Lists.{listWhere, written}
 use Rattle.packing.specs.Plant.{at}
 use Rattle.packing.specs.Grouping.{membersOf}
 use Rattle.packing.proofs.Lists.{written-front}
-use Rattle.planner.specs.Calls.{byNumber}
+use Rattle.packing.specs.Refusals.{byNumber}
 use Rattle.planner.specs.Members.{listedLeaders, membersConditions, membersRefusal, membersPart, membersList}
 use Rattle.planner.proofs.Answers.{refuse-none, refused, accepted}
 

@@ -18,7 +18,7 @@ use Rattle.sound.specs.Sound.{numbersSound, listsLong, endsSound, onceEach, hol
 use Rattle.search.specs.Search.{heldBy, look, visit, turn, turns, walk, shift, settled, placedHolders}
 use Rattle.stars.specs.Stars.{holder, back, onCycle, nextOnCycle, leadsIn, leadsInTrees, begins, cut, leads, leaderOf, pairLeader, partner, ruleFive, leaderList}
 use Rattle.search.specs.ChokeSet.{withoutHolder, chokeWalk, seenIn, inChoke, chokeByte}
-use Rattle.planner.specs.Lists.{upTo, repeatsOrOutside}
+use Rattle.packing.specs.Orders.{upTo, repeatsOrOutside}
 use Rattle.planner.specs.Refusals.{openRefusal, linkConditions, orderConditions, placeConditions, readConditions}
 use Rattle.planner.specs.Calls.{openAnswer, openOrder, openHolders, linkRefusal, linkAnswer, linkLinks, orderRefusal, orderAnswer, orderOrder, placeRefusal, placeAnswer, placeHolders, readRefusal, readAnswer, readLeaders, readChoke}
 use Rattle.planner.specs.Run.{afterOpen, answers, step, run}

@@ -1,5 +1,5 @@
 -- The calls: what each answers, and each lent list after it. ls, os and hs are the lent lists of links, order and holders as the call is handed them.
-use Prim.Native.Nat.{ℕ, zero, suc, _+_, _*_}
+use Prim.Native.Nat.{ℕ, _+_, _*_}
 use mathlib.Core.Bool.{Bool, not}
 use mathlib.Core.List.{List}
 use lib.ListN.{length, set, replicate}
@@ -11,14 +11,9 @@ use Rattle.stars.specs.Stars.{leaderList}
 use Rattle.search.specs.ChokeSet.{chokeByte}
 use Rattle.planner.specs.declared.Small.{Small}
 use Rattle.planner.specs.declared.Answer.{Answer}
-use Rattle.planner.specs.Lists.{upTo}
-use Rattle.planner.specs.Refusals.{refuse, openRefusal, linkConditions, orderConditions, placeConditions, readConditions}
-
--- by a refusal number: what an accepted call gives, or what it leaves when refused
-module _ {A : Type 0} where
-  abbrev pub byNumber : ℕ → A → A → A
-  byNumber zero changed kept = changed
-  byNumber (suc e) changed kept = kept
+use Rattle.packing.specs.Orders.{upTo}
+use Rattle.planner.specs.Refusals.{openRefusal, linkConditions, orderConditions, placeConditions, readConditions}
+use Rattle.packing.specs.Refusals.{refuse, byNumber}
 
 -- "A refused call returns its number and the small part as it came."
 abbrev pub answer : ℕ → Small → Small → Answer

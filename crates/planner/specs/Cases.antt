@@ -8,7 +8,7 @@ use lib.ListN.{length, replicate}
 use Rattle.packing.specs.Count.{count, sumOver}
 use Rattle.packing.specs.Plant.{NONE, common, linked}
 use Rattle.packing.specs.Choke.{stranded}
-use Rattle.planner.specs.Lists.{upTo}
+use Rattle.packing.specs.Orders.{upTo}
 use Rattle.planner.specs.Calls.{readLeaders, readChoke}
 use Rattle.planner.specs.Told.{Call, link, order, place, read}
 use Rattle.planner.specs.Run.{State, answers}

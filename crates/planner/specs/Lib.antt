@@ -1,5 +1,4 @@
 -- The calls of 01, each as functions of what was handed in, and the claims about any list of calls.
-pub mod Lists
 pub mod Refusals
 pub mod Calls
 pub mod Members

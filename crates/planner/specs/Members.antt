@@ -7,8 +7,7 @@ use lib.ListN.{length, take}
 use Rattle.packing.specs.Lists.{written}
 use Rattle.packing.specs.Plant.{at}
 use Rattle.packing.specs.Grouping.{membersOf}
-use Rattle.planner.specs.Refusals.{refuse}
-use Rattle.planner.specs.Calls.{byNumber}
+use Rattle.packing.specs.Refusals.{refuse, byNumber}
 
 -- "Members looks at the first 1,024 entries of the leader list, or at all if there are fewer, and takes those as the list."
 unfoldable pub listedLeaders : List ℕ → List ℕ

@@ -1,17 +1,13 @@
 -- 01, "Refused for what was handed in" and "Refused for where the record is": each call's conditions in the turn of "First to be named".
 -- The conditions without 26 speak of the links accepted so far, their number and the placings so far, not of a record.
 use Prim.Native.Nat.{ℕ, _+_, _*_}
-use mathlib.Core.Bool.{Bool, true, false, not, _||_}
+use mathlib.Core.Bool.{not, _||_}
 use mathlib.Core.List.{List}
 use lib.Dec.{eqb, ltb, leb}
 use lib.ListN.{length}
 use Rattle.packing.specs.Plant.{linked}
-use Rattle.planner.specs.Lists.{repeatsOrOutside}
-
--- the number e if its condition holds, else what the later conditions give; 0 stands for accepted
-abbrev pub refuse : Bool → ℕ → ℕ → ℕ
-refuse true e later = e
-refuse false e later = later
+use Rattle.packing.specs.Refusals.{refuse}
+use Rattle.packing.specs.Orders.{repeatsOrOutside}
 
 -- open: 1, 2, 10
 unfoldable pub openRefusal : ℕ → ℕ → List ℕ → List ℕ → ℕ

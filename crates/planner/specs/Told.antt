@@ -2,9 +2,9 @@
 use Prim.Native.Nat.{ℕ, _+_}
 use mathlib.Core.List.{List, [], _∷_, _++_}
 use lib.ListN.{length}
-use Rattle.planner.specs.Lists.{upTo}
+use Rattle.packing.specs.Orders.{upTo}
 use Rattle.planner.specs.Refusals.{linkConditions, orderConditions, placeConditions, readConditions}
-use Rattle.planner.specs.Calls.{byNumber}
+use Rattle.packing.specs.Refusals.{byNumber}
 
 -- "Link, order, place and read follow in any turn and number, refused ones included." What else a call is handed "is new each time, of any length and contents".
 pub data Call : Type 0 where

@@ -4,7 +4,7 @@ ghost use Prim.Native.Nat.{_≤_};
 ghost use lib.ListN.{length, replicate};
 ghost use Rattle.packing.specs.Plant.{NONE};
 ghost use Rattle.packing.specs.Lists.{written};
-ghost use Rattle.planner.specs.Lists.{upTo};
+ghost use Rattle.packing.specs.Orders.{upTo};
 
 // 0, 1, .., n - 1
 pub(crate) fn with_places(n: usize, list: &mut [u16])

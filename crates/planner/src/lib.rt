@@ -1,6 +1,5 @@
 // The calls of 01 on a record: the small part as a struct that goes in by value and comes back beside the refusal number, and three lent lists.
 mod fill;
-pub mod links;
 pub mod members;
 mod refusals;
 

@@ -1,5 +1,5 @@
 // The first refusal of each call, in 01's turn; 0 where no condition holds.
-use crate::links::is_linked;
+use sound::links::is_linked;
 ghost use mathlib.Core.Path.{_≡_};
 ghost use Prim.Native.Nat.{_≤_, _*_};
 ghost use lib.ListN.{length};

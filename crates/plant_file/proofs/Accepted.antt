@@ -11,9 +11,9 @@ use borrow.Author.Tests.{ltb-false, leb-false, eqb-true, eqb-false, not-false}
 use Rattle.packing.specs.Plant.{at, linked}
 use Rattle.packing.proofs.Tests.{or-false-l, or-false-r}
 use Rattle.packing.proofs.Prefixes.{IsOrder}
-use Rattle.planner.specs.Lists.{repeatsOrOutside}
-use Rattle.planner.proofs.Answers.{refuse-none}
-use Rattle.planner.proofs.Orders.{order-right}
+use Rattle.packing.specs.Orders.{repeatsOrOutside}
+use Rattle.packing.proofs.Refusals.{refuse-none}
+use Rattle.sound.proofs.Orders.{order-right}
 use Rattle.plant_file.specs.PlantFile.{number, fileN, fileT, fileM, fileLinks, fileOrder, beginsPLT, endsRefusal, linksRefusal, fileRefusal}
 use Rattle.plant_file.proofs.Steps.{links-long}
 use Rattle.plant_file.proofs.Checked.{onward, onward-at}

@@ -8,7 +8,7 @@ use native.Mathlib.Omega.{arith}
 use lib.ListN.{length, take}
 use lib.Seq.{getD-take, length-take-le}
 use Rattle.packing.specs.Plant.{at, joins, linked}
-use Rattle.planner.proofs.Lookup.{Looked, looked-start, looked-found, looked-turn, looked-end}
+use Rattle.sound.proofs.Lookup.{Looked, looked-start, looked-found, looked-turn, looked-end}
 use Rattle.plant_file.specs.PlantFile.{fileM, fileLinks}
 use Rattle.plant_file.specs.Walk.{linkAt}
 use Rattle.plant_file.specs.Pre.{endsOf}

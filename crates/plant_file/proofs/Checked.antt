@@ -11,7 +11,8 @@ use Rattle.packing.specs.Plant.{at}
 use Rattle.packing.proofs.Flat.{pair-at, pair-end}
 use Rattle.plant_file.specs.declared.walk.Step.{Step}
 use Rattle.plant_file.specs.declared.walk.Step.the-variants.{Link}
-use Rattle.plant_file.specs.PlantFile.{fileN, fileM, fileLinks, firstOf, endsRefusal, linksRefusal}
+use Rattle.plant_file.specs.PlantFile.{fileN, fileM, fileLinks, endsRefusal, linksRefusal}
+use Rattle.packing.specs.Refusals.{firstOf}
 use Rattle.plant_file.specs.Walk.{linkAt}
 use Rattle.plant_file.specs.Pre.{stepRefusal}
 use Rattle.plant_file.proofs.Steps.{links-long, step-at}

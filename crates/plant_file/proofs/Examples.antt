@@ -5,7 +5,7 @@ use mathlib.Core.List.{List, [], _∷_, _++_}
 use Rattle.packing.specs.Count.{any}
 use Rattle.packing.specs.Lists.{listOf}
 use Rattle.packing.specs.Plant.{linked}
-use Rattle.planner.specs.Lists.{repeatsOrOutside}
+use Rattle.packing.specs.Orders.{repeatsOrOutside}
 use Rattle.plant_file.specs.PlantFile.{number, fileN, fileT, fileM, fileLinks, fileOrder, beginsPLT, endsRefusal, linksRefusal, fileRefusal}
 
 -- n = 5, T = 2 and m links, before the links

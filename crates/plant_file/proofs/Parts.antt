@@ -10,11 +10,11 @@ use borrow.Author.Tests.{ltb-false, lt-ltb, le-ltb}
 use Rattle.packing.proofs.Tests.{by-bool, or-l, or-r, or-none, or-false-l, or-false-r}
 use Rattle.sound.specs.Sound.{onceEach}
 use Rattle.packing.specs.Lists.{written}
-use Rattle.planner.specs.Lists.{repeatsOrOutside}
-use Rattle.planner.specs.Refusals.{refuse}
-use Rattle.planner.proofs.Answers.{refuse-none, refused, accepted}
-use Rattle.planner.proofs.Orders.{order-test}
-use Rattle.plant_file.specs.PlantFile.{number, fileN, fileT, fileM, fileLinks, fileOrder, beginsPLT, firstOf, linksRefusal, fileRefusal}
+use Rattle.packing.specs.Orders.{repeatsOrOutside}
+use Rattle.packing.specs.Refusals.{refuse, firstOf}
+use Rattle.packing.proofs.Refusals.{refuse-none, refused, accepted}
+use Rattle.sound.proofs.Orders.{order-test}
+use Rattle.plant_file.specs.PlantFile.{number, fileN, fileT, fileM, fileLinks, fileOrder, beginsPLT, linksRefusal, fileRefusal}
 use Rattle.plant_file.specs.Load.{loadRefusal, loadLinks, loadOrder}
 use Rattle.plant_file.specs.Pre.{sizesRefusal, headerRefusal}
 

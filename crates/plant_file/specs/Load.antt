@@ -5,9 +5,8 @@ use mathlib.Core.List.{List}
 use lib.Dec.{ltb}
 use lib.ListN.{length}
 use Rattle.packing.specs.Lists.{written}
-use Rattle.planner.specs.Refusals.{refuse}
-use Rattle.planner.specs.Calls.{byNumber}
-use Rattle.plant_file.specs.PlantFile.{fileN, fileM, fileLinks, fileOrder, firstOf, fileRefusal}
+use Rattle.packing.specs.Refusals.{refuse, byNumber, firstOf}
+use Rattle.plant_file.specs.PlantFile.{fileN, fileM, fileLinks, fileOrder, fileRefusal}
 
 -- the file's refusal, "then 10": a lent list too short for the 2m numbers of the links, or for the n of the order
 unfoldable pub loadRefusal : List ℕ → ℕ → ℕ → ℕ

@@ -1,14 +1,14 @@
 -- 01, "The plant file and the listing": "Bytes, numbers low byte first: "PLT", 16-bit version 1, 16-bit n, 8-bit T, 16-bit m, m links of two 16-bit ends,
 -- n 16-bit numbers of the order. Length 10 + 4m + 2n." file is the list of bytes.
-use Prim.Native.Nat.{ℕ, zero, suc, _+_, _*_}
+use Prim.Native.Nat.{ℕ, _+_, _*_}
 use mathlib.Core.Bool.{Bool, not, _&&_, _||_}
 use mathlib.Core.List.{List, [], _∷_, _++_}
 use lib.Dec.{eqb, ltb, leb}
 use lib.ListN.{length}
 use Rattle.packing.specs.Lists.{listOf}
 use Rattle.packing.specs.Plant.{at, linked}
-use Rattle.planner.specs.Lists.{repeatsOrOutside}
-use Rattle.planner.specs.Refusals.{refuse}
+use Rattle.packing.specs.Orders.{repeatsOrOutside}
+use Rattle.packing.specs.Refusals.{refuse, firstOf}
 
 -- a 16-bit number at a place, low byte first
 unfoldable pub number : List ℕ → ℕ → ℕ
@@ -34,11 +34,6 @@ fileOrder file = listOf (fileN file) (λ i. number file (10 + 4 * fileM file + 2
 -- "PLT"
 unfoldable pub beginsPLT : List ℕ → Bool
 beginsPLT file = eqb (at file 0) 80 && eqb (at file 1) 76 && eqb (at file 2) 84
-
--- the first number that is not 0
-abbrev pub firstOf : ℕ → ℕ → ℕ
-firstOf zero later = later
-firstOf (suc e) later = suc e
 
 -- one link a-b after the links before it: 3, 4, 20
 unfoldable pub endsRefusal : ℕ → List ℕ → ℕ → ℕ → ℕ

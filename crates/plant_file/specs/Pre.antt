@@ -4,7 +4,7 @@ use mathlib.Core.Bool.{not, _||_}
 use mathlib.Core.List.{List, [], _∷_}
 use lib.Dec.{eqb, ltb}
 use lib.ListN.{length, set}
-use Rattle.planner.specs.Refusals.{refuse}
+use Rattle.packing.specs.Refusals.{refuse}
 use Rattle.plant_file.specs.declared.walk.Step.{Step}
 use Rattle.plant_file.specs.declared.walk.Step.the-variants.{Link, End}
 use Rattle.plant_file.specs.PlantFile.{number, fileN, fileT, fileM, beginsPLT, endsRefusal}

@@ -2,7 +2,7 @@
 use crate::bytes::byte_at;
 use crate::bytes::number_at;
 use crate::walk::Step;
-use planner::links::is_linked;
+use sound::links::is_linked;
 ghost use mathlib.Core.Path.{_≡_};
 ghost use mathlib.Core.List.{[]};
 ghost use Prim.Native.Nat.{_*_, _≤_};

@@ -9,7 +9,8 @@ use Rattle.packing.specs.Count.{count}
 use Rattle.packing.specs.Plant.{at, common, linked}
 use Rattle.packing.specs.Holders.{held, Feasible}
 use Rattle.packing.specs.Choke.{ChokeDifference}
-use Rattle.packing.proofs.Links.{memberOf, linked-sym}
+use Rattle.packing.proofs.Links.{linked-sym}
+use Rattle.packing.specs.Lists.{memberOf}
 use Rattle.packing.proofs.Tight.{Tight}
 use Rattle.packing.proofs.Barrier.{barrier-difference}
 use Rattle.search.specs.Search.{Search, found, more, seen}

@@ -6,13 +6,12 @@ use mathlib.Core.List.{List}
 use native.Mathlib.Omega.{arith}
 use lib.ListN.{length, set}
 use borrow.Author.Tests.{lt-ltb, le-ltb, not-true}
-use Rattle.packing.specs.Lists.{listWhere, Lent}
+use Rattle.packing.specs.Lists.{listWhere, Lent, memberOf}
 use Rattle.packing.specs.Plant.{at}
 use Rattle.packing.specs.Holders.{held}
 use Rattle.packing.proofs.Tests.{not-i, not-i-false}
 use Rattle.packing.proofs.Sums.{count-split, count-all, count-bound}
 use Rattle.packing.proofs.Lists.{listWhere-length, listWhere-in, listWhere-out, written-room, written-front, Gathered, gather-more, gather-same, gather-end}
-use Rattle.packing.proofs.Links.{memberOf}
 use Rattle.search.proofs.Queue.{member-at}
 use Rattle.search.specs.Pre.{Startable}
 use Rattle.search.specs.ChokeSet.{withoutHolder}

@@ -13,7 +13,7 @@ use borrow.Author.Tests.{eqb-true, eqb-false, eq-eqb, lt-ltb, ltb-true, ltb-fals
 use Rattle.packing.specs.Plant.{NONE, at, linked}
 use Rattle.packing.specs.Holders.{held, Feasible}
 use Rattle.packing.proofs.Tests.{by-bool, clash, or-cases, or-l}
-use Rattle.packing.proofs.Links.{memberOf}
+use Rattle.packing.specs.Lists.{memberOf}
 use Rattle.packing.proofs.Tight.{Tight}
 use Rattle.search.specs.Search.{found, more, seen, walk, settled, placedHolders}
 use Rattle.search.specs.Pre.{Placeable}

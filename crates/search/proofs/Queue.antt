@@ -17,7 +17,7 @@ use Rattle.packing.specs.Holders.{holds}
 use Rattle.packing.proofs.Tests.{by-bool, or-cases, or-l, or-r}
 use Rattle.packing.proofs.Sums.{count-suc}
 use Rattle.packing.proofs.Lists.{listWhere-length, listWhere-in, listWhere-out}
-use Rattle.packing.proofs.Links.{memberOf}
+use Rattle.packing.specs.Lists.{memberOf}
 use Rattle.search.specs.Search.{heldBy}
 
 -- what stands at a place is in the list, and what is in the list stands at a place

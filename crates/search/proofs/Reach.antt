@@ -14,7 +14,8 @@ use Rattle.packing.specs.Plant.{NONE, at, linked, neighbours}
 use Rattle.packing.specs.Holders.{held, holds}
 use Rattle.packing.proofs.Tests.{by-bool, below-suc, clash, or-cases, or-l, or-r}
 use Rattle.packing.proofs.Lists.{member-append}
-use Rattle.packing.proofs.Links.{memberOf, neighbours-linked}
+use Rattle.packing.proofs.Links.{neighbours-linked}
+use Rattle.packing.specs.Lists.{memberOf}
 use Rattle.search.specs.Search.{Search, found, more, seen, heldBy, visit, turns, walk}
 use Rattle.search.specs.Pre.{Going, Startable}
 use Rattle.search.proofs.Queue.{member-at, member-place, append-at, heldBy-in, heldBy-out}

@@ -10,7 +10,8 @@ use lib.ListN.{length, set}
 use borrow.Author.Tests.{eqb-true, ltb-true, ltb-false}
 use Rattle.packing.specs.Plant.{NONE, at, linked, neighbours}
 use Rattle.packing.proofs.Tests.{by-bool, or-cases}
-use Rattle.packing.proofs.Links.{memberOf, neighbours-linked, linked-sym}
+use Rattle.packing.proofs.Links.{neighbours-linked, linked-sym}
+use Rattle.packing.specs.Lists.{memberOf}
 use Rattle.search.specs.Search.{Search, found, more, seen, look, visit, turns, walk, settled, placedHolders}
 use Rattle.search.specs.Pre.{Going, Startable, Placeable}
 use Rattle.search.proofs.States.{gateway-some, unseen-below, seen-marked, seen-kept, look-seen, look-cases, by-state, never-both, visit-found, visit-going, turns-zero, turns-found, turns-out, turns-step, going-start, startable}

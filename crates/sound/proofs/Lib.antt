@@ -3,3 +3,5 @@ pub mod Tallies
 pub mod Walk
 pub mod Joined
 pub mod Meaning
+pub mod Orders
+pub mod Lookup

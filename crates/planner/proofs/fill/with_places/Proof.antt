@@ -2,7 +2,7 @@
 use borrow.Author.Needs.{needs}
 use Prim.Native.Nat.{_-_}
 use mathlib.Core.Path.{refl}
-use Rattle.planner.specs.Lists.{upTo}
+use Rattle.packing.specs.Orders.{upTo}
 use Rattle.packing.proofs.Lists.{Listed, list-start, list-turn, list-end}
 use Rattle.planner.proofs.fill.with_places.Statement.{statement}
 use Rattle.planner.proofs.fill.with_places.Tie as tie

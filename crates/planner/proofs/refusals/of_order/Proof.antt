@@ -2,7 +2,7 @@
 use mathlib.Core.Path.{_∙_}
 use borrow.Author.Tests.{lt-ltb, le-ltb, eq-eqb, ne-eqb}
 use Rattle.planner.specs.Refusals.{orderConditions}
-use Rattle.planner.proofs.Orders.{order-answer}
+use Rattle.sound.proofs.Orders.{order-answer}
 use borrow.Author.Needs.{needs}
 use Rattle.planner.proofs.refusals.of_order.Statement.{statement}
 use Rattle.planner.proofs.refusals.of_order.Tie as tie

@@ -1,11 +1,11 @@
--- Lists that the calls write, and the test of a new order.
+-- Orders: open's order, and the test of a new one.
 use Prim.Native.Nat.{ℕ}
 use mathlib.Core.Bool.{Bool, not, _||_}
 use mathlib.Core.List.{List}
 use lib.Dec.{eqb, ltb}
 use Rattle.packing.specs.Count.{any}
 use Rattle.packing.specs.Lists.{listOf}
 use Rattle.packing.specs.Plant.{at}
 
 -- "0, 1, .." up to n - 1
 unfoldable pub upTo : ℕ → List ℕ

@@ -2,9 +2,9 @@
 use borrow.Author.Needs.{needs}
 use Prim.Native.Nat.{_-_}
 use lib.ListN.{length}
-use Rattle.planner.proofs.Lookup.{Looked, looked-start, looked-found, looked-turn, looked-end}
-use Rattle.planner.proofs.links.is_linked.Statement.{statement}
-use Rattle.planner.proofs.links.is_linked.Tie as tie
+use Rattle.sound.proofs.Lookup.{Looked, looked-start, looked-found, looked-turn, looked-end}
+use Rattle.sound.proofs.links.is_linked.Statement.{statement}
+use Rattle.sound.proofs.links.is_linked.Tie as tie
 
 abbrev Inv-loop : tie.InvT-loop
 Inv-loop links x y i₀ i = Looked links x y i

@@ -11,9 +11,9 @@ use Rattle.packing.specs.Count.{any}
 use Rattle.packing.specs.Plant.{at}
 use Rattle.packing.proofs.Tests.{by-bool, not-i-false, clash, or-none, or-false-l, or-false-r, any-none, any-fails}
 use Rattle.packing.proofs.Prefixes.{IsOrder}
 use Rattle.sound.specs.Sound.{onceEach, isOrder}
 use Rattle.sound.proofs.Meaning.{order-is, once-mean, mean-once}
-use Rattle.planner.specs.Lists.{repeatsOrOutside}
+use Rattle.packing.specs.Orders.{repeatsOrOutside}
 
 pub order-right : (n : ℕ) (l : List ℕ) → repeatsOrOutside n l ≡ false → IsOrder n (at l)
 unfolding repeatsOrOutside

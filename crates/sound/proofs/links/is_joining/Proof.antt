@@ -1,7 +1,7 @@
 -- `is_joining` meets its contract.
 use borrow.Author.Needs.{needs}
-use Rattle.planner.proofs.links.is_joining.Statement.{statement}
-use Rattle.planner.proofs.links.is_joining.Tie as tie
+use Rattle.sound.proofs.links.is_joining.Statement.{statement}
+use Rattle.sound.proofs.links.is_joining.Tie as tie
 
 same-requires : tie.Need-same-requires
 same-requires c κs = search needs

@@ -1,7 +1,7 @@
 -- `same` meets its contract.
 use borrow.Author.Tests.{eq-eqb, ne-eqb}
-use Rattle.planner.proofs.links.same.Statement.{statement}
-use Rattle.planner.proofs.links.same.Tie as tie
+use Rattle.sound.proofs.links.same.Statement.{statement}
+use Rattle.sound.proofs.links.same.Tie as tie
 
 returns : tie.Need-returns
 returns c = simp (eq-eqb _ _ (c .if1 .taken))

@@ -1,0 +1,23 @@
+-- Laws of refusals: what a number says of the conditions, and what it gives.
+use Prim.Native.Nat.{ℕ, zero, suc, _<_}
+use mathlib.Core.Path.{_≡_, refl, sym, _∙_}
+use mathlib.Core.Bool.{Bool, true, false}
+use native.Mathlib.Omega.{arith}
+use Rattle.packing.specs.Refusals.{refuse, byNumber}
+
+-- no refusal: the condition does not hold, and no later one
+pub refuse-none : (b : Bool) (e later : ℕ) → 0 < e → refuse b e later ≡ 0 → (b ≡ false) × (later ≡ 0)
+refuse-none true e later p q = absurd (omega arith)
+refuse-none false e later p q = (refl, q)
+
+module _ {A : Type 0} (changed kept : A) where
+  by-refused : (e : ℕ) → (e ≡ 0 → ⊥) → kept ≡ byNumber e changed kept
+  by-refused zero h = absurd (h refl)
+  by-refused (suc e) h = refl
+
+  -- a refused call leaves what was there, an accepted one gives what changed
+  pub refused : {e r : ℕ} → e ≡ r → (e ≡ 0 → ⊥) → kept ≡ byNumber r changed kept
+  refused {e} {r} g h = by-refused r (λ z. h (g ∙ z))
+
+  pub accepted : {e r : ℕ} {l : A} → e ≡ r → e ≡ 0 → l ≡ changed → l ≡ byNumber r changed kept
+  accepted g z h = rw (sym g ∙ z) h
