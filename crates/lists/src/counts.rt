@@ -1,0 +1,35 @@
+// Counts over the first n entries of a list.
+use crate::entry;
+use crate::tests::bit;
+use crate::tests::is_member;
+ghost use mathlib.Core.Path.{_≡_};
+ghost use lib.Dec.{eqb};
+ghost use Rattle.packing.specs.Count.{count};
+ghost use Rattle.packing.specs.Plant.{at};
+ghost use Rattle.packing.specs.Grouping.{memberCount};
+
+// How many entries are x: by holders, how many x holds.
+pub fn count_of(n: u16, list: &[u16], x: u16) -> u16
+    ensures { λ r. ⌜ r ≡ count n (λ v. eqb (at (now (list .entry)) v) x) ⌝ }
+{
+    let mut k: u16 = 0;
+    let mut v: u16 = 0;
+    while v < n {
+        k += bit(entry(list, v) == x);
+        v += 1;
+    }
+    k
+}
+
+// How many others than u have u's number as their entry.
+pub fn member_count(n: u16, list: &[u16], u: u16) -> u16
+    ensures { λ r. ⌜ r ≡ memberCount n (at (now (list .entry))) u ⌝ }
+{
+    let mut k: u16 = 0;
+    let mut w: u16 = 0;
+    while w < n {
+        k += bit(is_member(list, u, w));
+        w += 1;
+    }
+    k
+}
