@@ -6,6 +6,7 @@ use lib.Dec.{eqb, ltb}
 use borrow.Author.Tests.{ltb-true}
 use Rattle.packing.specs.Count.{pick, sum, count, sumOver, all}
 use Rattle.packing.specs.Grouping.{Grouping, memberCount, isAlone, isLeader, isMember}
+use Rattle.packing.specs.Holders.{Feasible}
 use Rattle.packing.specs.Choke.{stranded, ChokeDifference}
 use Rattle.packing.proofs.Tests.{by-bool, all-ext}
 use Rattle.packing.proofs.Sums.{count-ext, sum-ext}
@@ -38,3 +39,17 @@ module _ (n : ℕ) (limit : ℕ → ℕ) (adj : ℕ → ℕ → Bool) where
 
       sums : sum n (λ i. pick (s i) (limit i)) ≡ sum n (λ i. pick (r i) (limit i))
       sums = sum-ext n (λ i. pick (s i) (limit i)) (λ i. pick (r i) (limit i)) (λ i l. rw (same i l))
+
+-- .. nor at a limit from n on.
+module _ (n : ℕ) (limit limit' : ℕ → ℕ) (adj : ℕ → ℕ → Bool) (same : (u : ℕ) → u < n → limit u ≡ limit' u) where
+  pub grouping-limits : (g : ℕ → ℕ) → Grouping n limit adj g → Grouping n limit' adj g
+  unfolding Grouping
+  grouping-limits g group v l = rw (same v l) at (group v l)
+
+  pub feasible-limits : {h : ℕ → ℕ} → Feasible n limit adj h → Feasible n limit' adj h
+  feasible-limits f = record { along = f .along; within = λ u l. rw (same u l) at (f .within u l) }
+
+  pub difference-limits : (s : ℕ → Bool) (d : ℕ) → ChokeDifference n limit adj s d → ChokeDifference n limit' adj s d
+  unfolding ChokeDifference sumOver
+  difference-limits s d e =
+      e ∙ ap (λ (k : ℕ). d + k) (sum-ext n (λ i. pick (s i) (limit i)) (λ i. pick (s i) (limit' i)) (λ i l. rw (same i l)))

@@ -1,133 +1,136 @@
 -- The sentence under Placing: the next gateway is left exactly if nothing covers it together with all kept before it.
 use Prim.Native.Nat.{ℕ, _+_, _<_}
-use mathlib.Core.Path.{_≡_, refl, sym, _∙_}
+use mathlib.Core.Path.{_≡_, refl, sym, subst, _∙_}
 use mathlib.Core.Logic.{_↔_, ⊎-elim}
 use mathlib.Core.Bool.{Bool, true, false}
 use mathlib.Core.List.{List}
 use native.Mathlib.Omega.{arith}
-use lib.Dec.{eqb}
 use lib.ListN.{length}
-use borrow.Author.Tests.{eq-eqb}
-use Rattle.packing.specs.Plant.{at, common, firstLinks, linked}
+use Rattle.packing.specs.Plant.{at, linked}
 use Rattle.packing.specs.Grouping.{Grouping, covered}
 use Rattle.packing.specs.Holders.{held, Feasible}
-use Rattle.packing.proofs.Tests.{by-bool, clash, or-l, or-r}
+use Rattle.packing.proofs.Tests.{by-bool, clash}
+use Rattle.packing.proofs.Below.{grouping-limits, feasible-limits}
 use Rattle.packing.proofs.Prefixes.{blocked-holders, blocked-groupings}
-use Rattle.search.specs.Search.{placedHolders}
-use Rattle.search.proofs.Placing.{Left, place-cases}
+use Rattle.packing.proofs.Placing.{Left, still-held, kept-held, left-blocked}
 use Rattle.stars.specs.Stars.{leaderList}
-use Rattle.planner.specs.Calls.{placeAnswer, placeHolders}
-use Rattle.planner.specs.Told.{Told, place, beginning, refuses}
-use Rattle.planner.specs.Run.{State, answers, step}
-use Rattle.planner.specs.Claims.{NextLeft, CoversKept, LeftExactly, LeftExactlyByHolders}
-use Rattle.planner.proofs.Next.{none-unheld, next-placeable, place-next}
-use Rattle.planner.proofs.Made.{Made, left-blocked, made-place}
-use Rattle.planner.proofs.Agree.{Agrees, same-number, run-agrees, open-agrees}
+use Rattle.planner.specs.State.{State, linksOf, limitOf}
+use Rattle.planner.specs.Calls.{place, changed, call, callRefusal}
+use Rattle.planner.specs.Told.{Told, refuses}
+use Rattle.planner.specs.Claims.{toldBy, madeBy, GroupingTold, BeforePlacing, NextLeft, CoversKept, LeftExactly, LeftExactlyOf, LeftExactlyByHolders, LeftExactlyByHoldersOf}
+use Rattle.planner.proofs.Conditions.{place-next}
+use Rattle.planner.proofs.Made.{Made, next-placing, made-place}
+use Rattle.planner.proofs.Agree.{Agrees, stateTold, by-told, same-number, run-agrees, open-agrees}
 use Rattle.planner.proofs.Optimal.{links-symmetric, links-loopless, limit-one, leaders-grouping, leaders-cover}
 use Rattle.planner.proofs.Demands.{tells-n}
 
--- the next placing of a record that agrees with what was told
-module _ {s : State} {p : Told} (a : Agrees s p) (more : p .placed < p .n) where
-  next : p .placed ≡ p .n → ⊥
+-- v and all held before it in the order, by the holders h
+abbrev KeptAnd : (n k : ℕ) (order h : ℕ → ℕ) (cover : ℕ → Bool) → Type 0
+KeptAnd n k order h cover = (cover (order k) ≡ true) × ((i : ℕ) → i < k → held n h (order i) ≡ true → cover (order i) ≡ true)
+
+-- the next placing of a record made by accepted calls
+module _ {s : State} (made : Made s) (more : s .small .k < s .small .n) where
+  next : s .small .k ≡ s .small .n → ⊥
   next e = omega arith
 
-  after : List ℕ
-  after = placedHolders (p .n) (common (p .t)) (firstLinks (p .m) (s .links)) (s .holders) (at (s .order) (p .placed))
+  -- the next, once placed, is left: the placing is one that leaves it
+  left-when : held (s .small .n) (at (changed s place .holders)) (at (s .order) (s .small .k)) ≡ false
+      → Left (s .small .n) (limitOf s) (linked (linksOf s)) (at (s .holders)) (at (changed s place .holders)) (at (s .order) (s .small .k))
+  left-when e = ⊎-elim (λ kept. clash (held (s .small .n) (at (changed s place .holders)) (at (s .order) (s .small .k))) (kept-held (made .standing) more kept) e) (λ left. left) (next-placing made next)
 
-  holders-after : step s place .holders ≡ after
-  unfolding step answers placeAnswer placeHolders refuses after
-  holders-after = rw (same-number a place ∙ sym (place-next (p .n) (p .placed) next), a .small)
+  next-unheld : held (s .small .n) (at (s .holders)) (at (s .order) (s .small .k)) ≡ false
+  next-unheld = made .standing .unplaced (s .small .k) (omega arith) more
 
-  made-after : Made (p .n) (p .t) (p .m) (p .placed + 1) (s .links) (s .order) after
-  unfolding after
-  made-after = made-place (a .made) next
-
-  -- what was held is held after it
-  still-held : (w : ℕ) → w < p .n → held (p .n) (at (s .holders)) w ≡ true → held (p .n) (at after) w ≡ true
-  unfolding after
-  still-held w l e =
-      ⊎-elim (λ kept. kept .holding w l ∙ or-l (held (p .n) (at (s .holders)) w) (eqb w (at (s .order) (p .placed))) e) (λ left. rw (left .unchanged) e)
-      (place-cases (common (p .t)) (firstLinks (p .m) (s .links)) (next-placeable _ _ _ _ _ _ _ (a .made .sound) next) (a .made .sound .feasible))
-
-  -- the next is kept, or left behind a tight pair
-  left-when : held (p .n) (at after) (at (s .order) (p .placed)) ≡ false → Left (p .n) (common (p .t)) (firstLinks (p .m) (s .links)) (s .holders) (at (s .order) (p .placed))
-  unfolding after
-  left-when e =
-      ⊎-elim
-      (λ kept. clash (held (p .n) (at after) (at (s .order) (p .placed)))
-      (kept .holding _ (a .made .sound .order .below (p .placed) more) ∙ or-r (held (p .n) (at (s .holders)) (at (s .order) (p .placed))) _ (eq-eqb (at (s .order) (p .placed)) (at (s .order) (p .placed)) refl)) e) (λ left. left)
-      (place-cases (common (p .t)) (firstLinks (p .m) (s .links)) (next-placeable _ _ _ _ _ _ _ (a .made .sound) next) (a .made .sound .feasible))
-
-  -- it and all held before it, by the record's own order
-  KeptAnd : (ℕ → Bool) → Type 0
-  KeptAnd cover =
-      (cover (at (s .order) (p .placed)) ≡ true)
-      × ((i : ℕ) → i < p .placed → held (p .n) (at (s .holders)) (at (s .order) i) ≡ true → cover (at (s .order) i) ≡ true)
-
-  by-own-order : (cover : ℕ → Bool) → CoversKept (p .n) p s cover → KeptAnd cover
-  unfolding KeptAnd
-  by-own-order cover c = (rw (a .order (p .placed) more) (c .0), λ i l e. rw (a .order i (omega arith)) (c .1 i l (rw (a .order i (omega arith)) at e)))
-
-  by-told-order : (cover : ℕ → Bool) → KeptAnd cover → CoversKept (p .n) p s cover
-  unfolding KeptAnd
-  by-told-order cover c = (rw (a .order (p .placed) more) at (c .0), λ i l e. rw (a .order i (omega arith)) at (c .1 i l (rw (a .order i (omega arith)) e)))
-
-  unheld-before : held (p .n) (at (s .holders)) (at (s .order) (p .placed)) ≡ false
-  unheld-before = none-unheld (p .n) (s .holders) _ (a .made .sound .few) (a .made .sound .free (p .placed) (omega arith) more)
-
-  left-holders : held (p .n) (at after) (at (s .order) (p .placed)) ≡ false → (h : ℕ → ℕ) → Feasible (p .n) (common (p .t)) (linked (firstLinks (p .m) (s .links))) h → KeptAnd (held (p .n) h) → ⊥
-  unfolding KeptAnd
+  left-holders : held (s .small .n) (at (changed s place .holders)) (at (s .order) (s .small .k)) ≡ false
+      → (h : ℕ → ℕ) → Feasible (s .small .n) (limitOf s) (linked (linksOf s)) h → KeptAnd (s .small .n) (s .small .k) (at (s .order)) (at (s .holders)) (held (s .small .n) h) → ⊥
   left-holders e h f c =
-      blocked-holders (p .placed) (a .made .sound .order) more (left-blocked (a .made) next (left-when e)) (a .made .sound .feasible) unheld-before f (c .0) (c .1)
+      blocked-holders (s .small .k) (made .standing .ordered) more (left-blocked (made .standing) more (left-when e)) (made .standing .feasible) next-unheld f (c .0) (c .1)
 
-  left-groupings : held (p .n) (at after) (at (s .order) (p .placed)) ≡ false → (g : ℕ → ℕ) → Grouping (p .n) (common (p .t)) (linked (firstLinks (p .m) (s .links))) g → KeptAnd (covered g) → ⊥
-  unfolding KeptAnd
+  left-groupings : held (s .small .n) (at (changed s place .holders)) (at (s .order) (s .small .k)) ≡ false
+      → (g : ℕ → ℕ) → Grouping (s .small .n) (limitOf s) (linked (linksOf s)) g → KeptAnd (s .small .n) (s .small .k) (at (s .order)) (at (s .holders)) (covered g) → ⊥
   left-groupings e g group c =
-      let sound = a .made .sound in
-      blocked-groupings (p .placed) (sound .order) more (left-blocked (a .made) next (left-when e)) (sound .feasible) unheld-before g (links-symmetric sound) (links-loopless sound) (limit-one sound) group (c .0) (c .1)
+      let sound = made .sound in
+      blocked-groupings (s .small .k) (made .standing .ordered) more (left-blocked (made .standing) more (left-when e)) (made .standing .feasible) next-unheld g (links-symmetric sound) (links-loopless sound) (limit-one sound) group (c .0) (c .1)
 
   -- a kept one is held together with all kept before it, and the reading of these holders covers them
-  kept-held : held (p .n) (at after) (at (s .order) (p .placed)) ≡ true → KeptAnd (held (p .n) (at after))
-  unfolding KeptAnd
-  kept-held e = (e, λ i l h. still-held (at (s .order) i) (a .made .sound .order .below i (omega arith)) h)
+  kept-together : held (s .small .n) (at (changed s place .holders)) (at (s .order) (s .small .k)) ≡ true
+      → KeptAnd (s .small .n) (s .small .k) (at (s .order)) (at (s .holders)) (held (s .small .n) (at (changed s place .holders)))
+  kept-together e = (e, λ i l h. still-held (made .standing) more (next-placing made next) (at (s .order) i) (made .standing .ordered .below i (omega arith)) h)
 
-  kept-covered : held (p .n) (at after) (at (s .order) (p .placed)) ≡ true → KeptAnd (covered (leaderList (p .n) after))
-  unfolding KeptAnd
+  kept-covered : held (s .small .n) (at (changed s place .holders)) (at (s .order) (s .small .k)) ≡ true
+      → KeptAnd (s .small .n) (s .small .k) (at (s .order)) (at (s .holders)) (covered (leaderList (s .small .n) (changed s place .holders)))
+  unfolding changed
   kept-covered e =
-      let cover = leaders-cover (made-after .sound) in (
-        cover _ (a .made .sound .order .below (p .placed) more) e,
-        λ i l h. let inside = a .made .sound .order .below i (omega arith) in cover (at (s .order) i) inside (still-held (at (s .order) i) inside h),
+      let cover = leaders-cover (made-place made next .sound) in
+      let together = kept-together e in (
+        cover _ (made .standing .ordered .below (s .small .k) more) e,
+        λ i l h. cover (at (s .order) i) (made .standing .ordered .below i (omega arith)) (together .1 i l h),
       )
 
-  next-same : held (p .n) (at (step s place .holders)) (at (p .order) (p .placed)) ≡ held (p .n) (at after) (at (s .order) (p .placed))
+  -- the holders after it are feasible, and their reading a grouping
+  feasible-after : Feasible (s .small .n) (limitOf s) (linked (linksOf s)) (at (changed s place .holders))
+  unfolding changed limitOf
+  feasible-after = made-place made next .standing .feasible
+
+  grouping-after : Grouping (s .small .n) (limitOf s) (linked (linksOf s)) (leaderList (s .small .n) (changed s place .holders))
+  unfolding changed limitOf
+  grouping-after = leaders-grouping (made-place made next)
+
+-- .. of one with the small part told
+module _ (p : Told) (ls os hs : List ℕ) (a : Agrees p (stateTold p ls os hs)) (more : p .placed < p .n) where
+  after : List ℕ
+  after = changed (stateTold p ls os hs) place .holders
+
+  holders-after : call (stateTold p ls os hs) place .state .holders ≡ after
+  unfolding call after refuses
+  holders-after = rw (same-number a place ∙ sym (place-next (p .n) (p .placed) (λ e. omega arith)))
+
+  by-own-order : (cover : ℕ → Bool) → CoversKept (p .n) p (stateTold p ls os hs) cover → KeptAnd (p .n) (p .placed) (at os) (at hs) cover
+  by-own-order cover c = (rw (a .order (p .placed) more) (c .0), λ i l e. rw (a .order i (omega arith)) (c .1 i l (rw (a .order i (omega arith)) at e)))
+
+  by-told-order : (cover : ℕ → Bool) → KeptAnd (p .n) (p .placed) (at os) (at hs) cover → CoversKept (p .n) p (stateTold p ls os hs) cover
+  by-told-order cover c = (rw (a .order (p .placed) more) at (c .0), λ i l e. rw (a .order i (omega arith)) at (c .1 i l (rw (a .order i (omega arith)) e)))
+
+  next-same : held (p .n) (at (call (stateTold p ls os hs) place .state .holders)) (at (p .order) (p .placed)) ≡ held (p .n) (at after) (at os (p .placed))
   next-same = rw (holders-after, a .order (p .placed) more)
 
-  exactly-groupings : NextLeft (p .n) p s
-      ↔ ((g : ℕ → ℕ) → Grouping (p .n) (common (p .t)) (linked (p .links)) g → CoversKept (p .n) p s (covered g) → ⊥)
+  exactly-groupings : NextLeft (p .n) p (stateTold p ls os hs) ↔ ((g : ℕ → ℕ) → GroupingTold (p .n) p g → CoversKept (p .n) p (stateTold p ls os hs) (covered g) → ⊥)
+  unfolding after
   exactly-groupings = (
-    λ e g group c. left-groupings (sym next-same ∙ e) g (rw (a .links) group) (by-own-order (covered g) c),
-    λ no. next-same ∙ by-bool (held (p .n) (at after) (at (s .order) (p .placed)))
-        (λ e. absurd (no (leaderList (p .n) after) (rw (a .links) at (leaders-grouping (made-after .sound))) (by-told-order _ (kept-covered e)))) (λ e. e),
+    λ e g group c. left-groupings (a .made) more (sym next-same ∙ e) g
+        (rw (a .links) (grouping-limits (p .n) (p .limit) (limitOf (stateTold p ls os hs)) (linked (p .links)) (λ u l. sym (a .limits u l)) g group)) (by-own-order (covered g) c),
+    λ no. next-same ∙ by-bool (held (p .n) (at after) (at os (p .placed)))
+        (λ e. absurd (no (leaderList (p .n) after)
+        (grouping-limits (p .n) (limitOf (stateTold p ls os hs)) (p .limit) (linked (p .links)) (a .limits) (leaderList (p .n) after) (rw (a .links) at (grouping-after (a .made) more)))
+        (by-told-order (covered (leaderList (p .n) after)) (kept-covered (a .made) more e)))) (λ e. e),
   )
 
-  exactly-holders : NextLeft (p .n) p s
-      ↔ ((h : ℕ → ℕ) → Feasible (p .n) (common (p .t)) (linked (p .links)) h → CoversKept (p .n) p s (held (p .n) h) → ⊥)
+  exactly-holders : NextLeft (p .n) p (stateTold p ls os hs) ↔ ((h : ℕ → ℕ) → Feasible (p .n) (p .limit) (linked (p .links)) h → CoversKept (p .n) p (stateTold p ls os hs) (held (p .n) h) → ⊥)
+  unfolding after
   exactly-holders = (
-    λ e h f c. left-holders (sym next-same ∙ e) h (rw (a .links) f) (by-own-order (held (p .n) h) c),
-    λ no. next-same ∙ by-bool (held (p .n) (at after) (at (s .order) (p .placed)))
-        (λ e. absurd (no (at after) (rw (a .links) at (made-after .sound .feasible)) (by-told-order _ (kept-held e)))) (λ e. e),
+    λ e h f c. left-holders (a .made) more (sym next-same ∙ e) h
+        (rw (a .links) (feasible-limits (p .n) (p .limit) (limitOf (stateTold p ls os hs)) (linked (p .links)) (λ u l. sym (a .limits u l)) f)) (by-own-order (held (p .n) h) c),
+    λ no. next-same ∙ by-bool (held (p .n) (at after) (at os (p .placed)))
+        (λ e. absurd (no (at after)
+        (feasible-limits (p .n) (limitOf (stateTold p ls os hs)) (p .limit) (linked (p .links)) (a .limits) (rw (a .links) at (feasible-after (a .made) more)))
+        (by-told-order (held (p .n) (at after)) (kept-together (a .made) more e)))) (λ e. e),
   )
+
+-- A claim about what was told and a record of its small part is one about any list of calls after an accepted open.
+module _ (claim : (n : ℕ) (told : Told) (made : State) → Type 0)
+    (proved : (p : Told) (ls os hs : List ℕ) → Agrees p (stateTold p ls os hs) → p .placed < p .n → claim (p .n) p (stateTold p ls os hs))
+  where
+    before-placing : BeforePlacing claim
+    before-placing n t ls os hs ok calls more =
+        let same = tells-n n t ls calls in
+        subst (λ (i : ℕ). claim i (toldBy n t ls calls) (madeBy n t ls os hs calls)) same
+        (by-told (claim (toldBy n t ls calls .n) (toldBy n t ls calls)) (run-agrees (open-agrees n t ls os hs ok) calls)
+        (λ ls' os' hs' a. proved (toldBy n t ls calls) ls' os' hs' a (rw same more)))
 
 pub left-exactly : LeftExactly
-unfolding LeftExactly beginning
-left-exactly n t ls os hs ok calls more =
-    let a = run-agrees (open-agrees n t ls os hs ok) calls in
-    let same = tells-n (beginning n t (length ls)) calls in
-    rw (same .0, same .1) at (exactly-groupings a (rw (same .0) more))
+unfolding LeftExactly
+left-exactly = before-placing LeftExactlyOf exactly-groupings
 
 pub left-exactly-by-holders : LeftExactlyByHolders
-unfolding LeftExactlyByHolders beginning
-left-exactly-by-holders n t ls os hs ok calls more =
-    let a = run-agrees (open-agrees n t ls os hs ok) calls in
-    let same = tells-n (beginning n t (length ls)) calls in
-    rw (same .0, same .1) at (exactly-holders a (rw (same .0) more))
+unfolding LeftExactlyByHolders
+left-exactly-by-holders = before-placing LeftExactlyByHoldersOf exactly-holders

@@ -1,5 +1,6 @@
 -- Laws of the calls, by subject.
-pub mod Answers
+pub mod Conditions
+pub mod Outcomes
 pub mod Next
 pub mod Made
 pub mod Agree

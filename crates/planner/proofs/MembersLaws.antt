@@ -14,7 +14,7 @@ use Rattle.packing.specs.Grouping.{membersOf}
 use Rattle.packing.proofs.Lists.{written-front}
 use Rattle.packing.specs.Refusals.{byNumber}
 use Rattle.planner.specs.Members.{listedLeaders, membersConditions, membersRefusal, membersPart, membersList}
-use Rattle.planner.proofs.Answers.{refuse-none, refused, accepted}
+use Rattle.packing.proofs.Refusals.{refuse-none, refused, accepted}
 
 -- the entries looked at
 pub listed-all : (l : List ℕ) → length l < 1024 → length l ≡ length (listedLeaders l)

@@ -1,14 +1,15 @@
--- What a sound record has for the calls that place its next gateway and read its choke set.
+-- What a sound record has for the calls that place its next gateway and read it.
 use Prim.Native.Nat.{ℕ, _≤_}
 use mathlib.Core.Path.{_≡_, sym, _∙_}
 use mathlib.Core.Bool.{Bool, false, not}
 use mathlib.Core.List.{List}
 use native.Mathlib.Omega.{arith}
 use lib.ListN.{length}
-use borrow.Author.Tests.{eq-eqb, ne-eqb, le-ltb, not-false}
+use borrow.Author.Tests.{le-ltb, not-false}
 use Rattle.packing.specs.Lists.{listOf, written}
-use Rattle.packing.specs.Plant.{NONE, at, common, firstLinks}
+use Rattle.packing.specs.Plant.{NONE, at, common}
 use Rattle.packing.specs.Holders.{held}
+use Rattle.packing.proofs.Fitted.{fitted-written}
 use Rattle.search.specs.Search.{placedHolders, holdersAfter}
 use Rattle.search.specs.ChokeSet.{chokeByte, chokeWritten}
 use Rattle.search.specs.Pre.{Placeable}
@@ -16,8 +17,11 @@ use Rattle.search.proofs.Tested.{holders-placed}
 use Rattle.sound.specs.Sound.{isSound}
 use Rattle.sound.proofs.Meaning.{Sound, sound-means}
 use Rattle.stars.specs.Stars.{leaderList, leadersWritten}
-use Rattle.packing.proofs.Fitted.{fitted-written}
-use Rattle.planner.specs.Refusals.{placeConditions}
+use Rattle.planner.specs.State.{State, linksOf, limitOf}
+
+-- what it is for a record to be sound
+abbrev pub SoundState : State → Type 0
+SoundState s = Sound (s .small .n) (s .small .t) (s .small .m) (s .small .k) (s .links) (s .order) (s .holders)
 
 -- a record that passed the test of soundness
 pub checked : (n t m k : ℕ) (ls os hs : List ℕ) {v : Bool} → v ≡ isSound n t m k ls os hs → not v ≡ false → Sound n t m k ls os hs
@@ -27,36 +31,30 @@ checked n t m k ls os hs {v} e f = sound-means n t m k ls os hs (sym e ∙ not-f
 pub none-unheld : (n : ℕ) (hs : List ℕ) (v : ℕ) → n ≤ 1024 → at hs v ≡ NONE → held n (at hs) v ≡ false
 none-unheld n hs v few e = le-ltb (at hs v) n (omega arith)
 
--- the next gateway of one that is not fully placed may be placed, ..
-pub next-placeable : (n t m k : ℕ) (ls os hs : List ℕ) → Sound n t m k ls os hs → (k ≡ n → ⊥) → Placeable n hs (at os k)
-next-placeable n t m k ls os hs s more =
-    record {
-      few = s .few;
-      holders = s .holders-long;
-      inside = s .order .below k (omega (arith, s .placed));
-      free = none-unheld n hs (at os k) (s .few) (s .free k (omega arith) (omega (arith, s .placed)));
-    }
+module _ (s : State) (sound : SoundState s) where
+  -- the next gateway of one that is not fully placed may be placed, ..
+  pub next-placeable : (s .small .k ≡ s .small .n → ⊥) → Placeable (s .small .n) (s .holders) (at (s .order) (s .small .k))
+  next-placeable more =
+      record {
+        few = sound .few;
+        holders = sound .holders-long;
+        inside = sound .order .below (s .small .k) (omega (arith, sound .placed));
+        free = none-unheld (s .small .n) (s .holders) (at (s .order) (s .small .k)) (sound .few) (sound .free (s .small .k) (omega arith) (omega (arith, sound .placed)));
+      }
 
--- .. and so it is
-pub next-placed : (n t m k : ℕ) (ls os hs : List ℕ) {hs' : List ℕ} → Sound n t m k ls os hs → (k ≡ n → ⊥) → hs' ≡ holdersAfter n (common t) (firstLinks m ls) hs (at os k)
-    → hs' ≡ placedHolders n (common t) (firstLinks m ls) hs (at os k)
-next-placed n t m k ls os hs s more e = e ∙ holders-placed (common t) (firstLinks m ls) (next-placeable n t m k ls os hs s more)
+  -- .. and so it is
+  pub next-placed : {hs' : List ℕ} → (s .small .k ≡ s .small .n → ⊥) → hs' ≡ holdersAfter (s .small .n) (common (s .small .t)) (linksOf s) (s .holders) (at (s .order) (s .small .k))
+      → hs' ≡ placedHolders (s .small .n) (limitOf s) (linksOf s) (s .holders) (at (s .order) (s .small .k))
+  unfolding limitOf
+  next-placed more e = e ∙ holders-placed (common (s .small .t)) (linksOf s) (next-placeable more)
 
--- the leader list and the choke bytes fit where there is a place for each, and so they are written
-pub leaders-placed : (n t m k : ℕ) (ls os hs leaders : List ℕ) {leaders' : List ℕ} → Sound n t m k ls os hs → n ≤ length leaders → leaders' ≡ leadersWritten n hs leaders
-    → leaders' ≡ written n (listOf n (leaderList n hs)) leaders
-unfolding leadersWritten
-leaders-placed n t m k ls os hs leaders s room e = e ∙ fitted-written (leaderList n hs) (record { few = s .few; entries = s .holders-long; places = room })
+  -- the leader list and the choke bytes fit where there is a place for each, and so they are written
+  pub leaders-placed : (leaders : List ℕ) {leaders' : List ℕ} → s .small .n ≤ length leaders → leaders' ≡ leadersWritten (s .small .n) (s .holders) leaders
+      → leaders' ≡ written (s .small .n) (listOf (s .small .n) (leaderList (s .small .n) (s .holders))) leaders
+  unfolding leadersWritten
+  leaders-placed leaders room e = e ∙ fitted-written (leaderList (s .small .n) (s .holders)) (record { few = sound .few; entries = sound .holders-long; places = room })
 
-pub choke-placed : (n t m k : ℕ) (ls os hs choke : List ℕ) {choke' : List ℕ} → Sound n t m k ls os hs → n ≤ length choke → choke' ≡ chokeWritten n (firstLinks m ls) hs choke
-    → choke' ≡ written n (listOf n (chokeByte n (firstLinks m ls) hs)) choke
-unfolding chokeWritten
-choke-placed n t m k ls os hs choke s room e = e ∙ fitted-written (chokeByte n (firstLinks m ls) hs) (record { few = s .few; entries = s .holders-long; places = room })
-
-pub place-full : (n k : ℕ) → k ≡ n → 24 ≡ placeConditions n k
-unfolding placeConditions
-place-full n k e = rw (eq-eqb k n e)
-
-pub place-next : (n k : ℕ) → (k ≡ n → ⊥) → 0 ≡ placeConditions n k
-unfolding placeConditions
-place-next n k h = rw (ne-eqb k n h)
+  pub choke-placed : (choke : List ℕ) {choke' : List ℕ} → s .small .n ≤ length choke → choke' ≡ chokeWritten (s .small .n) (linksOf s) (s .holders) choke
+      → choke' ≡ written (s .small .n) (listOf (s .small .n) (chokeByte (s .small .n) (linksOf s) (s .holders))) choke
+  unfolding chokeWritten
+  choke-placed choke room e = e ∙ fitted-written (chokeByte (s .small .n) (linksOf s) (s .holders)) (record { few = sound .few; entries = sound .holders-long; places = room })

@@ -20,14 +20,15 @@ use Rattle.stars.specs.Stars.{holder, back, onCycle, nextOnCycle, leadsIn, lead
 use Rattle.search.specs.ChokeSet.{withoutHolder, chokeWalk, seenIn, inChoke, chokeByte}
 use Rattle.packing.specs.Orders.{upTo, repeatsOrOutside}
 use Rattle.planner.specs.Refusals.{openRefusal, linkConditions, orderConditions, placeConditions, readConditions}
-use Rattle.planner.specs.Calls.{openAnswer, openOrder, openHolders, linkRefusal, linkAnswer, linkLinks, orderRefusal, orderAnswer, orderOrder, placeRefusal, placeAnswer, placeHolders, readRefusal, readAnswer, readLeaders, readChoke}
-use Rattle.planner.specs.Run.{afterOpen, answers, step, run}
-use Rattle.planner.specs.Cases.{Row, reads, holds, gives, differs, linkCalls, placeCalls, after, leadersOf, chokeOf, sameList, rowHolds, empty, one, two, path, star, starBack, star4, listed, ring, table, rowsHold, Means}
+use Rattle.planner.specs.State.{limitOf, soundState}
+use Rattle.planner.specs.Calls.{opened, openCall, conditions, callRefusal, changed, call, readLeaders, readChoke}
+use Rattle.planner.specs.Run.{run, linkCalls, placeCalls, plantCalls}
+use Rattle.planner.specs.Cases.{Row, reads, holds, gives, differs, after, leadersOf, chokeOf, sameList, rowHolds, empty, one, two, path, star, starBack, star4, listed, ring, table, rowsHold, Means}
 use Rattle.planner.specs.Claims.{chokeRead}
 
 -- the whole table, computed
 pub table-holds : rowsHold table ≡ true
-unfolding sum count sumOver all any listOf listWhere common firstLinks linked neighbours memberCount heldCount stranded numbersSound listsLong endsSound onceEach holdersLinked holdersWithin onlyPlacedHeld isSound heldBy look visit turn turns walk shift settled placedHolders firstWith holder back onCycle nextOnCycle leadsIn leadsInTrees begins cut leads leaderOf pairLeader partner ruleFive leaderList withoutHolder chokeWalk seenIn inChoke chokeByte upTo written repeatsOrOutside openRefusal linkConditions orderConditions placeConditions readConditions openAnswer openOrder openHolders linkRefusal linkAnswer linkLinks orderRefusal orderAnswer orderOrder placeRefusal placeAnswer placeHolders readRefusal readAnswer readLeaders readChoke afterOpen answers step run linkCalls placeCalls after leadersOf chokeOf sameList rowHolds empty one two path star starBack star4 listed ring table rowsHold
+unfolding sum count sumOver all any listOf listWhere common firstLinks linked neighbours memberCount heldCount stranded numbersSound listsLong endsSound onceEach holdersLinked holdersWithin onlyPlacedHeld isSound heldBy look visit turn turns walk shift settled placedHolders firstWith holder back onCycle nextOnCycle leadsIn leadsInTrees begins cut leads leaderOf pairLeader partner ruleFive leaderList withoutHolder chokeWalk seenIn inChoke chokeByte upTo written repeatsOrOutside openRefusal linkConditions orderConditions placeConditions readConditions limitOf soundState opened openCall conditions callRefusal changed call readLeaders readChoke run linkCalls placeCalls plantCalls after leadersOf chokeOf sameList rowHolds empty one two path star starBack star4 listed ring table rowsHold
 table-holds = refl
 
 same-list : (l r : List ℕ) → sameList l r ≡ true → l ≡ r
@@ -45,7 +46,7 @@ row-means (reads p leaders choke) e = (
   same-list (chokeOf p) choke (and-r (sameList (leadersOf p) leaders) (sameList (chokeOf p) choke) e),
 )
 row-means (holds p k holders) e = same-list (after p k .holders) holders e
-row-means (gives p k c e) f = eqb-true (answers (after p k) c) e f
+row-means (gives p k c e) f = eqb-true (call (after p k) c .refusal) e f
 row-means (differs p without limits) e =
     let s = chokeRead (after p (p .n)) (replicate (p .n) 0) (replicate (p .n) 0) in
     let a = count (p .n) (stranded (p .n) (linked (p .links)) s) in

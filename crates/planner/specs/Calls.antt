@@ -1,85 +1,91 @@
--- The calls: what each answers, and each lent list after it. ls, os and hs are the lent lists of links, order and holders as the call is handed them.
+-- The calls of 01, "The record": the number that each gives, and the record after it.
 use Prim.Native.Nat.{ℕ, _+_, _*_}
-use mathlib.Core.Bool.{Bool, not}
+use mathlib.Core.Bool.{not}
 use mathlib.Core.List.{List}
 use lib.ListN.{length, set, replicate}
-use Rattle.packing.specs.Plant.{NONE, at, common, firstLinks}
-use Rattle.sound.specs.Sound.{isSound}
 use Rattle.packing.specs.Lists.{listOf, written}
+use Rattle.packing.specs.Orders.{upTo}
+use Rattle.packing.specs.Plant.{NONE, at}
+use Rattle.packing.specs.Refusals.{refuse, byNumber}
 use Rattle.search.specs.Search.{placedHolders}
-use Rattle.stars.specs.Stars.{leaderList}
 use Rattle.search.specs.ChokeSet.{chokeByte}
+use Rattle.stars.specs.Stars.{leaderList}
 use Rattle.planner.specs.declared.Small.{Small}
 use Rattle.planner.specs.declared.Answer.{Answer}
-use Rattle.packing.specs.Orders.{upTo}
 use Rattle.planner.specs.Refusals.{openRefusal, linkConditions, orderConditions, placeConditions, readConditions}
-use Rattle.packing.specs.Refusals.{refuse, byNumber}
+use Rattle.planner.specs.State.{State, linksOf, limitOf, soundState}
 
--- "A refused call returns its number and the small part as it came."
-abbrev pub answer : ℕ → Small → Small → Answer
-answer e changed kept = record { refusal = e; small = byNumber e changed kept }
+-- what a call gives: its number, 0 for accepted, and the record after it
+pub record Outcome : Type 0 where
+  pub refusal : ℕ
+  pub state : State
 
--- 26's condition is that this is false
-abbrev pub soundRecord : Small → List ℕ → List ℕ → List ℕ → Bool
-soundRecord s ls os hs = isSound (s .n) (s .t) (s .m) (s .k) ls os hs
+-- "A refused call returns its number and the small part as it came", and no lent list is changed
+abbrev pub outcome : ℕ → State → State → Outcome
+outcome e changed kept = record { refusal = e; state = byNumber e changed kept }
+
+-- the part of it that comes back by value
+abbrev pub answerOf : Outcome → Answer
+answerOf o = record { refusal = o .refusal; small = o .state .small }
 
 -- Open (n, T, lists): "order 0, 1, .., no holder, m = 0, k = 0"
-abbrev pub opened : ℕ → ℕ → Small
-opened n t = record { n = n; t = t; m = 0; k = 0 }
+abbrev pub smallOpened : ℕ → ℕ → Small
+smallOpened n t = record { n = n; t = t; m = 0; k = 0 }
+
+unfoldable pub opened : ℕ → ℕ → List ℕ → List ℕ → List ℕ → State
+opened n t ls os hs = record { small = smallOpened n t; links = ls; order = written n (upTo n) os; holders = written n (replicate n NONE) hs }
 
 -- "a refused open, which was handed none, returns n = 0, T = 2, m = 0, k = 0"
-unfoldable pub openAnswer : ℕ → ℕ → List ℕ → List ℕ → Answer
-openAnswer n t os hs = answer (openRefusal n t os hs) (opened n t) (opened 0 2)
+unfoldable pub openCall : ℕ → ℕ → List ℕ → List ℕ → List ℕ → Outcome
+openCall n t ls os hs = outcome (openRefusal n t os hs) (opened n t ls os hs) (record { small = smallOpened 0 2; links = ls; order = os; holders = hs })
 
-unfoldable pub openOrder : ℕ → ℕ → List ℕ → List ℕ → List ℕ
-openOrder n t os hs = byNumber (openRefusal n t os hs) (written n (upTo n) os) os
+-- The calls on a record, with what else each is handed: a link's two ends, the numbers of a new order, the lists lent for leaders and choke bytes.
+pub data Call : Type 0 where
+  link : ℕ → ℕ → Call
+  order : List ℕ → Call
+  place : Call
+  read : List ℕ → List ℕ → Call
 
-unfoldable pub openHolders : ℕ → ℕ → List ℕ → List ℕ → List ℕ
-openHolders n t os hs = byNumber (openRefusal n t os hs) (written n (replicate n NONE) hs) hs
+-- each call's conditions, in 01's turn after 26
+unfoldable pub conditions : State → Call → ℕ
+conditions s (link a b) = linkConditions (s .small .n) (s .small .k) (s .small .m) (linksOf s) (length (s .links)) a b
+conditions s (order numbers) = orderConditions (s .small .n) (s .small .k) numbers
+conditions s place = placeConditions (s .small .n) (s .small .k)
+conditions s (read leaders choke) = readConditions (s .small .n) (s .small .k) (length leaders) (length choke)
 
--- Link (a, b): "appended"
-unfoldable pub linkRefusal : Small → List ℕ → List ℕ → List ℕ → ℕ → ℕ → ℕ
-linkRefusal s ls os hs a b =
-    refuse (not (soundRecord s ls os hs)) 26 (linkConditions (s .n) (s .k) (s .m) (firstLinks (s .m) ls) (length ls) a b)
+-- "26. The record is not sound.", the first to be named
+unfoldable pub callRefusal : State → Call → ℕ
+callRefusal s c = refuse (not (soundState s)) 26 (conditions s c)
 
-unfoldable pub linkAnswer : Small → List ℕ → List ℕ → List ℕ → ℕ → ℕ → Answer
-linkAnswer s ls os hs a b = answer (linkRefusal s ls os hs a b) (record { n = s .n; t = s .t; m = s .m + 1; k = s .k }) s
+-- the record after an accepted call. Link (a, b): "appended". Order (n numbers): "replaces the order".
+-- Place: "the next in the order is kept or left; k rises by one". Read changes nothing of it.
+unfoldable pub changed : State → Call → State
+changed s (link a b) =
+    record {
+      small = record { n = s .small .n; t = s .small .t; m = s .small .m + 1; k = s .small .k };
+      links = set (set (s .links) (2 * s .small .m) a) (2 * s .small .m + 1) b;
+      order = s .order;
+      holders = s .holders;
+    }
+changed s (order numbers) = record { small = s .small; links = s .links; order = written (s .small .n) numbers (s .order); holders = s .holders }
+changed s place =
+    record {
+      small = record { n = s .small .n; t = s .small .t; m = s .small .m; k = s .small .k + 1 };
+      links = s .links;
+      order = s .order;
+      holders = placedHolders (s .small .n) (limitOf s) (linksOf s) (s .holders) (at (s .order) (s .small .k));
+    }
+changed s (read leaders choke) = s
 
-unfoldable pub linkLinks : Small → List ℕ → List ℕ → List ℕ → ℕ → ℕ → List ℕ
-linkLinks s ls os hs a b = byNumber (linkRefusal s ls os hs a b) (set (set ls (2 * s .m) a) (2 * s .m + 1) b) ls
+-- a call on a record
+unfoldable pub call : State → Call → Outcome
+call s c = outcome (callRefusal s c) (changed s c) s
 
--- Order (n numbers): "replaces the order"
-unfoldable pub orderRefusal : Small → List ℕ → List ℕ → List ℕ → List ℕ → ℕ
-orderRefusal s ls os hs numbers = refuse (not (soundRecord s ls os hs)) 26 (orderConditions (s .n) (s .k) numbers)
+-- Read: "leaders and choke set", in the lists lent for them
+unfoldable pub readLeaders : State → List ℕ → List ℕ → List ℕ
+readLeaders s leaders choke =
+    byNumber (callRefusal s (read leaders choke)) (written (s .small .n) (listOf (s .small .n) (leaderList (s .small .n) (s .holders))) leaders) leaders
 
-unfoldable pub orderAnswer : Small → List ℕ → List ℕ → List ℕ → List ℕ → Answer
-orderAnswer s ls os hs numbers = answer (orderRefusal s ls os hs numbers) s s
-
-unfoldable pub orderOrder : Small → List ℕ → List ℕ → List ℕ → List ℕ → List ℕ
-orderOrder s ls os hs numbers = byNumber (orderRefusal s ls os hs numbers) (written (s .n) numbers os) os
-
--- Place: "the next in the order is kept or left; k rises by one"
-unfoldable pub placeRefusal : Small → List ℕ → List ℕ → List ℕ → ℕ
-placeRefusal s ls os hs = refuse (not (soundRecord s ls os hs)) 26 (placeConditions (s .n) (s .k))
-
-unfoldable pub placeAnswer : Small → List ℕ → List ℕ → List ℕ → Answer
-placeAnswer s ls os hs = answer (placeRefusal s ls os hs) (record { n = s .n; t = s .t; m = s .m; k = s .k + 1 }) s
-
-unfoldable pub placeHolders : Small → List ℕ → List ℕ → List ℕ → List ℕ
-placeHolders s ls os hs = byNumber (placeRefusal s ls os hs) (placedHolders (s .n) (common (s .t)) (firstLinks (s .m) ls) hs (at os (s .k))) hs
-
--- Read: "after the last placing; leaders and choke set". leaders and choke are the lists lent for them.
-unfoldable pub readRefusal : Small → List ℕ → List ℕ → List ℕ → List ℕ → List ℕ → ℕ
-readRefusal s ls os hs leaders choke =
-    refuse (not (soundRecord s ls os hs)) 26 (readConditions (s .n) (s .k) (length leaders) (length choke))
-
-unfoldable pub readAnswer : Small → List ℕ → List ℕ → List ℕ → List ℕ → List ℕ → Answer
-readAnswer s ls os hs leaders choke = answer (readRefusal s ls os hs leaders choke) s s
-
-unfoldable pub readLeaders : Small → List ℕ → List ℕ → List ℕ → List ℕ → List ℕ → List ℕ
-readLeaders s ls os hs leaders choke =
-    byNumber (readRefusal s ls os hs leaders choke) (written (s .n) (listOf (s .n) (leaderList (s .n) hs)) leaders) leaders
-
-unfoldable pub readChoke : Small → List ℕ → List ℕ → List ℕ → List ℕ → List ℕ → List ℕ
-readChoke s ls os hs leaders choke =
-    byNumber (readRefusal s ls os hs leaders choke) (written (s .n) (listOf (s .n) (chokeByte (s .n) (firstLinks (s .m) ls) hs)) choke) choke
+unfoldable pub readChoke : State → List ℕ → List ℕ → List ℕ
+readChoke s leaders choke =
+    byNumber (callRefusal s (read leaders choke)) (written (s .small .n) (listOf (s .small .n) (chokeByte (s .small .n) (linksOf s) (s .holders))) choke) choke

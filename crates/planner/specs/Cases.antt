@@ -1,17 +1,17 @@
 -- 01, "At the edges": the cases marked P, in one table over the definitions. proofs/Table.antt has the checker compute it, and says what each row means.
-use Prim.Native.Nat.{ℕ, zero, suc}
+use Prim.Native.Nat.{ℕ}
 use mathlib.Core.Path.{_≡_}
 use mathlib.Core.Bool.{Bool, true, false, _&&_}
-use mathlib.Core.List.{List, [], _∷_, _++_}
+use mathlib.Core.List.{List, [], _∷_}
 use lib.Dec.{eqb}
 use lib.ListN.{length, replicate}
 use Rattle.packing.specs.Count.{count, sumOver}
 use Rattle.packing.specs.Plant.{NONE, common, linked}
 use Rattle.packing.specs.Choke.{stranded}
 use Rattle.packing.specs.Orders.{upTo}
-use Rattle.planner.specs.Calls.{readLeaders, readChoke}
-use Rattle.planner.specs.Told.{Call, link, order, place, read}
-use Rattle.planner.specs.Run.{State, answers}
+use Rattle.planner.specs.State.{State}
+use Rattle.planner.specs.Calls.{Call, place, read, call, readLeaders, readChoke}
+use Rattle.planner.specs.Run.{plantCalls}
 use Rattle.planner.specs.Claims.{madeBy, chokeRead}
 
 -- a plant: n, T, its links two numbers each, its order
@@ -21,26 +21,16 @@ pub record Plant : Type 0 where
   pub links : List ℕ
   pub order : List ℕ
 
--- the calls that fill it and place some: each link, the order, the placings
-unfoldable pub linkCalls : List ℕ → List Call
-linkCalls [] = []
-linkCalls (a ∷ []) = []
-linkCalls (a ∷ b ∷ rest) = link a b ∷ linkCalls rest
-
-unfoldable pub placeCalls : ℕ → List Call
-placeCalls zero = []
-placeCalls (suc k) = place ∷ placeCalls k
-
--- the record after an open with lists of just the length needed, and these calls
+-- the record after an open with lists of just the length needed, the calls that fill it, and k placings
 unfoldable pub after : Plant → ℕ → State
-after p k = madeBy (p .n) (p .t) (replicate (length (p .links)) 0) (replicate (p .n) 0) (replicate (p .n) 0) (linkCalls (p .links) ++ (order (p .order) ∷ placeCalls k))
+after p k = madeBy (p .n) (p .t) (replicate (length (p .links)) 0) (replicate (p .n) 0) (replicate (p .n) 0) (plantCalls (p .links) (p .order) k)
 
 -- a read of the fully placed record, into lists of just the length needed
 unfoldable pub leadersOf : Plant → List ℕ
-leadersOf p = let s = after p (p .n) in readLeaders (s .small) (s .links) (s .order) (s .holders) (replicate (p .n) 0) (replicate (p .n) 0)
+leadersOf p = readLeaders (after p (p .n)) (replicate (p .n) 0) (replicate (p .n) 0)
 
 unfoldable pub chokeOf : Plant → List ℕ
-chokeOf p = let s = after p (p .n) in readChoke (s .small) (s .links) (s .order) (s .holders) (replicate (p .n) 0) (replicate (p .n) 0)
+chokeOf p = readChoke (after p (p .n)) (replicate (p .n) 0) (replicate (p .n) 0)
 
 unfoldable pub sameList : List ℕ → List ℕ → Bool
 sameList [] [] = true
@@ -58,7 +48,7 @@ pub data Row : Type 0 where
 unfoldable pub rowHolds : Row → Bool
 rowHolds (reads p leaders choke) = sameList (leadersOf p) leaders && sameList (chokeOf p) choke
 rowHolds (holds p k holders) = sameList (after p k .holders) holders
-rowHolds (gives p k c e) = eqb (answers (after p k) c) e
+rowHolds (gives p k c e) = eqb (call (after p k) c .refusal) e
 rowHolds (differs p without limits) =
     let s = chokeRead (after p (p .n)) (replicate (p .n) 0) (replicate (p .n) 0) in
     eqb (count (p .n) (stranded (p .n) (linked (p .links)) s)) without && eqb (sumOver (p .n) s (common (p .t))) limits
@@ -114,7 +104,7 @@ rowsHold (r ∷ rows) = rowHolds r && rowsHold rows
 abbrev pub Means : Row → Type 0
 Means (reads p leaders choke) = (leadersOf p ≡ leaders) × (chokeOf p ≡ choke)
 Means (holds p k holders) = after p k .holders ≡ holders
-Means (gives p k c e) = answers (after p k) c ≡ e
+Means (gives p k c e) = call (after p k) c .refusal ≡ e
 Means (differs p without limits) =
     (count (p .n) (stranded (p .n) (linked (p .links)) (chokeRead (after p (p .n)) (replicate (p .n) 0) (replicate (p .n) 0))) ≡ without)
     × (sumOver (p .n) (chokeRead (after p (p .n)) (replicate (p .n) 0) (replicate (p .n) 0)) (common (p .t)) ≡ limits)

@@ -7,14 +7,15 @@ use mathlib.Core.List.{List}
 use lib.Dec.{eqb}
 use lib.ListN.{length}
 use Rattle.packing.specs.Count.{count}
-use Rattle.packing.specs.Plant.{at, common, linked}
+use Rattle.packing.specs.Plant.{at, linked}
 use Rattle.packing.specs.Grouping.{Grouping, covered, coveredFirst}
 use Rattle.packing.specs.Holders.{held, Feasible}
 use Rattle.packing.specs.Choke.{ChokeDifference}
 use Rattle.planner.specs.Refusals.{openRefusal}
-use Rattle.planner.specs.Calls.{readLeaders, readChoke}
-use Rattle.planner.specs.Told.{Call, Told, place, read, beginning, refuses, tell, toldNumbers}
-use Rattle.planner.specs.Run.{State, afterOpen, step, run, runNumbers}
+use Rattle.planner.specs.State.{State}
+use Rattle.planner.specs.Calls.{Call, place, read, call, readLeaders, readChoke}
+use Rattle.planner.specs.Told.{Told, beginning, refuses, tell, toldNumbers}
+use Rattle.planner.specs.Run.{afterOpen, run, runNumbers}
 
 -- what the calls tell, and the record they make, after an open that was handed n, t and the lists ls, os, hs
 abbrev pub toldBy : ℕ → ℕ → List ℕ → List Call → Told
@@ -25,14 +26,14 @@ madeBy n t ls os hs calls = run (afterOpen n t ls os hs) calls
 
 -- the leader list and the choke bytes that a read writes
 abbrev pub leadersRead : State → List ℕ → List ℕ → ℕ → ℕ
-leadersRead s leaders choke = at (readLeaders (s .small) (s .links) (s .order) (s .holders) leaders choke)
+leadersRead s leaders choke = at (readLeaders s leaders choke)
 
 abbrev pub chokeRead : State → List ℕ → List ℕ → ℕ → Bool
-chokeRead s leaders choke v = eqb (at (readChoke (s .small) (s .links) (s .order) (s .holders) leaders choke) v) 1
+chokeRead s leaders choke v = eqb (at (readChoke s leaders choke) v) 1
 
--- a grouping of the plant told: n and T as open was handed them, and the links told
-abbrev pub GroupingTold : ℕ → ℕ → Told → (ℕ → ℕ) → Type 0
-GroupingTold n t p g = Grouping n (common t) (linked (p .links)) g
+-- a grouping of the plant told: n as open was handed it, the limits told and the links told
+abbrev pub GroupingTold : ℕ → Told → (ℕ → ℕ) → Type 0
+GroupingTold n p g = Grouping n (p .limit) (linked (p .links)) g
 
 -- 01, "Demand 3": the record refuses just the calls that what was told refuses, with the same numbers.
 unfoldable pub SameNumbers : Type 0
@@ -40,45 +41,51 @@ SameNumbers =
     (n t : ℕ) (ls os hs : List ℕ) → openRefusal n t os hs ≡ 0 → (calls : List Call) → runNumbers (afterOpen n t ls os hs) calls ≡ toldNumbers (beginning n t (length ls)) calls
 
 -- An open accepted, any list of calls, n placings of it accepted, and a read accepted after it: a claim about the plant told, the record made, and the lists that read was lent.
-abbrev pub OnceRead : ((n t : ℕ) (told : Told) (made : State) (leaders choke : List ℕ) → Type 0) → Type 0
+abbrev pub OnceRead : ((n : ℕ) (told : Told) (made : State) (leaders choke : List ℕ) → Type 0) → Type 0
 OnceRead claim =
     (n t : ℕ) (ls os hs : List ℕ) → openRefusal n t os hs ≡ 0 → (calls : List Call)
     → toldBy n t ls calls .placed ≡ n
     → (leaders choke : List ℕ) → refuses (toldBy n t ls calls) (read leaders choke) ≡ 0
-    → claim n t (toldBy n t ls calls) (madeBy n t ls os hs calls) leaders choke
+    → claim n (toldBy n t ls calls) (madeBy n t ls os hs calls) leaders choke
 
 -- 00, demand 3: the first n of the list read wrote are a grouping of the plant told, and no grouping of that plant covers more of the first k in the order told, for every k from 0 to n.
+abbrev pub DemandThreeOf : (n : ℕ) (told : Told) (made : State) (leaders choke : List ℕ) → Type 0
+DemandThreeOf n told made leaders choke =
+    GroupingTold n told (leadersRead made leaders choke)
+    × ((other : ℕ → ℕ) → GroupingTold n told other → (k : ℕ) → k ≤ n
+    → coveredFirst k (at (told .order)) other ≤ coveredFirst k (at (told .order)) (leadersRead made leaders choke))
+
 unfoldable pub DemandThree : Type 0
-DemandThree =
-    OnceRead (λ n t told made leaders choke.
-    GroupingTold n t told (leadersRead made leaders choke)
-    × ((other : ℕ → ℕ) → GroupingTold n t told other → (k : ℕ) → k ≤ n
-    → coveredFirst k (at (told .order)) other ≤ coveredFirst k (at (told .order)) (leadersRead made leaders choke)))
+DemandThree = OnceRead DemandThreeOf
 
 -- 00: "It is known that such a rule costs the desk no gateway." No grouping of the plant told covers more gateways.
+abbrev pub MostCoveredOf : (n : ℕ) (told : Told) (made : State) (leaders choke : List ℕ) → Type 0
+MostCoveredOf n told made leaders choke =
+    (other : ℕ → ℕ) → GroupingTold n told other → count n (covered other) ≤ count n (covered (leadersRead made leaders choke))
+
 unfoldable pub MostCovered : Type 0
-MostCovered =
-    OnceRead (λ n t told made leaders choke.
-    (other : ℕ → ℕ) → GroupingTold n t told other → count n (covered other) ≤ count n (covered (leadersRead made leaders choke)))
+MostCovered = OnceRead MostCoveredOf
 
 -- 00, demand 2, with 01's "Every held gateway is covered. In a fully placed record made by accepted calls, no other is."
-unfoldable pub DemandTwo : Type 0
-DemandTwo =
-    OnceRead (λ n t told made leaders choke.
-    GroupingTold n t told (leadersRead made leaders choke)
+abbrev pub DemandTwoOf : (n : ℕ) (told : Told) (made : State) (leaders choke : List ℕ) → Type 0
+DemandTwoOf n told made leaders choke =
+    GroupingTold n told (leadersRead made leaders choke)
     × ((v : ℕ) → v < n → covered (leadersRead made leaders choke) v ≡ held n (at (made .holders)) v)
-    × ChokeDifference n (common t) (linked (told .links)) (chokeRead made leaders choke) (count n (λ v. not (covered (leadersRead made leaders choke) v))))
+    × ChokeDifference n (told .limit) (linked (told .links)) (chokeRead made leaders choke) (count n (λ v. not (covered (leadersRead made leaders choke) v)))
+
+unfoldable pub DemandTwo : Type 0
+DemandTwo = OnceRead DemandTwoOf
 
 -- An open accepted and any list of calls after which a gateway is yet to be placed: a claim about the plant told and the record made.
-abbrev pub BeforePlacing : ((n t : ℕ) (told : Told) (made : State) → Type 0) → Type 0
+abbrev pub BeforePlacing : ((n : ℕ) (told : Told) (made : State) → Type 0) → Type 0
 BeforePlacing claim =
     (n t : ℕ) (ls os hs : List ℕ) → openRefusal n t os hs ≡ 0 → (calls : List Call)
     → toldBy n t ls calls .placed < n
-    → claim n t (toldBy n t ls calls) (madeBy n t ls os hs calls)
+    → claim n (toldBy n t ls calls) (madeBy n t ls os hs calls)
 
 -- the next in the order told is left by its placing
 abbrev pub NextLeft : ℕ → Told → State → Type 0
-NextLeft n told made = held n (at (step made place .holders)) (at (told .order) (told .placed)) ≡ false
+NextLeft n told made = held n (at (call made place .state .holders)) (at (told .order) (told .placed)) ≡ false
 
 -- it is covered, and so are all kept before it: those before it in the order told that are held
 abbrev pub CoversKept : ℕ → Told → State → (ℕ → Bool) → Type 0
@@ -87,13 +94,15 @@ CoversKept n told made cover =
     × ((i : ℕ) → i < told .placed → held n (at (made .holders)) (at (told .order) i) ≡ true → cover (at (told .order) i) ≡ true)
 
 -- 01, "Placing": "v is left exactly if no T-star packing covers v and all kept before it (for a record made by accepted calls)."
+abbrev pub LeftExactlyOf : (n : ℕ) (told : Told) (made : State) → Type 0
+LeftExactlyOf n told made = NextLeft n told made ↔ ((g : ℕ → ℕ) → GroupingTold n told g → CoversKept n told made (covered g) → ⊥)
+
 unfoldable pub LeftExactly : Type 0
-LeftExactly =
-    BeforePlacing (λ n t told made.
-    NextLeft n told made ↔ ((g : ℕ → ℕ) → GroupingTold n t told g → CoversKept n told made (covered g) → ⊥))
+LeftExactly = BeforePlacing LeftExactlyOf
 
 -- .. and the same for feasible holders (000, Definition 2) in place of groupings.
+abbrev pub LeftExactlyByHoldersOf : (n : ℕ) (told : Told) (made : State) → Type 0
+LeftExactlyByHoldersOf n told made = NextLeft n told made ↔ ((h : ℕ → ℕ) → Feasible n (told .limit) (linked (told .links)) h → CoversKept n told made (held n h) → ⊥)
+
 unfoldable pub LeftExactlyByHolders : Type 0
-LeftExactlyByHolders =
-    BeforePlacing (λ n t told made.
-    NextLeft n told made ↔ ((h : ℕ → ℕ) → Feasible n (common t) (linked (told .links)) h → CoversKept n told made (held n h) → ⊥))
+LeftExactlyByHolders = BeforePlacing LeftExactlyByHoldersOf

@@ -5,13 +5,13 @@ use mathlib.Core.List.{List, []}
 use lib.Dec.{eqb, ltb}
 use lib.ListN.{length, take}
 use Rattle.packing.specs.Lists.{written}
-use Rattle.packing.specs.Plant.{at}
+use Rattle.packing.specs.Plant.{GATEWAYS, at}
 use Rattle.packing.specs.Grouping.{membersOf}
 use Rattle.packing.specs.Refusals.{refuse, byNumber}
 
 -- "Members looks at the first 1,024 entries of the leader list, or at all if there are fewer, and takes those as the list."
 unfoldable pub listedLeaders : List ℕ → List ℕ
-listedLeaders leaders = take 1024 leaders
+listedLeaders leaders = take GATEWAYS leaders
 
 -- 11, 10 by the list l: "The number is outside the leader list, doesn't lead itself there, or has no members." "members needs their count"
 unfoldable pub membersConditions : List ℕ → ℕ → ℕ → ℕ

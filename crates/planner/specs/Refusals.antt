@@ -5,15 +5,15 @@ use mathlib.Core.Bool.{not, _||_}
 use mathlib.Core.List.{List}
 use lib.Dec.{eqb, ltb, leb}
 use lib.ListN.{length}
-use Rattle.packing.specs.Plant.{linked}
+use Rattle.packing.specs.Plant.{GATEWAYS, LINKS, LOWEST, HIGHEST, linked}
 use Rattle.packing.specs.Refusals.{refuse}
 use Rattle.packing.specs.Orders.{repeatsOrOutside}
 
 -- open: 1, 2, 10
 unfoldable pub openRefusal : ℕ → ℕ → List ℕ → List ℕ → ℕ
 openRefusal n t os hs =
-    refuse (ltb 1024 n) 1
-    (refuse (ltb t 2 || ltb 16 t) 2
+    refuse (ltb GATEWAYS n) 1
+    (refuse (ltb t LOWEST || ltb HIGHEST t) 2
     (refuse (ltb (length os) n || ltb (length hs) n) 10 0))
 
 -- link, after 26: 22, 3, 4, 20, 21. l are the m links so far; room is the length of the lent link list.
@@ -23,7 +23,7 @@ linkConditions n k m l room a b =
     (refuse (leb n a || leb n b) 3
     (refuse (eqb a b) 4
     (refuse (linked l a b) 20
-    (refuse (eqb m 8192 || ltb room (2 * m + 2)) 21 0))))
+    (refuse (eqb m LINKS || ltb room (2 * m + 2)) 21 0))))
 
 -- order, after 26: 22, 5, 6
 unfoldable pub orderConditions : ℕ → ℕ → List ℕ → ℕ

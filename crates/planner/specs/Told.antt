@@ -3,53 +3,50 @@ use Prim.Native.Nat.{ℕ, _+_}
 use mathlib.Core.List.{List, [], _∷_, _++_}
 use lib.ListN.{length}
 use Rattle.packing.specs.Orders.{upTo}
-use Rattle.planner.specs.Refusals.{linkConditions, orderConditions, placeConditions, readConditions}
+use Rattle.packing.specs.Plant.{common}
 use Rattle.packing.specs.Refusals.{byNumber}
+use Rattle.planner.specs.Refusals.{linkConditions, orderConditions, placeConditions, readConditions}
+use Rattle.planner.specs.Calls.{Call, link, order, place, read}
 
--- "Link, order, place and read follow in any turn and number, refused ones included." What else a call is handed "is new each time, of any length and contents".
-pub data Call : Type 0 where
-  link : ℕ → ℕ → Call
-  order : List ℕ → Call
-  place : Call
-  read : List ℕ → List ℕ → Call
-
--- n and T as open was handed them, the length of the lent link list, the links accepted so far with their number, the order last accepted, the placings so far
+-- n and T as open was handed them, a limit for each gateway, the length of the lent link list, the links accepted so far with their number, the order last accepted, the placings so far
 pub record Told : Type 0 where
   pub n : ℕ
   pub t : ℕ
+  pub limit : ℕ → ℕ
   pub room : ℕ
   pub links : List ℕ
   pub m : ℕ
   pub order : List ℕ
   pub placed : ℕ
 
--- after an accepted open: no link, "0, 1, .. if none was", none placed
+-- after an accepted open: T for all, no link, "0, 1, .. if none was", none placed
 unfoldable pub beginning : ℕ → ℕ → ℕ → Told
-beginning n t room = record { n = n; t = t; room = room; links = []; m = 0; order = upTo n; placed = 0 }
+beginning n t room = record { n = n; t = t; limit = common t; room = room; links = []; m = 0; order = upTo n; placed = 0 }
 
 -- "The calls alone tell which of them were accepted: those for which no refusal's condition holds." The first number whose condition holds; 26 never does.
 unfoldable pub refuses : Told → Call → ℕ
-refuses s (link a b) = linkConditions (s .n) (s .placed) (s .m) (s .links) (s .room) a b
-refuses s (order numbers) = orderConditions (s .n) (s .placed) numbers
-refuses s place = placeConditions (s .n) (s .placed)
-refuses s (read leaders choke) = readConditions (s .n) (s .placed) (length leaders) (length choke)
+refuses p (link a b) = linkConditions (p .n) (p .placed) (p .m) (p .links) (p .room) a b
+refuses p (order numbers) = orderConditions (p .n) (p .placed) numbers
+refuses p place = placeConditions (p .n) (p .placed)
+refuses p (read leaders choke) = readConditions (p .n) (p .placed) (length leaders) (length choke)
 
 -- what an accepted call tells
 unfoldable pub accepted : Told → Call → Told
-accepted s (link a b) = record { n = s .n; t = s .t; room = s .room; links = s .links ++ (a ∷ b ∷ []); m = s .m + 1; order = s .order; placed = s .placed }
-accepted s (order numbers) = record { n = s .n; t = s .t; room = s .room; links = s .links; m = s .m; order = numbers; placed = s .placed }
-accepted s place = record { n = s .n; t = s .t; room = s .room; links = s .links; m = s .m; order = s .order; placed = s .placed + 1 }
-accepted s (read leaders choke) = s
+accepted p (link a b) =
+    record { n = p .n; t = p .t; limit = p .limit; room = p .room; links = p .links ++ (a ∷ b ∷ []); m = p .m + 1; order = p .order; placed = p .placed }
+accepted p (order numbers) = record { n = p .n; t = p .t; limit = p .limit; room = p .room; links = p .links; m = p .m; order = numbers; placed = p .placed }
+accepted p place = record { n = p .n; t = p .t; limit = p .limit; room = p .room; links = p .links; m = p .m; order = p .order; placed = p .placed + 1 }
+accepted p (read leaders choke) = p
 
 unfoldable pub tellOne : Told → Call → Told
-tellOne s c = byNumber (refuses s c) (accepted s c) s
+tellOne p c = byNumber (refuses p c) (accepted p c) p
 
 -- .. by a list of calls
 unfoldable pub tell : Told → List Call → Told
-tell s [] = s
-tell s (c ∷ calls) = tell (tellOne s c) calls
+tell p [] = p
+tell p (c ∷ calls) = tell (tellOne p c) calls
 
 -- each call's number, 0 for accepted
 unfoldable pub toldNumbers : Told → List Call → List ℕ
-toldNumbers s [] = []
-toldNumbers s (c ∷ calls) = refuses s c ∷ toldNumbers (tellOne s c) calls
+toldNumbers p [] = []
+toldNumbers p (c ∷ calls) = refuses p c ∷ toldNumbers (tellOne p c) calls

@@ -4,7 +4,9 @@ pub mod members;
 mod refusals;
 
 ghost use mathlib.Core.Path.{_≡_};
-ghost use Rattle.planner.specs.Calls.{openAnswer, openOrder, openHolders, linkAnswer, linkLinks, orderAnswer, orderOrder, placeAnswer, placeHolders, readAnswer, readLeaders, readChoke};
+ghost use Rattle.planner.specs.State.{stateOf};
+ghost use Rattle.planner.specs.Calls as calls;
+ghost use Rattle.planner.specs.Calls.{answerOf, openCall, call, readLeaders, readChoke};
 
 // 01's small part: n gateways, limit T, m links, k placed.
 pub struct Small {
@@ -23,9 +25,9 @@ pub struct Answer {
 impl Small {
     // Order 0, 1, .., no holder, no link, none placed. The links are lent with the other lists; nothing of them is read or written.
     pub fn open(n: u16, t: u8, links: &[u16], order: &mut [u16], holders: &mut [u16]) -> Answer
-        ensures answer { λ r. ⌜ r ≡ openAnswer n t (now (order .entry)) (now (holders .entry)) ⌝ }
-        ensures order { λ _. ⌜ now (order .exit) ≡ openOrder n t (now (order .entry)) (now (holders .entry)) ⌝ }
-        ensures holders { λ _. ⌜ now (holders .exit) ≡ openHolders n t (now (order .entry)) (now (holders .entry)) ⌝ }
+        ensures answer { λ r. ⌜ r ≡ answerOf (openCall n t (now (links .entry)) (now (order .entry)) (now (holders .entry))) ⌝ }
+        ensures order { λ _. ⌜ now (order .exit) ≡ openCall n t (now (links .entry)) (now (order .entry)) (now (holders .entry)) .state .order ⌝ }
+        ensures holders { λ _. ⌜ now (holders .exit) ≡ openCall n t (now (links .entry)) (now (order .entry)) (now (holders .entry)) .state .holders ⌝ }
     {
         let refusal = refusals::of_open(n, t, order, holders);
         if refusal != 0 {
@@ -49,8 +51,8 @@ impl Small {
 
     // Appends the link a-b.
     pub fn link(self, links: &mut [u16], order: &[u16], holders: &[u16], a: u16, b: u16) -> Answer
-        ensures answer { λ r. ⌜ r ≡ linkAnswer self (now (links .entry)) (now (order .entry)) (now (holders .entry)) a b ⌝ }
-        ensures links { λ _. ⌜ now (links .exit) ≡ linkLinks self (now (links .entry)) (now (order .entry)) (now (holders .entry)) a b ⌝ }
+        ensures answer { λ r. ⌜ r ≡ answerOf (call (stateOf self (now (links .entry)) (now (order .entry)) (now (holders .entry))) (calls.link a b)) ⌝ }
+        ensures links { λ _. ⌜ now (links .exit) ≡ call (stateOf self (now (links .entry)) (now (order .entry)) (now (holders .entry))) (calls.link a b) .state .links ⌝ }
     {
         let n = self.n;
         let t = self.t;
@@ -80,8 +82,8 @@ impl Small {
 
     // Replaces the order.
     pub fn order(self, links: &[u16], order: &mut [u16], holders: &[u16], numbers: &[u16]) -> Answer
-        ensures answer { λ r. ⌜ r ≡ orderAnswer self (now (links .entry)) (now (order .entry)) (now (holders .entry)) (now (numbers .entry)) ⌝ }
-        ensures order { λ _. ⌜ now (order .exit) ≡ orderOrder self (now (links .entry)) (now (order .entry)) (now (holders .entry)) (now (numbers .entry)) ⌝ }
+        ensures answer { λ r. ⌜ r ≡ answerOf (call (stateOf self (now (links .entry)) (now (order .entry)) (now (holders .entry))) (calls.order (now (numbers .entry)))) ⌝ }
+        ensures order { λ _. ⌜ now (order .exit) ≡ call (stateOf self (now (links .entry)) (now (order .entry)) (now (holders .entry))) (calls.order (now (numbers .entry))) .state .order ⌝ }
     {
         let n = self.n;
         let k = self.k;
@@ -107,8 +109,8 @@ impl Small {
 
     // The next in the order is kept or left.
     pub fn place(self, links: &[u16], order: &[u16], holders: &mut [u16]) -> Answer
-        ensures answer { λ r. ⌜ r ≡ placeAnswer self (now (links .entry)) (now (order .entry)) (now (holders .entry)) ⌝ }
-        ensures holders { λ _. ⌜ now (holders .exit) ≡ placeHolders self (now (links .entry)) (now (order .entry)) (now (holders .entry)) ⌝ }
+        ensures answer { λ r. ⌜ r ≡ answerOf (call (stateOf self (now (links .entry)) (now (order .entry)) (now (holders .entry))) calls.place) ⌝ }
+        ensures holders { λ _. ⌜ now (holders .exit) ≡ call (stateOf self (now (links .entry)) (now (order .entry)) (now (holders .entry))) calls.place .state .holders ⌝ }
     {
         let n = self.n;
         let t = self.t;
@@ -144,9 +146,9 @@ impl Small {
         leaders: &mut [u16],
         choke: &mut [u8],
     ) -> Answer
-        ensures answer { λ r. ⌜ r ≡ readAnswer self (now (links .entry)) (now (order .entry)) (now (holders .entry)) (now (leaders .entry)) (now (choke .entry)) ⌝ }
-        ensures leaders { λ _. ⌜ now (leaders .exit) ≡ readLeaders self (now (links .entry)) (now (order .entry)) (now (holders .entry)) (now (leaders .entry)) (now (choke .entry)) ⌝ }
-        ensures choke { λ _. ⌜ now (choke .exit) ≡ readChoke self (now (links .entry)) (now (order .entry)) (now (holders .entry)) (now (leaders .entry)) (now (choke .entry)) ⌝ }
+        ensures answer { λ r. ⌜ r ≡ answerOf (call (stateOf self (now (links .entry)) (now (order .entry)) (now (holders .entry))) (calls.read (now (leaders .entry)) (now (choke .entry)))) ⌝ }
+        ensures leaders { λ _. ⌜ now (leaders .exit) ≡ readLeaders (stateOf self (now (links .entry)) (now (order .entry)) (now (holders .entry))) (now (leaders .entry)) (now (choke .entry)) ⌝ }
+        ensures choke { λ _. ⌜ now (choke .exit) ≡ readChoke (stateOf self (now (links .entry)) (now (order .entry)) (now (holders .entry))) (now (leaders .entry)) (now (choke .entry)) ⌝ }
     {
         let n = self.n;
         let m = self.m;

@@ -1,5 +1,5 @@
--- `open` meets its contract.
-use Rattle.planner.proofs.Answers.{open-fits, open-refused, open-accepted}
+use Rattle.planner.proofs.Conditions.{open-allowed}
+use Rattle.planner.proofs.Outcomes.{open-refused, open-accepted}
 use borrow.Author.Needs.{needs}
 use Rattle.planner.proofs.Small.open.Statement.{statement}
 use Rattle.planner.proofs.Small.open.Tie as tie
@@ -14,14 +14,14 @@ same-length-2 : tie.Need-same-length-2
 same-length-2 c = search needs
 
 returns : tie.Need-returns
-returns c = open-refused _ _ _ _ (c .before .of-open .ensures) (c .if1 .taken)
+returns c = open-refused _ _ _ _ _ (c .before .of-open .ensures) (c .if1 .taken)
 
 with-places-requires : tie.Need-with-places-requires
-with-places-requires c κs = let fits = open-fits _ _ _ _ (c .before .before .of-open .ensures) (c .before .if1 .left) in (fits .0, fits .3)
+with-places-requires c κs = let allowed = open-allowed _ _ _ _ (c .before .before .of-open .ensures) (c .before .if1 .left) in (allowed .0, allowed .3)
 
 with-none-requires : tie.Need-with-none-requires
 with-none-requires c κs = let test = c .before .before .before .before .before in
-    open-fits _ _ _ _ (test .before .of-open .ensures) (test .if1 .left) .4
+    open-allowed _ _ _ _ (test .before .of-open .ensures) (test .if1 .left) .4
 
 same-length-3 : tie.Need-same-length-3
 same-length-3 c = search needs
@@ -31,7 +31,7 @@ same-length-4 c = search needs
 
 returns-2 : tie.Need-returns-2
 returns-2 c = let test = c .before .before .before .before .before .before .before .before in
-    open-accepted _ _ _ _ (test .before .of-open .ensures) (test .if1 .left) (c .before .before .before .before .before .before .with-places .ensures) (c .before .before .with-none .ensures)
+    open-accepted _ _ _ _ _ (test .before .of-open .ensures) (test .if1 .left) (c .before .before .before .before .before .before .with-places .ensures) (c .before .before .with-none .ensures)
 
 pub open-spec : {M : Type 1} → statement M
 open-spec =

@@ -1,12 +1,13 @@
--- `place` meets its contract.
 use native.Mathlib.Omega.{arith}
 use mathlib.Core.Path.{sym, refl}
 use borrow.Author.Tests.{not-true, not-false}
 use lib.Seq.{length-take-le}
 use Rattle.packing.specs.Plant.{firstLinks}
-use Rattle.planner.specs.Calls.{placeRefusal}
-use Rattle.planner.proofs.Answers.{unsound-number, sound-number, place-refused, place-accepted}
-use Rattle.planner.proofs.Next.{checked, next-placed, place-full, place-next}
+use Rattle.planner.specs.State.{State, soundState}
+use Rattle.planner.specs.Calls.{conditions, callRefusal, changed}
+use Rattle.planner.proofs.Conditions.{unsound-number, sound-number, place-full, place-next}
+use Rattle.planner.proofs.Outcomes.{list-refused, list-accepted}
+use Rattle.planner.proofs.Next.{checked, next-placed}
 use borrow.Author.Needs.{needs}
 use Rattle.planner.proofs.Small.place.Statement.{statement}
 use Rattle.planner.proofs.Small.place.Tie as tie
@@ -18,15 +19,15 @@ same-length : tie.Need-same-length
 same-length c = search needs
 
 returns : tie.Need-returns
-unfolding placeRefusal
-returns c = place-refused _ _ _ _ (unsound-number _ (c .before .is-sound .ensures) (not-true _ (c .if1 .taken))) (λ z. omega arith)
+unfolding callRefusal conditions soundState
+returns c = list-refused _ _ (λ (s : State). s .holders) (unsound-number _ (c .before .is-sound .ensures) (not-true _ (c .if1 .taken))) (λ z. omega arith)
 
 same-length-2 : tie.Need-same-length-2
 same-length-2 c = search needs
 
 returns-2 : tie.Need-returns-2
-unfolding placeRefusal
-returns-2 c = place-refused _ _ _ _ (sound-number (c .before .before .is-sound .ensures) (not-false _ (c .before .if1 .left)) (place-full _ _ (c .if2 .taken))) (λ z. omega arith)
+unfolding callRefusal conditions soundState
+returns-2 c = list-refused _ _ (λ (s : State). s .holders) (sound-number (c .before .before .is-sound .ensures) (not-false _ (c .before .if1 .left)) (place-full _ _ (c .if2 .taken))) (λ z. omega arith)
 
 cast-end : tie.Need-cast-end
 cast-end c = search needs
@@ -59,11 +60,11 @@ same-length-3 : tie.Need-same-length-3
 same-length-3 c = search needs
 
 returns-3 : tie.Need-returns-3
-unfolding placeRefusal firstLinks
+unfolding callRefusal conditions soundState changed firstLinks
 returns-3 c = let test = c .before .before .before .before .before .before in
     let sound = checked _ _ _ _ _ _ _ (test .before .before .is-sound .ensures) (test .before .if1 .left) in
-    place-accepted _ _ _ _ (sound-number (test .before .before .is-sound .ensures) (not-false _ (test .before .if1 .left)) (place-next _ _ (test .if2 .left))) refl
-    (next-placed _ _ _ _ _ _ _ sound (test .if2 .left) (c .before .before .place .ensures .1))
+    list-accepted _ _ (λ (s : State). s .holders) (sound-number (test .before .before .is-sound .ensures) (not-false _ (test .before .if1 .left)) (place-next _ _ (test .if2 .left))) refl
+    (next-placed _ sound (test .if2 .left) (c .before .before .place .ensures .1))
 
 pub place-spec : {M : Type 1} → statement M
 place-spec =

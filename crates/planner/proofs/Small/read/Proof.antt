@@ -1,12 +1,13 @@
--- `read` meets its contract.
 use native.Mathlib.Omega.{arith}
 use mathlib.Core.Path.{sym, _∙_}
 use borrow.Author.Tests.{not-true, not-false}
 use lib.Seq.{length-take-le}
 use Rattle.packing.specs.Plant.{firstLinks}
 use Rattle.packing.specs.Lists.{written}
-use Rattle.planner.specs.Calls.{readRefusal}
-use Rattle.planner.proofs.Answers.{unsound-number, sound-number, read-fits, read-refused, read-accepted}
+use Rattle.planner.specs.State.{soundState}
+use Rattle.planner.specs.Calls.{conditions, callRefusal}
+use Rattle.planner.proofs.Conditions.{unsound-number, sound-number, read-allowed}
+use Rattle.planner.proofs.Outcomes.{read-refused, read-accepted}
 use Rattle.planner.proofs.Next.{checked, leaders-placed, choke-placed}
 use borrow.Author.Needs.{needs}
 use Rattle.planner.proofs.Small.read.Statement.{statement}
@@ -16,8 +17,8 @@ is-sound-requires : tie.Need-is-sound-requires
 is-sound-requires c κs = search needs
 
 returns : tie.Need-returns
-unfolding readRefusal
-returns c = read-refused _ _ _ _ _ _ (unsound-number _ (c .before .is-sound .ensures) (not-true _ (c .if1 .taken))) (λ z. omega arith)
+unfolding callRefusal conditions soundState
+returns c = read-refused _ _ _ (unsound-number _ (c .before .is-sound .ensures) (not-true _ (c .if1 .taken))) (λ z. omega arith)
 
 of-read-requires : tie.Need-of-read-requires
 of-read-requires c κs = search needs
@@ -29,9 +30,9 @@ same-length-2 : tie.Need-same-length-2
 same-length-2 c = search needs
 
 returns-2 : tie.Need-returns-2
-unfolding readRefusal
+unfolding callRefusal conditions soundState
 returns-2 c = let test = c .before .before .before .before in
-    read-refused _ _ _ _ _ _ (sound-number (test .before .is-sound .ensures) (not-false _ (test .if1 .left)) (c .before .of-read .ensures)) (c .if2 .taken)
+    read-refused _ _ _ (sound-number (test .before .is-sound .ensures) (not-false _ (test .if1 .left)) (c .before .of-read .ensures)) (c .if2 .taken)
 
 cast-end : tie.Need-cast-end
 cast-end c = search needs
@@ -56,14 +57,14 @@ same-length-4 : tie.Need-same-length-4
 same-length-4 c = search needs
 
 returns-3 : tie.Need-returns-3
-unfolding readRefusal firstLinks written
+unfolding callRefusal conditions soundState firstLinks written
 returns-3 c = let led = c .before .before .before .before .before .before .before in
     let asked = led .before .before .before in
     let test = asked .before .before .before in
     let sound = checked _ _ _ _ _ _ _ (test .before .is-sound .ensures) (test .if1 .left) in
-    let fit = read-fits _ _ _ _ (sym (asked .of-read .ensures) ∙ led .before .before .if2 .left) in
-    read-accepted _ _ _ _ _ _ (sound-number (test .before .is-sound .ensures) (not-false _ (test .if1 .left)) (asked .of-read .ensures)) (led .before .before .if2 .left) (leaders-placed _ _ _ _ _ _ _ _ sound (fit .1) (led .leaders .ensures .1))
-    (choke-placed _ _ _ _ _ _ _ _ sound (fit .2) (c .before .before .choke-set .ensures .1))
+    let allowed = read-allowed _ _ _ _ (sym (asked .of-read .ensures) ∙ led .before .before .if2 .left) in
+    read-accepted _ _ _ (sound-number (test .before .is-sound .ensures) (not-false _ (test .if1 .left)) (asked .of-read .ensures)) (led .before .before .if2 .left) (leaders-placed _ sound _ (allowed .1) (led .leaders .ensures .1))
+    (choke-placed _ sound _ (allowed .2) (c .before .before .choke-set .ensures .1))
 
 pub read-spec : {M : Type 1} → statement M
 read-spec =

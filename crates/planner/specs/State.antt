@@ -1,0 +1,29 @@
+-- 01, "The record": the small part and the lent lists, as every call is handed them.
+use Prim.Native.Nat.{ℕ}
+use mathlib.Core.Bool.{Bool}
+use mathlib.Core.List.{List}
+use Rattle.packing.specs.Plant.{common, firstLinks}
+use Rattle.sound.specs.Sound.{isSound}
+use Rattle.planner.specs.declared.Small.{Small}
+
+pub record State : Type 0 where
+  pub small : Small
+  pub links : List ℕ
+  pub order : List ℕ
+  pub holders : List ℕ
+
+-- the state that a small part and the lists make
+abbrev pub stateOf : Small → List ℕ → List ℕ → List ℕ → State
+stateOf s ls os hs = record { small = s; links = ls; order = os; holders = hs }
+
+-- its links: the first m of the lent list
+abbrev pub linksOf : State → List ℕ
+linksOf s = firstLinks (s .small .m) (s .links)
+
+-- how many each gateway may hold and lead: T for all
+unfoldable pub limitOf : State → ℕ → ℕ
+limitOf s = common (s .small .t)
+
+-- 26's condition is that this is false
+unfoldable pub soundState : State → Bool
+soundState s = isSound (s .small .n) (s .small .t) (s .small .m) (s .small .k) (s .links) (s .order) (s .holders)
