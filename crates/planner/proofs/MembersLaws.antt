@@ -10,8 +10,8 @@ use lib.Seq.{take-all, take-append-seam, length-take-le}
 use borrow.Author.Tests.{eq-eqb, ne-eqb, lt-ltb, le-ltb, ltb-false}
 use Rattle.packing.specs.Lists.{listWhere, written}
 use Rattle.packing.specs.Plant.{at}
-use Rattle.packing.specs.Grouping.{membersOf}
-use Rattle.packing.proofs.Lists.{written-front}
+use Rattle.packing.specs.Grouping.{memberCount, membersOf}
+use Rattle.packing.proofs.Lists.{listWhere-length, written-front}
 use Rattle.packing.specs.Refusals.{byNumber}
 use Rattle.planner.specs.Members.{listedLeaders, membersConditions, membersRefusal, membersPart, membersList}
 use Rattle.packing.proofs.Refusals.{refuse-none, refused, accepted}
@@ -41,6 +41,14 @@ listed-front l e =
 pub listed-long : (l : List ℕ) {end : ℕ} → end ≡ length (listedLeaders l) → end ≡ length (take end l)
 listed-long l e = sym (length-take-le _ l (listed-within l e))
 
+pub listed-room : (l : List ℕ) {end : ℕ} → end ≡ length (listedLeaders l) → length (take end l) ≤ 1024
+listed-room l e = rw (listed-front l e) (listed-few l)
+
+-- the count of members is the length of their list
+counted : (l : List ℕ) (u : ℕ) {c : ℕ} → c ≡ memberCount (length l) (at l) u → c ≡ length (membersOf (length l) (at l) u)
+unfolding memberCount membersOf
+counted l u e = e ∙ sym (listWhere-length _ _)
+
 -- each condition in its turn
 module _ (l : List ℕ) (u room : ℕ) where
   pub outside : length l ≤ u → 11 ≡ membersConditions l u room
@@ -52,19 +60,19 @@ module _ (l : List ℕ) (u room : ℕ) where
     unfolding membersConditions
     not-leading h = simp (lt-ltb u (length l) inside, ne-eqb (at l u) u h)
 
-    module _ (leads : at l u ≡ u) {c : ℕ} (number : c ≡ length (membersOf (length l) (at l) u)) where
+    module _ (leads : at l u ≡ u) {c : ℕ} (number : c ≡ memberCount (length l) (at l) u) where
       pub no-members : c ≡ 0 → 11 ≡ membersConditions l u room
       unfolding membersConditions
-      no-members h = simp (lt-ltb u (length l) inside, eq-eqb (at l u) u leads, ← number, eq-eqb c 0 h)
+      no-members h = simp (lt-ltb u (length l) inside, eq-eqb (at l u) u leads, ← counted l u number, eq-eqb c 0 h)
 
       module _ (some : c ≡ 0 → ⊥) where
         pub no-room : room < c → 10 ≡ membersConditions l u room
         unfolding membersConditions
-        no-room h = simp (lt-ltb u (length l) inside, eq-eqb (at l u) u leads, ← number, ne-eqb c 0 some, lt-ltb room c h)
+        no-room h = simp (lt-ltb u (length l) inside, eq-eqb (at l u) u leads, ← counted l u number, ne-eqb c 0 some, lt-ltb room c h)
 
         pub none-refused : c ≤ room → 0 ≡ membersConditions l u room
         unfolding membersConditions
-        none-refused h = simp (lt-ltb u (length l) inside, eq-eqb (at l u) u leads, ← number, ne-eqb c 0 some, le-ltb room c h)
+        none-refused h = simp (lt-ltb u (length l) inside, eq-eqb (at l u) u leads, ← counted l u number, ne-eqb c 0 some, le-ltb room c h)
 
 -- by the entries looked at, lent as a part of the list
 pub refusal-is : (leaders : List ℕ) (u room : ℕ) {end r : ℕ} → end ≡ length (listedLeaders leaders) → r ≡ membersConditions (take end leaders) u room → r ≡ membersRefusal leaders u room

@@ -25,7 +25,7 @@ pub(crate) fn with_none(n: usize, list: &mut [u16])
 {
     let mut i: usize = 0;
     while i < n {
-        list[i] = 65535;
+        list[i] = lists::NONE;
         i += 1;
     }
 }

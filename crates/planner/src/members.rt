@@ -1,8 +1,9 @@
 // A leader's members by a leader list.
+use lists::PLACES;
+use lists::counts::member_count;
+use lists::tests::is_member;
 ghost use mathlib.Core.Path.{_≡_};
-ghost use mathlib.Core.Bool.{not, _&&_};
 ghost use Prim.Native.Nat.{_≤_};
-ghost use lib.Dec.{eqb};
 ghost use lib.ListN.{length};
 ghost use Rattle.packing.specs.Lists.{written};
 ghost use Rattle.packing.specs.Plant.{at};
@@ -13,38 +14,15 @@ ghost use Rattle.planner.specs.Members.{listedLeaders, membersConditions
 fn looked_at(leaders: &[u16]) -> usize
     ensures { λ r. ⌜ r ≡ length (listedLeaders (now (leaders .entry))) ⌝ }
 {
-    if leaders.len() < 1024 {
+    if leaders.len() < PLACES {
         return leaders.len();
     }
-    1024
-}
-
-// Whether w, with this entry, is a member of u and not u itself.
-fn is_member(entry: u16, w: usize, u: u16) -> bool
-    ensures { λ r. ⌜ r ≡ (eqb entry u && not (eqb w u)) ⌝ }
-{
-    if entry == u {
-        return w != u as usize;
-    }
-    false
-}
-
-fn count_of(list: &[u16], u: u16) -> usize
-    ensures { λ r. ⌜ r ≡ length (membersOf (length (now (list .entry))) (at (now (list .entry))) u) ⌝ }
-{
-    let mut count: usize = 0;
-    let mut w: usize = 0;
-    while w < list.len() {
-        if is_member(list[w], w, u) {
-            count += 1;
-        }
-        w += 1;
-    }
-    count
+    PLACES
 }
 
 // The first refusal by a list whose entries all count.
 fn of_listed(list: &[u16], u: u16, room: usize) -> u32
+    requires { ⌜ length (now list) ≤ 1024 ⌝ }
     ensures { λ r. ⌜ r ≡ membersConditions (now (list .entry)) u room ⌝ }
 {
     let at = u as usize;
@@ -54,7 +32,7 @@ fn of_listed(list: &[u16], u: u16, room: usize) -> u32
     if list[at] != u {
         return 11;
     }
-    let count = count_of(list, u);
+    let count = member_count(list.len() as u16, list, u) as usize;
     if count == 0 {
         return 11;
     }
@@ -70,11 +48,12 @@ fn write_listed(list: &[u16], u: u16, out: &mut [u16]) -> usize
     ensures count { λ r. ⌜ r ≡ length (membersOf (length (now (list .entry))) (at (now (list .entry))) u) ⌝ }
     ensures out { λ r. ⌜ now (out .exit) ≡ written r (membersOf (length (now (list .entry))) (at (now (list .entry))) u) (now (out .entry)) ⌝ }
 {
+    let n = list.len() as u16;
     let mut count: usize = 0;
-    let mut w: usize = 0;
-    while w < list.len() {
-        if is_member(list[w], w, u) {
-            out[count] = w as u16;
+    let mut w: u16 = 0;
+    while w < n {
+        if is_member(list, u, w) {
+            out[count] = w;
             count += 1;
         }
         w += 1;

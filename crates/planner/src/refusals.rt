@@ -1,4 +1,8 @@
 // The first refusal of each call, in 01's turn; 0 where no condition holds.
+use lists::GATEWAYS;
+use lists::HIGHEST;
+use lists::LINKS;
+use lists::LOWEST;
 use sound::links::is_linked;
 ghost use mathlib.Core.Path.{_≡_};
 ghost use Prim.Native.Nat.{_≤_, _*_};
@@ -9,13 +13,13 @@ ghost use Rattle.planner.specs.Refusals.{openRefusal, linkConditions, or
 pub(crate) fn of_open(n: u16, t: u8, order: &[u16], holders: &[u16]) -> u32
     ensures { λ r. ⌜ r ≡ openRefusal n t (now (order .entry)) (now (holders .entry)) ⌝ }
 {
-    if 1024 < n {
+    if GATEWAYS < n {
         return 1;
     }
-    if t < 2 {
+    if t < LOWEST {
         return 2;
     }
-    if 16 < t {
+    if HIGHEST < t {
         return 2;
     }
     if order.len() < n as usize {
@@ -48,7 +52,7 @@ pub(crate) fn of_link(n: u16, k: u16, m: u16, links: &[u16], a: u16, b: u16) -> 
     if is_linked(&links[..end], a, b) {
         return 20;
     }
-    if m == 8192 {
+    if m == LINKS {
         return 21;
     }
     if links.len() < end + 2 {

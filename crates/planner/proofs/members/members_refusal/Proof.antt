@@ -1,5 +1,5 @@
 -- `members_refusal` meets its contract.
-use Rattle.planner.proofs.MembersLaws.{listed-long, refusal-is}
+use Rattle.planner.proofs.MembersLaws.{listed-long, listed-room, refusal-is}
 use borrow.Author.Needs.{needs}
 use Rattle.planner.proofs.members.members_refusal.Statement.{statement}
 use Rattle.planner.proofs.members.members_refusal.Tie as tie
@@ -11,7 +11,7 @@ slice-aggregate-of-listed : tie.Need-slice-aggregate-of-listed
 slice-aggregate-of-listed c = listed-long (c .before .before .before .args .leaders .now) (c .before .looked-at .ensures)
 
 of-listed-requires : tie.Need-of-listed-requires
-of-listed-requires c κs = search needs
+of-listed-requires c κs = listed-room (c .before .before .before .args .leaders .now) (c .before .looked-at .ensures)
 
 returns : tie.Need-returns
 returns c = refusal-is (c .before .before .before .before .args .leaders .now) _ _ (c .before .before .looked-at .ensures) (c .of-listed .ensures)

@@ -1,4 +1,4 @@
--- `write_listed` meets its contract: packing's laws of lists.
+-- The members are gathered in the order of their numbers: packing's laws of a loop that gathers.
 use borrow.Author.Needs.{needs}
 use Prim.Native.Nat.{_-_}
 use mathlib.Core.Logic.{⊎-elim}
@@ -11,37 +11,31 @@ use Rattle.planner.proofs.members.write_listed.Statement.{statement}
 use Rattle.planner.proofs.members.write_listed.Tie as tie
 
 abbrev Inv-loop : tie.InvT-loop
-Inv-loop list u out₀ count₀ w₀ out count w = Gathered (length list) (follows (at list) u) out₀ out count w
+Inv-loop list u out₀ n count₀ w₀ out count w = Gathered (length list) (follows (at list) u) out₀ out count w
 
 abbrev μ-loop : tie.MeasureT-loop
-μ-loop list u out₀ count₀ w₀ out count w = length list - w
+μ-loop list u out₀ n count₀ w₀ out count w = length list - w
+
+cast-n : tie.Need-cast-n Inv-loop μ-loop
+cast-n c = search needs
 
 loop-holds : tie.Need-loop-holds Inv-loop μ-loop
 loop-holds c = gather-start _ _ _
 
-mul-is-member : tie.Need-mul-is-member Inv-loop μ-loop
-mul-is-member c = search needs
-
-shared-slice-read-is-member : tie.Need-shared-slice-read-is-member Inv-loop μ-loop
-shared-slice-read-is-member c = search needs
-
 is-member-requires : tie.Need-is-member-requires Inv-loop μ-loop
 is-member-requires c κs = search needs
 
-cast-out : tie.Need-cast-out Inv-loop μ-loop
-cast-out c = search needs
-
 mul-out : tie.Need-mul-out Inv-loop μ-loop
-mul-out c = omega (arith, c .before .before .before .before .loop .inv .tallied .few)
+mul-out c = omega (arith, c .before .before .before .loop .inv .tallied .few)
 
 slice-write-out : tie.Need-slice-write-out Inv-loop μ-loop
 unfolding membersOf
-slice-write-out c = let turn = c .before .before .before in
+slice-write-out c = let turn = c .before .before in
     let inv = turn .before .loop .inv in
     omega (arith, inv .same, gather-place _ _ _ inv (turn .loop-test .taken) (c .before .is-member .ensures) (turn .before .before .before .before .pre .1) (c .if1 .taken))
 
 add-count : tie.Need-add-count Inv-loop μ-loop
-add-count c = omega (arith, c .before .before .before .before .loop .inv .tallied .few)
+add-count c = omega (arith, c .before .before .before .loop .inv .tallied .few)
 
 add-w : tie.Need-add-w Inv-loop μ-loop
 add-w c = search needs
@@ -51,7 +45,7 @@ loop-less c = search needs
 
 loop-again : tie.Need-loop-again Inv-loop μ-loop
 unfolding membersOf
-loop-again c = let turn = c .before .before .before in
+loop-again c = let turn = c .before .before in
     ⊎-elim (λ k. rw (k .1, k .2) (gather-more _ _ _ (turn .before .loop .inv) (turn .loop-test .taken) (c .before .is-member .ensures) (turn .before .before .before .before .pre .1) (k .0 .taken)))
     (λ k. rw (k .1, k .2) (gather-same _ _ _ (turn .before .loop .inv) (turn .loop-test .taken) (c .before .is-member .ensures) (k .0 .left)))
     (c .if1 .came)
@@ -69,11 +63,9 @@ write-listed-spec =
     (tie.spec
     Inv-loop
     μ-loop
+    cast-n
     loop-holds
-    mul-is-member
-    shared-slice-read-is-member
     is-member-requires
-    cast-out
     mul-out
     slice-write-out
     add-count
