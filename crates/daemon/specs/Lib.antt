@@ -1,4 +1,3 @@
--- The plan that a file stands for.
-pub mod Plan
-pub mod Pre
-pub mod Claim
+-- The calls from C: numbers and bytes.
+pub mod Bytes
+pub mod Groups

@@ -1,12 +1,11 @@
 // A plan as bytes.
 ghost use mathlib.Core.Path.{_≡_};
 ghost use Prim.Native.Nat.{_+_, _*_, _≤_, _/_, _%_};
-ghost use lib.ListN.{length};
+ghost use mathlib.Core.List.{_++_};
+ghost use lib.ListN.{length, take};
 ghost use lib.Seq.{sets};
 ghost use Rattle.packing.specs.Lists.{written};
-ghost use Rattle.plant_file.specs.PlantFile.{fileN};
-ghost use Rattle.daemon.specs.Plan.{lowFirst, planBytes};
-ghost use Rattle.daemon.specs.Pre.{Roomy};
+ghost use Rattle.daemon.specs.Bytes.{lowFirst, Plannable};
 
 fn low(x: u16) -> u8
     ensures { λ r. ⌜ r ≡ x % 256 ⌝ }
@@ -46,15 +45,11 @@ fn with_bytes(bytes: &[u8], start: usize, out: &mut [u8])
     }
 }
 
-// The leaders and the choke bytes of a file's plan.
-pub(crate) fn with_plan(file: &[u8], out: &mut [u8])
-    requires { ⌜ Roomy (now file) (now out) ⌝ }
-    ensures { λ _. ⌜ now (out .exit) ≡ written (3 * fileN (now (file .entry))) (planBytes (now (file .entry))) (now (out .entry)) ⌝ }
+// The first n of the leaders, and then the first n choke bytes.
+pub(crate) fn with_plan(n: usize, leaders: &[u16], choke: &[u8], out: &mut [u8])
+    requires { ⌜ Plannable n (now leaders) (now choke) (now out) ⌝ }
+    ensures { λ _. ⌜ now (out .exit) ≡ written (3 * n) (lowFirst (take n (now (leaders .entry))) ++ take n (now (choke .entry))) (now (out .entry)) ⌝ }
 {
-    let n = plant_file::gateways(file) as usize;
-    let mut leaders = crate::lists::numbers();
-    let mut choke = crate::lists::bytes();
-    crate::plan_lists(file, &mut leaders, &mut choke);
     with_numbers(&leaders[..n], out);
     with_bytes(&choke[..n], 2 * n, out);
 }

@@ -1,37 +1,38 @@
-// A plant file planned in one call: into lists of numbers, and for the C daemon into one list of bytes (01, "The plant file and the listing").
+// The call from C (01, "The plant file and the listing"): the plan of a plant file as one list of bytes.
 mod bytes;
-mod calls;
-mod checks;
-pub mod lists;
 
 ghost use mathlib.Core.Path.{_≡_};
+ghost use Prim.Native.Nat.{_*_, _≤_};
 ghost use lib.ListN.{length};
-ghost use Rattle.daemon.specs.Plan.{planRefusal, planLeaders, planChoke, callRefusal, callOut};
+ghost use Rattle.packing.specs.Lists.{written};
+ghost use Rattle.packing.specs.Refusals.{byNumber};
+ghost use Rattle.plant_file.specs.PlantFile.{fileN, fileRefusal};
+ghost use Rattle.daemon.specs.Groups.{planBytes, groupsRefusal, groupsOut};
 
-// The leader list and the choke bytes of a file's plan. The file's own refusal first, then 10 for a list too short; nothing is written on refusal.
-pub fn plan_lists(file: &[u8], leaders: &mut [u16], choke: &mut [u8]) -> u32
-    ensures answer { λ r. ⌜ r ≡ planRefusal (now (file .entry)) (length (now (leaders .entry))) (length (now (choke .entry))) ⌝ }
-    ensures leaders { λ _. ⌜ now (leaders .exit) ≡ planLeaders (now (file .entry)) (now (leaders .entry)) (now (choke .entry)) ⌝ }
-    ensures choke { λ _. ⌜ now (choke .exit) ≡ planChoke (now (file .entry)) (now (leaders .entry)) (now (choke .entry)) ⌝ }
+// Where the list is long enough. The file is checked by the plan alone.
+fn write_plan(file: &[u8], out: &mut [u8]) -> u32
+    requires { ⌜ 3 * fileN (now file) ≤ length (now out) ⌝ }
+    ensures answer { λ r. ⌜ r ≡ fileRefusal (now (file .entry)) ⌝ }
+    ensures out { λ _. ⌜ now (out .exit) ≡ byNumber (fileRefusal (now (file .entry))) (written (3 * fileN (now (file .entry))) (planBytes (now (file .entry))) (now (out .entry))) (now (out .entry)) ⌝ }
 {
-    let refused = checks::of_plan(file, leaders, choke);
+    let mut leaders = lists::marks::zeros();
+    let mut choke = lists::marks::bytes(0);
+    let refused = plan::plan_lists(file, &mut leaders, &mut choke);
     if refused != 0 {
         return refused;
     }
-    calls::read_all(file, leaders, choke);
+    bytes::with_plan(plant_file::gateways(file) as usize, &leaders, &choke, out);
     0
 }
 
 // The daemon's one call.
 #[no_mangle]
 pub extern "C" fn plan_groups(file: &[u8], out: &mut [u8]) -> u32
-    ensures answer { λ r. ⌜ r ≡ callRefusal (now (file .entry)) (length (now (out .entry))) ⌝ }
-    ensures out { λ _. ⌜ now (out .exit) ≡ callOut (now (file .entry)) (now (out .entry)) ⌝ }
+    ensures answer { λ r. ⌜ r ≡ groupsRefusal (now (file .entry)) (length (now (out .entry))) ⌝ }
+    ensures out { λ _. ⌜ now (out .exit) ≡ groupsOut (now (file .entry)) (now (out .entry)) ⌝ }
 {
-    let refused = checks::of_call(file, out);
-    if refused != 0 {
-        return refused;
+    if out.len() < 3 * (plant_file::gateways(file) as usize) {
+        return plant_file::refusal_then(file, true);
     }
-    bytes::with_plan(file, out);
-    0
+    write_plan(file, out)
 }

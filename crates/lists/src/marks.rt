@@ -1,4 +1,5 @@
 // Lists with a place for each gateway, to count or mark in.
+use crate::ENDS;
 use crate::PLACES;
 ghost use mathlib.Core.Path.{_≡_};
 ghost use mathlib.Core.Bool.{cond};
@@ -11,6 +12,13 @@ pub fn zeros() -> [u16; PLACES]
     ensures { λ r. ⌜ r ≡ replicate 1024 0 ⌝ }
 {
     [0u16; PLACES]
+}
+
+// Each entry 0, with two places for each link.
+pub fn ends() -> [u16; ENDS]
+    ensures { λ r. ⌜ r ≡ replicate 16384 0 ⌝ }
+{
+    [0u16; ENDS]
 }
 
 // Each entry 65535.

@@ -14,8 +14,8 @@ use Rattle.stars.specs.Stars.{leaderList}
 use Rattle.planner.specs.declared.Small.{Small}
 use Rattle.planner.specs.declared.Answer.{Answer}
 use Rattle.planner.specs.Refusals.{openRefusal}
-use Rattle.planner.specs.State.{State, linksOf, limitOf}
-use Rattle.planner.specs.Calls.{Outcome, outcome, answerOf, smallOpened, opened, openCall, Call, order, place, read, callRefusal, changed, call, readLeaders, readChoke}
+use Rattle.planner.specs.State.{State, stateOf, linksOf}
+use Rattle.planner.specs.Calls.{Outcome, outcome, answerOf, smallOpened, opened, openCall, Call, link, order, place, read, callRefusal, changed, call, readLeaders, readChoke}
 
 outcome-refused : (changed kept : State) {e r : ℕ} → e ≡ r → (e ≡ 0 → ⊥) → _≡_ {A = Outcome} (record { refusal = e; state = kept }) (outcome r changed kept)
 outcome-refused changed kept g h = λ i. record { refusal = g i; state = refused changed kept g h i }
@@ -40,6 +40,18 @@ module _ (n t : ℕ) (ls os hs : List ℕ) where
   open-accepted g z a b =
       let p = outcome-accepted (opened n t ls os hs) (record { small = smallOpened 0 2; links = ls; order = os; holders = hs }) g z in
       (ap answerOf p, (a ∙ ap (λ (o : Outcome). o .state .order) p, b ∙ ap (λ (o : Outcome). o .state .holders) p))
+
+  -- the links stay as they came
+  pub open-links : stateOf (openCall n t ls os hs .state .small) ls (openCall n t ls os hs .state .order) (openCall n t ls os hs .state .holders) ≡ openCall n t ls os hs .state
+  unfolding openCall opened
+  open-links = go (openRefusal n t os hs)
+    where
+      kept : State
+      kept = record { small = smallOpened 0 2; links = ls; order = os; holders = hs }
+
+      go : (e : ℕ) → stateOf (byNumber e (opened n t ls os hs) kept .small) ls (byNumber e (opened n t ls os hs) kept .order) (byNumber e (opened n t ls os hs) kept .holders) ≡ byNumber e (opened n t ls os hs) kept
+      go zero = refl
+      go (suc e) = refl
 
 -- any other call: its answer, and one of the record's lists
 module _ (s : State) (c : Call) where
@@ -75,3 +87,29 @@ module _ (s : State) (leaders choke : List ℕ) where
       → (_≡_ {A = Answer} (record { refusal = 0; small = s .small }) (answerOf (call s (read leaders choke)))) × ((leaders' ≡ readLeaders s leaders choke) × (choke' ≡ readChoke s leaders choke))
   unfolding readLeaders readChoke changed
   read-accepted g z p q = (ap answerOf (call-accepted s (read leaders choke) g z), (accepted _ _ g z p, accepted _ _ g z q))
+
+-- What a call leaves as it was, so that its answer and the list it may change make the record after it.
+module _ (s : State) where
+  pub link-state : (a b : ℕ) → stateOf (call s (link a b) .state .small) (call s (link a b) .state .links) (s .order) (s .holders) ≡ call s (link a b) .state
+  unfolding call changed
+  link-state a b = go (callRefusal s (link a b))
+    where
+      go : (e : ℕ) → stateOf (byNumber e (changed s (link a b)) s .small) (byNumber e (changed s (link a b)) s .links) (s .order) (s .holders) ≡ byNumber e (changed s (link a b)) s
+      go zero = refl
+      go (suc e) = refl
+
+  pub order-state : (numbers : List ℕ) → stateOf (call s (order numbers) .state .small) (s .links) (call s (order numbers) .state .order) (s .holders) ≡ call s (order numbers) .state
+  unfolding call changed
+  order-state numbers = go (callRefusal s (order numbers))
+    where
+      go : (e : ℕ) → stateOf (byNumber e (changed s (order numbers)) s .small) (s .links) (byNumber e (changed s (order numbers)) s .order) (s .holders) ≡ byNumber e (changed s (order numbers)) s
+      go zero = refl
+      go (suc e) = refl
+
+  pub place-state : stateOf (call s place .state .small) (s .links) (s .order) (call s place .state .holders) ≡ call s place .state
+  unfolding call changed
+  place-state = go (callRefusal s place)
+    where
+      go : (e : ℕ) → stateOf (byNumber e (changed s place) s .small) (s .links) (s .order) (byNumber e (changed s place) s .holders) ≡ byNumber e (changed s place) s
+      go zero = refl
+      go (suc e) = refl

@@ -1,0 +1,22 @@
+-- 01, "The plant file and the listing": "The daemon's one call takes the file's bytes and a lent byte list and returns 0 or a refusal number". file is the list of bytes.
+use Prim.Native.Nat.{ℕ, _*_}
+use mathlib.Core.List.{List, _++_}
+use lib.Dec.{ltb}
+use lib.ListN.{length}
+use Rattle.packing.specs.Lists.{written}
+use Rattle.packing.specs.Refusals.{byNumber}
+use Rattle.plant_file.specs.PlantFile.{fileN, fileThenShort}
+use Rattle.plan.specs.Plan.{fileLeaders, fileChoke}
+use Rattle.daemon.specs.Bytes.{lowFirst}
+
+-- "n leaders of two bytes, then n choke bytes of 0 or 1, 3n in all"
+unfoldable pub planBytes : List ℕ → List ℕ
+planBytes file = lowFirst (fileLeaders file) ++ fileChoke file
+
+-- the file's number, then 10: "the daemon's call needs 3n"
+unfoldable pub groupsRefusal : List ℕ → ℕ → ℕ
+groupsRefusal file outLen = fileThenShort file (ltb outLen (3 * fileN file))
+
+-- the lent list after the call; as it came on refusal
+unfoldable pub groupsOut : List ℕ → List ℕ → List ℕ
+groupsOut file out = byNumber (groupsRefusal file (length out)) (written (3 * fileN file) (planBytes file) out) out

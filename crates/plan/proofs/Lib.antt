@@ -1,0 +1,5 @@
+-- Laws of a file's plan, by subject.
+pub mod Refusing
+pub mod CallsInTurn
+pub mod ToldByFile
+pub mod FilePlan

@@ -1,0 +1,65 @@
+use Rattle.plan.proofs.CallsInTurn.{all-read}
+use borrow.Author.Needs.{needs}
+use Rattle.plan.proofs.calls.read_all.Statement.{statement}
+use Rattle.plan.proofs.calls.read_all.Tie as tie
+
+links-requires : tie.Need-links-requires
+links-requires c κs = search needs
+
+numbers-requires : tie.Need-numbers-requires
+numbers-requires c κs = search needs
+
+numbers-requires-2 : tie.Need-numbers-requires-2
+numbers-requires-2 c κs = search needs
+
+slice-aggregate-make : tie.Need-slice-aggregate-make
+slice-aggregate-make c = search needs
+
+slice-aggregate-make-2 : tie.Need-slice-aggregate-make-2
+slice-aggregate-make-2 c = search needs
+
+slice-aggregate-make-3 : tie.Need-slice-aggregate-make-3
+slice-aggregate-make-3 c = search needs
+
+make-requires : tie.Need-make-requires
+make-requires c κs = search needs
+
+slice-aggregate-read : tie.Need-slice-aggregate-read
+slice-aggregate-read c = search needs
+
+slice-aggregate-read-2 : tie.Need-slice-aggregate-read-2
+slice-aggregate-read-2 c = search needs
+
+slice-aggregate-read-3 : tie.Need-slice-aggregate-read-3
+slice-aggregate-read-3 c = search needs
+
+read-requires : tie.Need-read-requires
+read-requires c κs = search needs
+
+same-length : tie.Need-same-length
+same-length c = search needs
+
+same-length-2 : tie.Need-same-length-2
+same-length-2 c = search needs
+
+returns : tie.Need-returns
+returns c = all-read _ _ _ _ _ (c .before .before .before .before .before .before .before .before .before .before .before .before .before .before .before .before .before .before .before .links .ensures) (c .before .before .before .before .before .before .before .before .before .before .before .before .before .before .before .before .before .before .numbers .ensures) (c .before .before .before .before .before .before .before .before .before .before .before .before .before .before .before .before .before .numbers2 .ensures) (c .before .before .before .before .before .before .before .before .before .before .before .before .before .make .ensures) _ _ (c .before .before .before .before .read .ensures .1 .0) (c .before .before .before .before .read .ensures .1 .1)
+
+pub read-all-spec : {M : Type 1} → statement M
+read-all-spec =
+    tie.close
+    (tie.spec
+    links-requires
+    numbers-requires
+    numbers-requires-2
+    slice-aggregate-make
+    slice-aggregate-make-2
+    slice-aggregate-make-3
+    make-requires
+    slice-aggregate-read
+    slice-aggregate-read-2
+    slice-aggregate-read-3
+    read-requires
+    same-length
+    same-length-2
+    returns)

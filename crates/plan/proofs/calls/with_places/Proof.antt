@@ -1,0 +1,49 @@
+use borrow.Author.Needs.{needs}
+use Prim.Native.Nat.{_-_}
+use mathlib.Core.Path.{_≡_}
+use lib.ListN.{length}
+use Rattle.planner.specs.State.{stateOf}
+use Rattle.plan.proofs.CallsInTurn.{Places, places-start, places-turn, places-end}
+use Rattle.plan.proofs.calls.with_places.Statement.{statement}
+use Rattle.plan.proofs.calls.with_places.Tie as tie
+
+abbrev Inv-loop : tie.InvT-loop
+Inv-loop n links order holders₀ now₀ i₀ holders now i = Places n (stateOf now₀ links order holders₀) (stateOf now links order holders) i × (length holders ≡ length holders₀)
+
+abbrev μ-loop : tie.MeasureT-loop
+μ-loop n links order holders₀ now₀ i₀ holders now i = n - i
+
+loop-holds : tie.Need-loop-holds Inv-loop μ-loop
+loop-holds c = (places-start _, search needs)
+
+place-requires : tie.Need-place-requires Inv-loop μ-loop
+place-requires c κs = search needs
+
+add-i : tie.Need-add-i Inv-loop μ-loop
+add-i c = search needs
+
+loop-less : tie.Need-loop-less Inv-loop μ-loop
+loop-less c = search needs
+
+loop-again : tie.Need-loop-again Inv-loop μ-loop
+loop-again c = (places-turn _ (c .before .before .before .before .before .before .loop .inv .0) (c .before .before .before .before .before .loop-test .taken) (c .before .before .before .place .ensures .0) (c .before .before .before .place .ensures .1), search needs)
+
+same-length : tie.Need-same-length Inv-loop μ-loop
+same-length c = search needs
+
+returns : tie.Need-returns Inv-loop μ-loop
+returns c = places-end _ (c .before .loop .inv .0) (c .loop-test .left)
+
+pub with-places-spec : {M : Type 1} → statement M
+with-places-spec =
+    tie.close
+    (tie.spec
+    Inv-loop
+    μ-loop
+    loop-holds
+    place-requires
+    add-i
+    loop-less
+    loop-again
+    same-length
+    returns)

@@ -1,0 +1,4 @@
+-- The plan that a plant file stands for.
+pub mod Plan
+pub mod Pre
+pub mod Claim

@@ -1,0 +1,38 @@
+-- 01, "The plant file and the listing": the calls that a plant file stands for, the record that they make, and what a read of it writes. file is the list of bytes.
+use Prim.Native.Nat.{ℕ}
+use mathlib.Core.Bool.{_||_}
+use mathlib.Core.List.{List}
+use lib.Dec.{ltb}
+use lib.ListN.{length, replicate}
+use Rattle.packing.specs.Refusals.{byNumber}
+use Rattle.planner.specs.State.{State}
+use Rattle.planner.specs.Calls.{Call, readLeaders, readChoke}
+use Rattle.planner.specs.Run.{plantCalls}
+use Rattle.planner.specs.Claims.{madeBy}
+use Rattle.plant_file.specs.PlantFile.{fileN, fileT, fileLinks, fileOrder, fileThenShort}
+
+-- the list of calls that the file stands for: each link, the order, n placings
+unfoldable pub fileCalls : List ℕ → List Call
+fileCalls file = plantCalls (fileLinks file) (fileOrder file) (fileN file)
+
+-- the record that they make after an open with lists that have a place for every plant
+unfoldable pub fileState : List ℕ → State
+fileState file = madeBy (fileN file) (fileT file) (replicate 16384 0) (replicate 1024 0) (replicate 1024 0) (fileCalls file)
+
+-- the file's number, then 10: "read needs n for leaders and n for choke bytes"
+unfoldable pub planRefusal : List ℕ → ℕ → ℕ → ℕ
+planRefusal file leadersLen chokeLen = fileThenShort file (ltb leadersLen (fileN file) || ltb chokeLen (fileN file))
+
+-- the lent lists after a read of that record; as they came on refusal
+unfoldable pub planLeaders : List ℕ → List ℕ → List ℕ → List ℕ
+planLeaders file leaders choke = byNumber (planRefusal file (length leaders) (length choke)) (readLeaders (fileState file) leaders choke) leaders
+
+unfoldable pub planChoke : List ℕ → List ℕ → List ℕ → List ℕ
+planChoke file leaders choke = byNumber (planRefusal file (length leaders) (length choke)) (readChoke (fileState file) leaders choke) choke
+
+-- what a plan of the file writes into lists of n entries
+unfoldable pub fileLeaders : List ℕ → List ℕ
+fileLeaders file = planLeaders file (replicate (fileN file) 0) (replicate (fileN file) 0)
+
+unfoldable pub fileChoke : List ℕ → List ℕ
+fileChoke file = planChoke file (replicate (fileN file) 0) (replicate (fileN file) 0)

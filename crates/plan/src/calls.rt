@@ -1,0 +1,93 @@
+// The planner's calls that a file stands for, one after the other, on lists with a place for every plant.
+use planner::Small;
+use plant_file::reader::Step;
+ghost use mathlib.Core.Path.{_≡_};
+ghost use Rattle.planner.specs.State.{stateOf};
+ghost use Rattle.planner.specs.Calls as calls;
+ghost use Rattle.planner.specs.Calls.{call, readLeaders, readChoke};
+ghost use Rattle.planner.specs.Run.{run, linkCalls, placeCalls};
+ghost use Rattle.planner.specs.Claims.{madeBy};
+ghost use Rattle.plant_file.specs.PlantFile.{fileN, fileT, fileLinks, fileOrder, fileRefusal};
+ghost use Rattle.plant_file.specs.Reader.{linkAt};
+ghost use Rattle.plan.specs.Plan.{fileCalls, fileState};
+ghost use Rattle.plan.specs.Pre.{linkStep};
+
+// The call for the link at an index.
+fn with_link(
+    file: &[u8],
+    i: usize,
+    s: Small,
+    links: &mut [u16],
+    order: &[u16],
+    holders: &[u16],
+) -> Small
+    ensures { λ r. ⌜ stateOf r (now (links .exit)) (now (order .entry)) (now (holders .entry)) ≡ linkStep (linkAt (now (file .entry)) i) (stateOf s (now (links .entry)) (now (order .entry)) (now (holders .entry))) ⌝ }
+{
+    let Step::Link(a, b) = plant_file::reader::link_of(file, i) else {
+        return s;
+    };
+    s.link(links, order, holders, a, b).small
+}
+
+// The calls for all the file's links.
+fn with_links(file: &[u8], s: Small, links: &mut [u16], order: &[u16], holders: &[u16]) -> Small
+    ensures { λ r. ⌜ stateOf r (now (links .exit)) (now (order .entry)) (now (holders .entry)) ≡ run (stateOf s (now (links .entry)) (now (order .entry)) (now (holders .entry))) (linkCalls (fileLinks (now (file .entry)))) ⌝ }
+{
+    let m = plant_file::link_count(file) as usize;
+    let mut now = s;
+    let mut i: usize = 0;
+    while i < m {
+        now = with_link(file, i, now, links, order, holders);
+        i += 1;
+    }
+    now
+}
+
+// The call for the file's order.
+fn with_order(file: &[u8], s: Small, links: &[u16], order: &mut [u16], holders: &[u16]) -> Small
+    requires { ⌜ fileRefusal (now file) ≡ 0 ⌝ }
+    ensures { λ r. ⌜ stateOf r (now (links .entry)) (now (order .exit)) (now (holders .entry)) ≡ call (stateOf s (now (links .entry)) (now (order .entry)) (now (holders .entry))) (calls.order (fileOrder (now (file .entry)))) .state ⌝ }
+{
+    let n = plant_file::gateways(file) as usize;
+    let mut numbers = lists::marks::zeros();
+    plant_file::order(file, &mut numbers);
+    s.order(links, order, holders, &numbers[..n]).small
+}
+
+// The placings.
+fn with_places(n: u16, s: Small, links: &[u16], order: &[u16], holders: &mut [u16]) -> Small
+    ensures { λ r. ⌜ stateOf r (now (links .entry)) (now (order .entry)) (now (holders .exit)) ≡ run (stateOf s (now (links .entry)) (now (order .entry)) (now (holders .entry))) (placeCalls n) ⌝ }
+{
+    let mut now = s;
+    let mut i: u16 = 0;
+    while i < n {
+        now = now.place(links, order, holders).small;
+        i += 1;
+    }
+    now
+}
+
+// Open, and then all of them.
+fn make(file: &[u8], links: &mut [u16], order: &mut [u16], holders: &mut [u16]) -> Small
+    requires { ⌜ fileRefusal (now file) ≡ 0 ⌝ }
+    ensures { λ r. ⌜ stateOf r (now (links .exit)) (now (order .exit)) (now (holders .exit)) ≡ madeBy (fileN (now (file .entry))) (fileT (now (file .entry))) (now (links .entry)) (now (order .entry)) (now (holders .entry)) (fileCalls (now (file .entry))) ⌝ }
+{
+    let n = plant_file::gateways(file);
+    let opened = Small::open(n, plant_file::limit(file), links, order, holders).small;
+    let linked = with_links(file, opened, links, order, holders);
+    let ordered = with_order(file, linked, links, order, holders);
+    with_places(n, ordered, links, order, holders)
+}
+
+// The record made, and read into the lent lists.
+pub(crate) fn read_all(file: &[u8], leaders: &mut [u16], choke: &mut [u8])
+    requires { ⌜ fileRefusal (now file) ≡ 0 ⌝ }
+    ensures leaders { λ _. ⌜ now (leaders .exit) ≡ readLeaders (fileState (now (file .entry))) (now (leaders .entry)) (now (choke .entry)) ⌝ }
+    ensures choke { λ _. ⌜ now (choke .exit) ≡ readChoke (fileState (now (file .entry))) (now (leaders .entry)) (now (choke .entry)) ⌝ }
+{
+    let mut links = lists::marks::ends();
+    let mut order = lists::marks::zeros();
+    let mut holders = lists::marks::zeros();
+    let s = make(file, &mut links, &mut order, &mut holders);
+    s.read(&links, &order, &holders, leaders, choke);
+}
