@@ -6,7 +6,7 @@ use mathlib.Core.List.{List}
 use lib.Dec.{ltb}
 use Rattle.packing.specs.Plant.{NONE, at}
 use Rattle.packing.specs.Lists.{listOf, written}
-use Rattle.stars.specs.Stars.{onCycle, nextOnCycle, leadsIn, leadsInTrees, cut, leads, leaderOf, ruleFive, leaderList}
+use Rattle.stars.specs.Stars.{onCycle, nextOnCycle, leadsIn, leadsInTrees, cut, leads, leaderOf, ruleFive, leaderListBy, leaderList}
 use Rattle.stars.specs.Pre.{Table, Marks, Ruled, marked}
 use Rattle.stars.proofs.Tables.{read-mark, mark}
 use Rattle.stars.proofs.Passes.{leadsIn-ext}
@@ -46,6 +46,6 @@ module _ {n : ℕ} {hs cs ds ls : List ℕ} (r : Ruled n hs cs ds ls) (v : ℕ) 
 -- the list by rule 5 over the array of leaders is the leader list
 pub list-joined : (n : ℕ) (hs old : List ℕ) {gs new : List ℕ} → Table n (leaderOf n hs) gs → new ≡ written n (listOf n (ruleFive ltb n (at gs))) old
     → new ≡ written n (listOf n (leaderList n hs)) old
-unfolding leaderList
+unfolding leaderList leaderListBy
 list-joined n hs old {gs} t e =
     e ∙ ap (λ (l : List ℕ). written n l old) (listOf-ext n (ruleFive ltb n (at gs)) (ruleFive ltb n (leaderOf n hs)) (five-ext n (at gs) (leaderOf n hs) (t .entry) ltb))
