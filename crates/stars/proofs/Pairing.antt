@@ -1,16 +1,11 @@
 -- One entry of rule 5, as the code finds it.
 use Prim.Native.Nat.{ℕ, _<_, _≤_}
 use mathlib.Core.Path.{_≡_, sym, ap, _∙_}
-use mathlib.Core.Bool.{Bool, not, _&&_}
+use mathlib.Core.Bool.{Bool}
 use native.Mathlib.Omega.{arith}
-use lib.Dec.{eqb}
 use Rattle.packing.specs.Grouping.{memberCount}
 use Rattle.stars.specs.Stars.{pairLeader, partner, ruleFive}
 use Rattle.stars.proofs.Five.{five-pair, five-keeps}
-
--- the test of one gateway for the group of u
-pub member-test : (g : ℕ → ℕ) (u w : ℕ) {e : ℕ} {b : Bool} → e ≡ g w → b ≡ (eqb e u && not (eqb w u)) → b ≡ (eqb (g w) u && not (eqb w u))
-member-test g u w e f = rw e at f
 
 module _ (p : ℕ → ℕ → Bool) (n : ℕ) (g : ℕ → ℕ) (v : ℕ) {u : ℕ} (here : u ≡ g v) where
   pub entry-none : n ≤ u → u ≡ ruleFive p n g v

@@ -19,8 +19,9 @@ zero-at zero v = refl
 zero-at (suc n) zero = refl
 zero-at (suc n) (suc v) = zero-at n v
 
-pub blank : Blank (replicate 1024 0)
-blank = record { long = refl; zero = zero-at 1024 }
+-- an array of zeros has nothing marked
+pub blank : {l : List ℕ} → l ≡ replicate 1024 0 → Blank l
+blank e = rw e record { long = refl; zero = zero-at 1024 }
 
 -- a loop that fills an array has filled it below v
 pub record Filled (n : ℕ) (f : ℕ → ℕ) (l : List ℕ) (v : ℕ) : Type 0 where

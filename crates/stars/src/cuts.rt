@@ -1,9 +1,10 @@
 // The arcs that are cut: those into a cycle's leaders, or into its lowest number where none of it leads.
-use crate::marks::bit;
-use crate::marks::both;
-use crate::marks::is_marked;
-use crate::marks::zeros;
-use crate::walks::holder_of;
+use crate::arcs::holder_of;
+use lists::PLACES;
+use lists::marks::is_marked;
+use lists::marks::zeros;
+use lists::tests::bit;
+use lists::tests::both;
 ghost use mathlib.Core.Path.{_≡_};
 ghost use mathlib.Core.Bool.{not, _&&_};
 ghost use Prim.Native.Nat.{_<_};
@@ -54,7 +55,7 @@ fn is_cut(n: u16, holders: &[u16], cycles: &[u16], trees: &[u16], v: u16) -> boo
 }
 
 // Marks each gateway whose arc is cut.
-pub(crate) fn cut_arcs(n: u16, holders: &[u16], cycles: &[u16], trees: &[u16]) -> [u16; 1024]
+pub(crate) fn cut_arcs(n: u16, holders: &[u16], cycles: &[u16], trees: &[u16]) -> [u16; PLACES]
     requires { ⌜ Treed n (now holders) (now cycles) (now trees) ⌝ }
     ensures { λ r. ⌜ Marks n (cut n (now (holders .entry))) r ⌝ }
 {

@@ -3,7 +3,7 @@ use borrow.Author.Needs.{needs}
 use Prim.Native.Nat.{_-_}
 use Rattle.packing.specs.Count.{pick}
 use Rattle.stars.specs.Stars.{cut}
-use Rattle.stars.proofs.Tables.{Filled, fill-start, fill-turn, fill-end, mark}
+use Rattle.stars.proofs.Tables.{blank, Filled, fill-start, fill-turn, fill-end, mark}
 use Rattle.stars.proofs.cuts.cut_arcs.Statement.{statement}
 use Rattle.stars.proofs.cuts.cut_arcs.Tie as tie
 
@@ -17,7 +17,7 @@ zeros-requires : tie.Need-zeros-requires Inv-loop μ-loop
 zeros-requires c κs = search needs
 
 loop-holds : tie.Need-loop-holds Inv-loop μ-loop
-loop-holds c = fill-start _ _ (c .zeros .ensures)
+loop-holds c = fill-start _ _ (blank (c .zeros .ensures))
 
 cast-place : tie.Need-cast-place Inv-loop μ-loop
 cast-place c = search needs

@@ -2,7 +2,7 @@
 use borrow.Author.Needs.{needs}
 use Prim.Native.Nat.{_-_}
 use Rattle.stars.specs.Stars.{leaderOf}
-use Rattle.stars.proofs.Tables.{Filled, fill-start, fill-turn, fill-end}
+use Rattle.stars.proofs.Tables.{blank, Filled, fill-start, fill-turn, fill-end}
 use Rattle.stars.proofs.reading.leaders_of.Statement.{statement}
 use Rattle.stars.proofs.reading.leaders_of.Tie as tie
 
@@ -16,7 +16,7 @@ zeros-requires : tie.Need-zeros-requires Inv-loop μ-loop
 zeros-requires c κs = search needs
 
 loop-holds : tie.Need-loop-holds Inv-loop μ-loop
-loop-holds c = fill-start _ _ (c .zeros .ensures)
+loop-holds c = fill-start _ _ (blank (c .zeros .ensures))
 
 cast-place : tie.Need-cast-place Inv-loop μ-loop
 cast-place c = search needs

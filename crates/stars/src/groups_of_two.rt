@@ -1,13 +1,12 @@
-// Rule 5, over any grouping.
-use crate::marks::bit;
-use crate::marks::entry;
+// Rule 5, over any grouping: who leads a group of two.
+use lists::counts::member_count;
+use lists::entry;
+use lists::tests::is_member;
 ghost use mathlib.Core.Path.{_≡_};
-ghost use mathlib.Core.Bool.{not, _&&_};
 ghost use Prim.Native.Nat.{_<_, _≤_};
-ghost use lib.Dec.{eqb, ltb};
+ghost use lib.Dec.{ltb};
 ghost use lib.ListN.{length};
 ghost use Rattle.packing.specs.Plant.{at};
-ghost use Rattle.packing.specs.Grouping.{memberCount};
 ghost use Rattle.packing.specs.Lists.{listOf, written};
 ghost use Rattle.stars.specs.Stars.{pairLeader, partner, ruleFive};
 ghost use Rattle.stars.specs.Pre.{Entries};
@@ -28,38 +27,14 @@ fn pair_leader(a: u16, b: u16) -> u16
     b
 }
 
-// Whether w, with the entry g, is another one of u's group.
-fn is_member(g: u16, w: u16, u: u16) -> bool
-    ensures { λ r. ⌜ r ≡ (eqb g u && not (eqb w u)) ⌝ }
-{
-    if g == u {
-        return w != u;
-    }
-    false
-}
-
-// How many others have u's number as their entry.
-fn member_count(n: u16, groups: &[u16], u: u16) -> u16
-    requires { ⌜ Entries n (now groups) ⌝ }
-    ensures { λ r. ⌜ r ≡ memberCount n (at (now (groups .entry))) u ⌝ }
-{
-    let mut k: u16 = 0;
-    let mut w: u16 = 0;
-    while w < n {
-        k += bit(is_member(entry(groups, w), w, u));
-        w += 1;
-    }
-    k
-}
-
-// The lowest of these; n where there is none.
+// The lowest other with u's number as its entry; n where there is none.
 fn partner_of(n: u16, groups: &[u16], u: u16) -> u16
     requires { ⌜ Entries n (now groups) ⌝ }
     ensures { λ r. ⌜ r ≡ partner n (at (now (groups .entry))) u ⌝ }
 {
     let mut w: u16 = 0;
     while w < n {
-        if is_member(entry(groups, w), w, u) {
+        if is_member(groups, u, w) {
             return w;
         }
         w += 1;

@@ -2,8 +2,8 @@
 use borrow.Author.Tests.{lt-ltb, le-ltb}
 use Rattle.stars.specs.Stars.{holder}
 use borrow.Author.Needs.{needs}
-use Rattle.stars.proofs.walks.holder_of.Statement.{statement}
-use Rattle.stars.proofs.walks.holder_of.Tie as tie
+use Rattle.stars.proofs.arcs.holder_of.Statement.{statement}
+use Rattle.stars.proofs.arcs.holder_of.Tie as tie
 
 entry-requires : tie.Need-entry-requires
 entry-requires c κs = search needs

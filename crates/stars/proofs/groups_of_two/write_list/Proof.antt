@@ -5,8 +5,8 @@ use lib.Dec.{ltb}
 use Rattle.packing.specs.Plant.{at}
 use Rattle.stars.specs.Stars.{ruleFive}
 use Rattle.packing.proofs.Lists.{Listed, list-start, list-turn, list-end}
-use Rattle.stars.proofs.pairs.write_list.Statement.{statement}
-use Rattle.stars.proofs.pairs.write_list.Tie as tie
+use Rattle.stars.proofs.groups_of_two.write_list.Statement.{statement}
+use Rattle.stars.proofs.groups_of_two.write_list.Tie as tie
 
 abbrev Inv-loop : tie.InvT-loop
 Inv-loop n groups out₀ v₀ out v = Listed n (ruleFive ltb n (at groups)) out₀ out v

@@ -3,8 +3,8 @@ use lib.Dec.{ltb}
 use Rattle.packing.specs.Plant.{at}
 use Rattle.stars.proofs.Pairing.{entry-none, entry-more, entry-pair}
 use borrow.Author.Needs.{needs}
-use Rattle.stars.proofs.pairs.rule_five.Statement.{statement}
-use Rattle.stars.proofs.pairs.rule_five.Tie as tie
+use Rattle.stars.proofs.groups_of_two.rule_five.Statement.{statement}
+use Rattle.stars.proofs.groups_of_two.rule_five.Tie as tie
 
 entry-requires : tie.Need-entry-requires
 entry-requires c κs = search needs

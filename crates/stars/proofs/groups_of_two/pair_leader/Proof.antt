@@ -2,8 +2,8 @@
 use mathlib.Core.Path.{sym, _∙_}
 use Rattle.stars.specs.Stars.{pairLeader}
 use borrow.Author.Needs.{needs}
-use Rattle.stars.proofs.pairs.pair_leader.Statement.{statement}
-use Rattle.stars.proofs.pairs.pair_leader.Tie as tie
+use Rattle.stars.proofs.groups_of_two.pair_leader.Statement.{statement}
+use Rattle.stars.proofs.groups_of_two.pair_leader.Tie as tie
 
 leads-pair-requires : tie.Need-leads-pair-requires
 leads-pair-requires c κs = search needs

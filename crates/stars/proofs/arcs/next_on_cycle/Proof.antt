@@ -7,8 +7,8 @@ use Rattle.packing.specs.Plant.{at}
 use Rattle.stars.specs.Stars.{onCycle, nextOnCycle}
 use Rattle.stars.proofs.Loops.{Sought, seek-start, seek-turn, seek-found, seek-end}
 use Rattle.stars.proofs.Backs.{next-test}
-use Rattle.stars.proofs.walks.next_on_cycle.Statement.{statement}
-use Rattle.stars.proofs.walks.next_on_cycle.Tie as tie
+use Rattle.stars.proofs.arcs.next_on_cycle.Statement.{statement}
+use Rattle.stars.proofs.arcs.next_on_cycle.Tie as tie
 
 abbrev Inv-loop : tie.InvT-loop
 Inv-loop n holders cycles v w₀ w = Sought n (λ x. onCycle n holders x && eqb (at holders x) v) w

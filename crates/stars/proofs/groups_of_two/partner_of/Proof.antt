@@ -1,17 +1,15 @@
 -- `partner_of` meets its contract: a search.
 use borrow.Author.Needs.{needs}
 use Prim.Native.Nat.{_-_}
-use mathlib.Core.Bool.{not, _&&_}
-use lib.Dec.{eqb}
 use Rattle.packing.specs.Plant.{at}
+use Rattle.packing.specs.Grouping.{follows}
 use Rattle.stars.specs.Stars.{partner}
 use Rattle.stars.proofs.Loops.{Sought, seek-start, seek-turn, seek-found, seek-end}
-use Rattle.stars.proofs.Pairing.{member-test}
-use Rattle.stars.proofs.pairs.partner_of.Statement.{statement}
-use Rattle.stars.proofs.pairs.partner_of.Tie as tie
+use Rattle.stars.proofs.groups_of_two.partner_of.Statement.{statement}
+use Rattle.stars.proofs.groups_of_two.partner_of.Tie as tie
 
 abbrev Inv-loop : tie.InvT-loop
-Inv-loop n groups u w₀ w = Sought n (λ x. eqb (at groups x) u && not (eqb x u)) w
+Inv-loop n groups u w₀ w = Sought n (follows (at groups) u) w
 
 abbrev μ-loop : tie.MeasureT-loop
 μ-loop n groups u w₀ w = n - w
@@ -19,16 +17,13 @@ abbrev μ-loop : tie.MeasureT-loop
 loop-holds : tie.Need-loop-holds Inv-loop μ-loop
 loop-holds c = seek-start _ _
 
-entry-requires : tie.Need-entry-requires Inv-loop μ-loop
-entry-requires c κs = search needs
-
 is-member-requires : tie.Need-is-member-requires Inv-loop μ-loop
 is-member-requires c κs = search needs
 
 returns : tie.Need-returns Inv-loop μ-loop
 unfolding partner
-returns c = let turn = c .before .before .before in
-    seek-found _ _ (turn .before .loop .inv) (turn .loop-test .taken) (member-test (at (turn .before .before .before .args .groups .now)) _ _ (c .before .before .entry .ensures) (c .before .is-member .ensures)) (c .if1 .taken)
+returns c = let turn = c .before .before in
+    seek-found _ _ (turn .before .loop .inv) (turn .loop-test .taken) (c .before .is-member .ensures) (c .if1 .taken)
 
 add-w : tie.Need-add-w Inv-loop μ-loop
 add-w c = search needs
@@ -37,8 +32,8 @@ loop-less : tie.Need-loop-less Inv-loop μ-loop
 loop-less c = search needs
 
 loop-again : tie.Need-loop-again Inv-loop μ-loop
-loop-again c = let turn = c .before .before .before in
-    seek-turn _ _ (turn .before .loop .inv) (turn .loop-test .taken) (member-test (at (turn .before .before .before .args .groups .now)) _ _ (c .before .before .entry .ensures) (c .before .is-member .ensures)) (c .if1 .left)
+loop-again c = let turn = c .before .before in
+    seek-turn _ _ (turn .before .loop .inv) (turn .loop-test .taken) (c .before .is-member .ensures) (c .if1 .left)
 
 returns-2 : tie.Need-returns-2 Inv-loop μ-loop
 unfolding partner
@@ -51,7 +46,6 @@ partner-of-spec =
     Inv-loop
     μ-loop
     loop-holds
-    entry-requires
     is-member-requires
     returns
     add-w

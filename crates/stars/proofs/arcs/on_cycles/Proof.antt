@@ -3,9 +3,9 @@ use borrow.Author.Needs.{needs}
 use Prim.Native.Nat.{_-_}
 use Rattle.packing.specs.Count.{pick}
 use Rattle.stars.specs.Stars.{onCycle}
-use Rattle.stars.proofs.Tables.{Filled, fill-start, fill-turn, fill-end, mark}
-use Rattle.stars.proofs.walks.on_cycles.Statement.{statement}
-use Rattle.stars.proofs.walks.on_cycles.Tie as tie
+use Rattle.stars.proofs.Tables.{blank, Filled, fill-start, fill-turn, fill-end, mark}
+use Rattle.stars.proofs.arcs.on_cycles.Statement.{statement}
+use Rattle.stars.proofs.arcs.on_cycles.Tie as tie
 
 abbrev Inv-loop : tie.InvT-loop
 Inv-loop n holders cycles₀ v₀ cycles v = Filled n (λ w. pick (onCycle n holders w) 1) cycles v
@@ -17,7 +17,7 @@ zeros-requires : tie.Need-zeros-requires Inv-loop μ-loop
 zeros-requires c κs = search needs
 
 loop-holds : tie.Need-loop-holds Inv-loop μ-loop
-loop-holds c = fill-start _ _ (c .zeros .ensures)
+loop-holds c = fill-start _ _ (blank (c .zeros .ensures))
 
 cast-place : tie.Need-cast-place Inv-loop μ-loop
 cast-place c = search needs

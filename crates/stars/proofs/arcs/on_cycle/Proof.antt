@@ -2,8 +2,8 @@
 use borrow.Author.Needs.{needs}
 use Prim.Native.Nat.{_-_}
 use Rattle.stars.proofs.Backs.{Walked, walk-start, walk-turn, walk-end}
-use Rattle.stars.proofs.walks.on_cycle.Statement.{statement}
-use Rattle.stars.proofs.walks.on_cycle.Tie as tie
+use Rattle.stars.proofs.arcs.on_cycle.Statement.{statement}
+use Rattle.stars.proofs.arcs.on_cycle.Tie as tie
 
 abbrev Inv-loop : tie.InvT-loop
 Inv-loop n holders v found₀ u₀ i₀ found u i = Walked n holders v i u found

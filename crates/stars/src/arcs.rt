@@ -1,10 +1,12 @@
 // The arcs back from a gateway, and the cycles.
-use crate::marks::bit;
-use crate::marks::both;
-use crate::marks::either;
-use crate::marks::entry;
-use crate::marks::is_marked;
-use crate::marks::zeros;
+use lists::NONE;
+use lists::PLACES;
+use lists::entry;
+use lists::marks::is_marked;
+use lists::marks::zeros;
+use lists::tests::bit;
+use lists::tests::both;
+use lists::tests::either;
 ghost use mathlib.Core.Path.{_≡_};
 ghost use Rattle.stars.specs.Stars.{holder, onCycle, nextOnCycle};
 ghost use Rattle.stars.specs.Pre.{Entries, Marks, Cycled};
@@ -17,7 +19,7 @@ pub(crate) fn holder_of(n: u16, holders: &[u16], v: u16) -> u16
     if v < n {
         return entry(holders, v);
     }
-    65535
+    NONE
 }
 
 // Whether some arcs back from v, at most n, is v again.
@@ -37,7 +39,7 @@ fn on_cycle(n: u16, holders: &[u16], v: u16) -> bool
 }
 
 // Marks each gateway on a cycle.
-pub(crate) fn on_cycles(n: u16, holders: &[u16]) -> [u16; 1024]
+pub(crate) fn on_cycles(n: u16, holders: &[u16]) -> [u16; PLACES]
     requires { ⌜ Entries n (now holders) ⌝ }
     ensures { λ r. ⌜ Marks n (onCycle n (now (holders .entry))) r ⌝ }
 {
