@@ -16,7 +16,7 @@ use Rattle.packing.proofs.Groupings.{Sym, Loopless, follows-is, follows-means}
 use Rattle.stars.specs.Stars.{back, onCycle, nextOnCycle, leadsInTrees, cut, leads, leaderOf, leaderListBy, leaderList}
 use Rattle.stars.proofs.Cycles.{holder-at, back-holder, cycle-round, cycle-only, next-held, next-only}
 use Rattle.stars.proofs.Leads.{Begins, begins-means, cut-begins, trees-child, leads-child, leads-tree, leads-more}
-use Rattle.stars.proofs.Five.{Kind, alone-is, leader-is, member-is, ruleFive-covered, ruleFive-grouping}
+use Rattle.stars.proofs.RuleFive.{Kind, alone-is, leader-is, member-is, ruleFive-covered, ruleFive-grouping}
 
 -- the entry by rules 1 to 4, case by case
 module _ (n : ℕ) (hs : List ℕ) (v : ℕ) where
@@ -44,7 +44,7 @@ module _ (n : ℕ) (hs : List ℕ) (few : n ≤ NONE) where
   cut-starts v l e c =
       begins-means n hs (sym (cut-begins n hs v (not-test (leadsInTrees n hs v) (λ t. clash _ (leads-more n hs few v l t) e))) ∙ c)
 
-  -- the walk back from the holder of a gateway on a cycle comes to the gateway
+  -- the way back from the holder of a gateway on a cycle comes to the gateway
   cycle-behind : (u v : ℕ) → u < n → onCycle n hs u ≡ true → at hs u ≡ v → (i : ℕ) × (back n hs i v ≡ u)
   cycle-behind u v l o e = let (i, m, r, _) = cycle-round n hs u o in (i, rw (← e, ← holder-at n hs u l) (back-holder n hs i u ∙ r))
 

@@ -10,10 +10,10 @@ use Rattle.packing.specs.Grouping.{memberCount}
 use Rattle.packing.proofs.Tests.{by-bool}
 use Rattle.stars.specs.Stars.{leaderOf, partner, leaderListBy}
 use Rattle.stars.specs.Rules.{RuleFive, ByRules}
-use Rattle.stars.proofs.Five.{partner-found, partner-only, two-cases, members-ext}
+use Rattle.stars.proofs.RuleFive.{partner-found, partner-only, two-cases, members-ext}
 use Rattle.stars.proofs.Groups.{leaderOf-own}
 use Rattle.stars.proofs.Rules.{list-holds}
-use Rattle.stars.proofs.Names.{entry-only}
+use Rattle.stars.proofs.NamedEntries.{entry-only}
 
 -- Rule 5 goes by the entries below n, and changes them in one way where each leader leads itself.
 five-agrees : {leadsPair : ℕ → ℕ → Bool} (n : ℕ) (g g' : ℕ → ℕ) → ((w : ℕ) → w < n → g w ≡ g' w) → {list : ℕ → ℕ} → RuleFive leadsPair n g list → RuleFive leadsPair n g' list

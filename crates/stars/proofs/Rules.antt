@@ -14,9 +14,9 @@ use Rattle.stars.specs.Stars.{leadsInTrees, leaderOf, pairLeader, ruleFi
 use Rattle.stars.specs.Rules.{RuleOne, RuleTwo, Leaderless, Pair, RuleThree, RuleFour, Itself, RuleFive, OneToFour, ByRules}
 use Rattle.stars.proofs.Cycles.{cycle-held, next-only}
 use Rattle.stars.proofs.Leads.{cut-cycle, trees-child, leads-tree, leads-more}
-use Rattle.stars.proofs.Runs.{idle, pairs}
-use Rattle.stars.proofs.Stretches.{leaderless-stretch, run-kept, run-stretch}
-use Rattle.stars.proofs.Five.{partner-only, five-pair, five-keeps}
+use Rattle.stars.proofs.Stretches.{idle, pairs}
+use Rattle.stars.proofs.StretchesOfRules.{leaderless-stretch, run-kept, run-stretch}
+use Rattle.stars.proofs.RuleFive.{partner-only, five-pair, five-keeps}
 use Rattle.stars.proofs.Groups.{entry-leads, entry-cut, entry-held, entry-none}
 
 module _ (n : ℕ) (hs : List ℕ) (few : n ≤ NONE) where

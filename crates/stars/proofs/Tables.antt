@@ -10,7 +10,7 @@ use lib.ListN.{set, replicate, length-set}
 use lib.Seq.{getD-set-same, getD-set-other}
 use Rattle.packing.proofs.Counting.{pick-test}
 use Rattle.packing.specs.Count.{pick}
-use Rattle.packing.specs.Plant.{at}
+use Rattle.packing.specs.Plant.{GATEWAYS, at}
 use Rattle.packing.proofs.Tests.{below-suc}
 use Rattle.stars.specs.Pre.{Blank, Table, Marks, marked}
 
@@ -20,8 +20,8 @@ zero-at (suc n) zero = refl
 zero-at (suc n) (suc v) = zero-at n v
 
 -- an array of zeros has nothing marked
-pub blank : {l : List ℕ} → l ≡ replicate 1024 0 → Blank l
-blank e = rw e record { long = refl; zero = zero-at 1024 }
+pub blank : {l : List ℕ} → l ≡ replicate GATEWAYS 0 → Blank l
+blank e = rw e record { long = refl; zero = zero-at GATEWAYS }
 
 -- a loop that fills an array has filled it below v
 pub record Filled (n : ℕ) (f : ℕ → ℕ) (l : List ℕ) (v : ℕ) : Type 0 where
@@ -32,7 +32,7 @@ module _ (n : ℕ) (f : ℕ → ℕ) where
   pub fill-start : {l : List ℕ} → Blank l → Filled n f l 0
   fill-start b = record { upto = omega arith; table = record { long = b .long; entry = λ v h. absurd (not-suc-le-zero h) } }
 
-  pub fill-turn : {l : List ℕ} {v x : ℕ} → n ≤ 1024 → Filled n f l v → v < n → x ≡ f v → Filled n f (set l v x) (v + 1)
+  pub fill-turn : {l : List ℕ} {v x : ℕ} → n ≤ GATEWAYS → Filled n f l v → v < n → x ≡ f v → Filled n f (set l v x) (v + 1)
   fill-turn {l} {v} {x} few t h e =
       record {
         upto = omega arith;

@@ -6,22 +6,22 @@ use mathlib.Core.List.{List}
 use lib.Dec.{eqb}
 use lib.ListN.{length}
 use Rattle.packing.specs.Count.{pick, any}
-use Rattle.packing.specs.Plant.{at}
+use Rattle.packing.specs.Plant.{GATEWAYS, at}
 use Rattle.stars.specs.Stars.{onCycle, leadsInTrees, cut, leads}
 
 -- the first n entries of a list
 pub record Entries (n : ℕ) (l : List ℕ) : Type 0 where
-  pub few : n ≤ 1024
+  pub few : n ≤ GATEWAYS
   pub enough : n ≤ length l
 
 -- an array of 1,024 in which nothing is marked
 pub record Blank (l : List ℕ) : Type 0 where
-  pub long : 1024 ≡ length l
+  pub long : GATEWAYS ≡ length l
   pub zero : (v : ℕ) → at l v ≡ 0
 
 -- an array of 1,024 that holds f's value at each v below n
 pub record Table (n : ℕ) (f : ℕ → ℕ) (l : List ℕ) : Type 0 where
-  pub long : 1024 ≡ length l
+  pub long : GATEWAYS ≡ length l
   pub entry : (v : ℕ) → v < n → at l v ≡ f v
 
 -- the same with 1 where a test holds, and 0 where it does not
@@ -39,13 +39,13 @@ holdsLed i hs ss ls u = any i (λ w. eqb (at hs w) u && not (marked ss w) && not
 -- n holders, and an array of the stopped arcs
 pub record Stopped (n : ℕ) (hs ss : List ℕ) : Type 0 where
   pub holders : Entries n hs
-  pub stops : 1024 ≡ length ss
+  pub stops : GATEWAYS ≡ length ss
 
 -- a round: n holders, an array of the stopped arcs and one of those who lead by the round before
 pub record Round (n : ℕ) (hs ss ls : List ℕ) : Type 0 where
   pub holders : Entries n hs
-  pub stops : 1024 ≡ length ss
-  pub led : 1024 ≡ length ls
+  pub stops : GATEWAYS ≡ length ss
+  pub led : GATEWAYS ≡ length ls
 
 -- n holders, with their cycles marked
 pub record Cycled (n : ℕ) (hs cs : List ℕ) : Type 0 where

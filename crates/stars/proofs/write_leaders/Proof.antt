@@ -1,5 +1,5 @@
--- `write_leaders` meets its contract: the laws of Joined.
-use Rattle.stars.proofs.Joined.{trees-marked, leads-marked, list-joined}
+-- Each array holds the test that the next step goes by.
+use Rattle.stars.proofs.LeaderTables.{trees-marked, leads-marked, list-joined}
 use borrow.Author.Needs.{needs}
 use Rattle.stars.proofs.write_leaders.Statement.{statement}
 use Rattle.stars.proofs.write_leaders.Tie as tie

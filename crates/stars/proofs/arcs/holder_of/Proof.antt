@@ -1,4 +1,3 @@
--- `holder_of` meets its contract: each return rewrites by the test that led there.
 use borrow.Author.Tests.{lt-ltb, le-ltb}
 use Rattle.stars.specs.Stars.{holder}
 use borrow.Author.Needs.{needs}

@@ -1,4 +1,4 @@
--- `next_on_cycle` meets its contract: a search.
+-- None below w is on a cycle and held by v.
 use borrow.Author.Needs.{needs}
 use Prim.Native.Nat.{_-_}
 use mathlib.Core.Bool.{_&&_}
@@ -6,7 +6,7 @@ use lib.Dec.{eqb}
 use Rattle.packing.specs.Plant.{at}
 use Rattle.stars.specs.Stars.{onCycle, nextOnCycle}
 use Rattle.stars.proofs.Loops.{Sought, seek-start, seek-turn, seek-found, seek-end}
-use Rattle.stars.proofs.Backs.{next-test}
+use Rattle.stars.proofs.ArcsBack.{next-test}
 use Rattle.stars.proofs.arcs.next_on_cycle.Statement.{statement}
 use Rattle.stars.proofs.arcs.next_on_cycle.Tie as tie
 

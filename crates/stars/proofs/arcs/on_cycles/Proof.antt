@@ -1,4 +1,4 @@
--- `on_cycles` meets its contract: an array filled.
+-- The array is filled below v.
 use borrow.Author.Needs.{needs}
 use Prim.Native.Nat.{_-_}
 use Rattle.packing.specs.Count.{pick}

@@ -1,4 +1,3 @@
--- `pair_leader` meets its contract: each return rewrites by the test that led there.
 use mathlib.Core.Path.{sym, _∙_}
 use Rattle.stars.specs.Stars.{pairLeader}
 use borrow.Author.Needs.{needs}

@@ -1,4 +1,4 @@
--- `partner_of` meets its contract: a search.
+-- None below w has the number that is sought.
 use borrow.Author.Needs.{needs}
 use Prim.Native.Nat.{_-_}
 use Rattle.packing.specs.Plant.{at}

@@ -1,7 +1,7 @@
--- `rule_five` meets its contract: the laws of Pairing.
+-- Each return is one case of rule 5.
 use lib.Dec.{ltb}
 use Rattle.packing.specs.Plant.{at}
-use Rattle.stars.proofs.Pairing.{entry-none, entry-more, entry-pair}
+use Rattle.stars.proofs.RuleFive.{five-none, five-more, five-two}
 use borrow.Author.Needs.{needs}
 use Rattle.stars.proofs.groups_of_two.rule_five.Statement.{statement}
 use Rattle.stars.proofs.groups_of_two.rule_five.Tie as tie
@@ -10,14 +10,14 @@ entry-requires : tie.Need-entry-requires
 entry-requires c κs = search needs
 
 returns : tie.Need-returns
-returns c = entry-none ltb _ (at (c .before .before .before .args .groups .now)) _ (c .before .entry .ensures) (c .if1 .taken)
+returns c = five-none ltb _ (at (c .before .before .before .args .groups .now)) _ (c .before .entry .ensures) (c .if1 .taken)
 
 member-count-requires : tie.Need-member-count-requires
 member-count-requires c κs = search needs
 
 returns-2 : tie.Need-returns-2
 returns-2 c = let first = c .before .before in
-    entry-more ltb _ (at (first .before .before .before .args .groups .now)) _ (first .before .entry .ensures) (c .before .member-count .ensures) (c .if2 .taken)
+    five-more ltb _ (at (first .before .before .before .args .groups .now)) _ (first .before .entry .ensures) (c .before .member-count .ensures) (c .if2 .taken)
 
 partner-of-requires : tie.Need-partner-of-requires
 partner-of-requires c κs = search needs
@@ -28,7 +28,7 @@ pair-leader-requires c κs = search needs
 returns-3 : tie.Need-returns-3
 returns-3 c = let second = c .before .before in
     let first = second .before .before in
-    entry-pair ltb _ (at (first .before .before .before .args .groups .now)) _ (first .before .entry .ensures) (first .if1 .left) (second .before .member-count .ensures) (second .if2 .left) (c .before .partner-of .ensures) (c .pair-leader .ensures)
+    five-two ltb _ (at (first .before .before .before .args .groups .now)) _ (first .before .entry .ensures) (first .if1 .left) (second .before .member-count .ensures) (second .if2 .left) (c .before .partner-of .ensures) (c .pair-leader .ensures)
 
 pub rule-five-spec : {M : Type 1} → statement M
 rule-five-spec =

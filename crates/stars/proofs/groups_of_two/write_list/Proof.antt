@@ -1,4 +1,4 @@
--- `write_list` meets its contract: the laws of Lists.
+-- The entries below v are written.
 use borrow.Author.Needs.{needs}
 use Prim.Native.Nat.{_-_}
 use lib.Dec.{ltb}

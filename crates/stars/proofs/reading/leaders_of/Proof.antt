@@ -1,4 +1,4 @@
--- `leaders_of` meets its contract: an array filled.
+-- The array is filled below v.
 use borrow.Author.Needs.{needs}
 use Prim.Native.Nat.{_-_}
 use Rattle.stars.specs.Stars.{leaderOf}

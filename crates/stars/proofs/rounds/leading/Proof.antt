@@ -1,8 +1,8 @@
--- `leading` meets its contract: the laws of Passes.
+-- After f turns the array marks who leads in f rounds.
 use borrow.Author.Needs.{needs}
 use Prim.Native.Nat.{_-_}
 use Rattle.stars.proofs.Tables.{blank}
-use Rattle.stars.proofs.Passes.{Rounds, rounds-start, rounds-turn, rounds-end}
+use Rattle.stars.proofs.RuleOneRounds.{Rounds, rounds-start, rounds-turn, rounds-end}
 use Rattle.stars.proofs.rounds.leading.Statement.{statement}
 use Rattle.stars.proofs.rounds.leading.Tie as tie
 

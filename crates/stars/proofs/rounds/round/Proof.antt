@@ -1,8 +1,8 @@
--- `round` meets its contract: the laws of Passes.
+-- The array marks the holders of those below w that are led.
 use borrow.Author.Needs.{needs}
 use Prim.Native.Nat.{_-_}
 use Rattle.stars.proofs.Tables.{blank}
-use Rattle.stars.proofs.Passes.{Passed, pass-start, pass-turn, pass-end}
+use Rattle.stars.proofs.RuleOneRounds.{Passed, pass-start, pass-turn, pass-end}
 use Rattle.stars.proofs.rounds.round.Statement.{statement}
 use Rattle.stars.proofs.rounds.round.Tie as tie
 

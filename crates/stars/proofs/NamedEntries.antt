@@ -15,7 +15,7 @@ use Rattle.stars.proofs.Cycles.{cycle-met}
 use Rattle.stars.proofs.Upwards.{upwards}
 use Rattle.stars.proofs.Leads.{trees-broken, trees-child}
 use Rattle.stars.proofs.Rules.{entries-hold}
-use Rattle.stars.proofs.Places.{rule-3-place, rule-4-place}
+use Rattle.stars.proofs.CyclePlaces.{rule-3-place, rule-4-place}
 
 -- Rule 1 fixes who leads, from the deepest upwards.
 lead-only : (n : ℕ) (hs : List ℕ) → n ≤ NONE → {lead : ℕ → Bool} {g : ℕ → ℕ} → RuleOne n hs lead g → (u : ℕ) → u < n → lead u ≡ leadsInTrees n hs u

@@ -96,6 +96,17 @@ module _ (leadsPair : ℕ → ℕ → Bool) (n : ℕ) (g : ℕ → ℕ) where
       let k : g w < n = five-cases w (λ q. omega arith) (λ k one q. k) in
       sym (five-entry w k (owned k) .1) ∙ ap g e ∙ from
 
+-- One entry by rule 5, as the code finds it: u is the entry before.
+module _ (leadsPair : ℕ → ℕ → Bool) (n : ℕ) (g : ℕ → ℕ) (v : ℕ) {u : ℕ} (here : u ≡ g v) where
+  pub five-none : n ≤ u → u ≡ ruleFive leadsPair n g v
+  five-none h = here ∙ sym (five-keeps leadsPair n g v (λ k one. omega arith))
+
+  pub five-more : {k : ℕ} → k ≡ memberCount n g u → (k ≡ 1 → ⊥) → u ≡ ruleFive leadsPair n g v
+  five-more e f = here ∙ sym (five-keeps leadsPair n g v (λ _ one. f (e ∙ ap (memberCount n g) here ∙ one)))
+
+  pub five-two : {k w r : ℕ} → u < n → k ≡ memberCount n g u → k ≡ 1 → w ≡ partner n g u → r ≡ pairLeader leadsPair u w → r ≡ ruleFive leadsPair n g v
+  five-two h e f q s = s ∙ ap (pairLeader leadsPair u) q ∙ sym (five-pair leadsPair n g v u (sym here) h (sym e ∙ f))
+
 -- The members and the entries by rule 5 go by the entries below n.
 module _ (n : ℕ) (g g' : ℕ → ℕ) (same : (w : ℕ) → w < n → g w ≡ g' w) where
   follows-ext : (u w : ℕ) → w < n → follows g u w ≡ follows g' u w

@@ -11,9 +11,9 @@ use Rattle.stars.specs.Stars.{holder, back, onCycle, leadsInTrees, begin
 use Rattle.stars.specs.Pre.{Treed, marked}
 use Rattle.stars.proofs.Tables.{read-mark}
 use Rattle.stars.proofs.Cycles.{cycle-below}
-use Rattle.stars.proofs.Backs.{back-more}
+use Rattle.stars.proofs.ArcsBack.{back-more}
 
--- a loop that walks i arcs back has come to u, and none on the way leads or is lower than v, or one does
+-- a loop that goes i arcs back has come to u, and none on the way leads or is lower than v, or one does
 pub record Begun (n : ℕ) (hs : List ℕ) (v i u : ℕ) (ok : Bool) : Type 0 where
   pub upto : i ≤ n
   pub here : u ≡ back n hs i v

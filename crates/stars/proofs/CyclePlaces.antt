@@ -12,7 +12,7 @@ use Rattle.stars.specs.Stars.{back, onCycle, leadsInTrees}
 use Rattle.stars.specs.Rules.{Leaderless, Run}
 use Rattle.stars.proofs.Cycles.{least, back-add, round-return, round-met, cycle-round, cycle-back, cycle-below}
 use Rattle.stars.proofs.Leads.{Begins, cycle-begins}
-use Rattle.stars.proofs.Runs.{Follows, trail}
+use Rattle.stars.proofs.Stretches.{Follows, trail}
 
 -- the cycle that s begins, and on it the gateway m arcs back from s
 module _

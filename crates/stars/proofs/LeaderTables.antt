@@ -9,8 +9,8 @@ use Rattle.packing.specs.Lists.{listOf, written}
 use Rattle.stars.specs.Stars.{onCycle, nextOnCycle, leadsIn, leadsInTrees, cut, leads, leaderOf, ruleFive, leaderListBy, leaderList}
 use Rattle.stars.specs.Pre.{Table, Marks, Ruled, marked}
 use Rattle.stars.proofs.Tables.{read-mark, mark}
-use Rattle.stars.proofs.Passes.{leadsIn-ext}
-use Rattle.stars.proofs.Five.{five-ext}
+use Rattle.stars.proofs.RuleOneRounds.{leadsIn-ext}
+use Rattle.stars.proofs.RuleFive.{five-ext}
 use Rattle.stars.proofs.Groups.{entry-leads, entry-cut, entry-kept}
 use Rattle.packing.proofs.Lists.{listOf-ext}
 

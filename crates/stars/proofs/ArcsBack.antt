@@ -1,4 +1,4 @@
--- Walks along the arcs back from a gateway.
+-- Loops along the arcs back from a gateway.
 use Prim.Native.Nat.{ℕ, suc, _+_, _<_, _≤_}
 use mathlib.Core.Path.{_≡_, refl, ap, _∙_}
 use mathlib.Core.Bool.{Bool, false, _&&_, _||_}
@@ -18,27 +18,27 @@ module _ (n : ℕ) (hs : List ℕ) (v : ℕ) where
   unfolding back
   back-more i e f = rw add-one (f ∙ ap (holder n hs) e)
 
-  -- a loop that walks i arcs back has come to u, and has found v again or not
-  pub record Walked (i u : ℕ) (found : Bool) : Type 0 where
+  -- a loop that goes i arcs back has come to u, and has found v again or not
+  pub record Traced (i u : ℕ) (found : Bool) : Type 0 where
     pub upto : i ≤ n
     pub here : u ≡ back n hs i v
     pub again : found ≡ any i (λ j. eqb (back n hs (suc j) v) v)
 
-  pub walk-start : Walked 0 v false
+  pub trace-start : Traced 0 v false
   unfolding any back
-  walk-start = record { upto = omega arith; here = refl; again = refl }
+  trace-start = record { upto = omega arith; here = refl; again = refl }
 
-  pub walk-turn : {i u u' : ℕ} {found found' : Bool} → Walked i u found → i < n → u' ≡ holder n hs u → found' ≡ (found || eqb u' v) → Walked (i + 1) u' found'
-  walk-turn {i} {u} {u'} {found} {found'} w h e f =
+  pub trace-turn : {i u u' : ℕ} {found found' : Bool} → Traced i u found → i < n → u' ≡ holder n hs u → found' ≡ (found || eqb u' v) → Traced (i + 1) u' found'
+  trace-turn {i} {u} {u'} {found} {found'} w h e f =
       record {
         upto = omega arith;
         here = back-more i (w .here) e;
         again = any-more i _ found (eqb u' v) found' (w .again) (ap (λ (x : ℕ). eqb x v) (rw add-one at (back-more i (w .here) e))) f;
       }
 
-  pub walk-end : {i u : ℕ} {found : Bool} → Walked i u found → n ≤ i → found ≡ onCycle n hs v
+  pub trace-end : {i u : ℕ} {found : Bool} → Traced i u found → n ≤ i → found ≡ onCycle n hs v
   unfolding onCycle
-  walk-end {i} {u} {found} w h = any-end n _ found i (w .upto) h (w .again)
+  trace-end {i} {u} {found} w h = any-end n _ found i (w .upto) h (w .again)
 
 -- the test of one gateway in the search for the next on the cycle
 pub next-test : {n : ℕ} {hs cs : List ℕ} (v w e : ℕ) {m b : Bool} → Cycled n hs cs → w < n → m ≡ marked cs w → e ≡ at hs w → b ≡ (m && eqb e v)

@@ -11,7 +11,7 @@ use lib.ListN.{length, set, length-set}
 use lib.Seq.{getD-set-same, getD-set-other}
 use borrow.Author.Tests.{eqb-true, eqb-false}
 use Rattle.packing.specs.Count.{pick, any}
-use Rattle.packing.specs.Plant.{at}
+use Rattle.packing.specs.Plant.{GATEWAYS, at}
 use Rattle.packing.proofs.Tests.{by-bool}
 use Rattle.stars.specs.Stars.{leadsIn}
 use Rattle.stars.specs.Pre.{Blank, Marks, marked, holdsLed}
@@ -33,7 +33,7 @@ length-note l u false = refl
 -- a pass has marked the holders of those below w that are led
 pub record Passed (n : ℕ) (hs ss ls next : List ℕ) (w : ℕ) : Type 0 where
   pub upto : w ≤ n
-  pub table : Marks 1024 (holdsLed w hs ss ls) next
+  pub table : Marks GATEWAYS (holdsLed w hs ss ls) next
 
 module _ (n : ℕ) (hs ss ls : List ℕ) where
   pub pass-start : {next : List ℕ} → Blank next → Passed n hs ss ls next 0
@@ -54,9 +54,9 @@ module _ (n : ℕ) (hs ss ls : List ℕ) where
         };
       }
 
-  pub pass-end : {next : List ℕ} {w : ℕ} → n ≤ 1024 → Passed n hs ss ls next w → n ≤ w → Marks n (holdsLed n hs ss ls) next
+  pub pass-end : {next : List ℕ} {w : ℕ} → n ≤ GATEWAYS → Passed n hs ss ls next w → n ≤ w → Marks n (holdsLed n hs ss ls) next
   pass-end {next} {w} few p h =
-      let all : Marks 1024 (holdsLed n hs ss ls) next = rw (le-antisymm (p .upto) h) at (p .table) in
+      let all : Marks GATEWAYS (holdsLed n hs ss ls) next = rw (le-antisymm (p .upto) h) at (p .table) in
       record { long = all .long; entry = λ v k. all .entry v (omega arith) }
 
 -- f rounds were made
