@@ -9,7 +9,7 @@ use lib.Dec.{eqb}
 use Rattle.packing.specs.Count.{any}
 use Rattle.packing.specs.Plant.{at}
 use Rattle.stars.specs.Stars.{holder, back, onCycle}
-use Rattle.stars.specs.Pre.{Cycled, marked}
+use Rattle.stars.specs.Pre.{Marks, marked}
 use Rattle.stars.proofs.Tables.{read-mark}
 use Rattle.stars.proofs.Loops.{any-more, any-end}
 
@@ -41,6 +41,6 @@ module _ (n : ℕ) (hs : List ℕ) (v : ℕ) where
   trace-end {i} {u} {found} w h = any-end n _ found i (w .upto) h (w .again)
 
 -- the test of one gateway in the search for the next on the cycle
-pub next-test : {n : ℕ} {hs cs : List ℕ} (v w e : ℕ) {m b : Bool} → Cycled n hs cs → w < n → m ≡ marked cs w → e ≡ at hs w → b ≡ (m && eqb e v)
+pub next-test : {n : ℕ} (hs : List ℕ) {cs : List ℕ} (v w e : ℕ) {m b : Bool} → Marks n (onCycle n hs) cs → w < n → m ≡ marked cs w → e ≡ at hs w → b ≡ (m && eqb e v)
     → b ≡ (onCycle n hs w && eqb (at hs w) v)
-next-test {n} {hs} v w e c h f g k = k ∙ rw (f ∙ read-mark (onCycle n hs) (c .cycles) w h, g)
+next-test {n} hs v w e c h f g k = k ∙ rw (f ∙ read-mark (onCycle n hs) c w h, g)

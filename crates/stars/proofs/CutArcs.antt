@@ -34,7 +34,7 @@ module _ {n : ℕ} {hs cs ts : List ℕ} (t : Treed n hs cs ts) (v : ℕ) (h : v
       record {
         upto = omega arith;
         here = back-more n hs v i (w .here) s;
-        inside = rw (back-more n hs v i (w .here) s) (cycle-below n hs (omega (arith, t .holders .few)) v h (sym (on-cycle e) ∙ f) (i + 1));
+        inside = rw (back-more n hs v i (w .here) s) (cycle-below n hs (omega (arith, t .few)) v h (sym (on-cycle e) ∙ f) (i + 1));
         gathered = all-more i _ ok b ok' (w .gathered) (g ∙ rw (read-mark (leadsInTrees n hs) (t .trees) u (w .inside), w .here)) r;
       }
 

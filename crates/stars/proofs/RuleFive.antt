@@ -1,4 +1,4 @@
--- Rule 5 over any grouping, with any comparison: the groups stay, and so does what is covered.
+-- Rule 5 over any grouping, whoever leads a pair: the groups stay, and so does what is covered.
 use Prim.Native.Nat.{ℕ, _+_, _<_, _≤_}
 use mathlib.Core.Path.{_≡_, refl, sym, ap, _∙_}
 use mathlib.Core.Logic.{_⊎_, inl, inr, ⊎-elim}
@@ -53,7 +53,7 @@ two-cases n g v two other =
     (λ t. two (ltb-true (g v) n (and-l _ _ t)) (eqb-true (memberCount n g (g v)) 1 (and-r (ltb (g v) n) _ t)))
     (λ t. other (λ l one. clash _ (and-i _ _ (lt-ltb (g v) n l) (eq-eqb (memberCount n g (g v)) 1 one)) t))
 
--- Rule 5 over any entries g, with any comparison.
+-- Rule 5 over any entries g, whoever leads a pair.
 module _ (leadsPair : ℕ → ℕ → Bool) (n : ℕ) (g : ℕ → ℕ) where
   -- in a group of two, u with one other, both get the one that leads the pair
   pub five-pair : (v u : ℕ) → g v ≡ u → u < n → memberCount n g u ≡ 1 → ruleFive leadsPair n g v ≡ pairLeader leadsPair u (partner n g u)

@@ -14,9 +14,9 @@ use Rattle.packing.specs.Count.{pick, any}
 use Rattle.packing.specs.Plant.{GATEWAYS, at}
 use Rattle.packing.proofs.Tests.{by-bool}
 use Rattle.stars.specs.Stars.{leadsIn}
-use Rattle.stars.specs.Pre.{Blank, Marks, marked, holdsLed}
+use Rattle.stars.specs.Pre.{Marks, marked, holdsLed}
 use Rattle.stars.proofs.Loops.{any-more, any-ext}
-use Rattle.stars.proofs.Tables.{read-mark}
+use Rattle.stars.proofs.Tables.{Blank, read-mark}
 
 -- u noted where b is true: v is marked if it was, or is u
 note-at : (l : List ℕ) (u v : ℕ) (old b : Bool) → v < length l → at l v ≡ pick old 1 → at (cond b (set l u 1) l) v ≡ pick (old || (eqb u v && b)) 1

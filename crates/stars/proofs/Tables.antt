@@ -6,13 +6,18 @@ use mathlib.Core.List.{List}
 use native.Mathlib.Nat.{not-suc-le-zero, le-antisymm}
 use native.Mathlib.Numerals.{add-one}
 use native.Mathlib.Omega.{arith}
-use lib.ListN.{set, replicate, length-set}
+use lib.ListN.{length, set, replicate, length-set}
 use lib.Seq.{getD-set-same, getD-set-other}
 use Rattle.packing.proofs.Counting.{pick-test}
 use Rattle.packing.specs.Count.{pick}
 use Rattle.packing.specs.Plant.{GATEWAYS, at}
 use Rattle.packing.proofs.Tests.{below-suc}
-use Rattle.stars.specs.Pre.{Blank, Table, Marks, marked}
+use Rattle.stars.specs.Pre.{Table, Marks, marked}
+
+-- an array of 1,024 in which nothing is marked
+pub record Blank (l : List ℕ) : Type 0 where
+  pub long : GATEWAYS ≡ length l
+  pub zero : (v : ℕ) → at l v ≡ 0
 
 zero-at : (n v : ℕ) → at (replicate n 0) v ≡ 0
 zero-at zero v = refl

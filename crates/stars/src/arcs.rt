@@ -8,12 +8,13 @@ use lists::tests::bit;
 use lists::tests::both;
 use lists::tests::either;
 ghost use mathlib.Core.Path.{_≡_};
+ghost use Prim.Native.Nat.{_≤_};
+ghost use Rattle.packing.specs.Plant.{GATEWAYS};
 ghost use Rattle.stars.specs.Stars.{holder, onCycle, nextOnCycle};
-ghost use Rattle.stars.specs.Pre.{Entries, Marks, Cycled};
+ghost use Rattle.stars.specs.Pre.{Marks};
 
 // v's holder; what is no gateway has none.
 pub(crate) fn holder_of(n: u16, holders: &[u16], v: u16) -> u16
-    requires { ⌜ Entries n (now holders) ⌝ }
     ensures { λ r. ⌜ r ≡ holder n (now (holders .entry)) v ⌝ }
 {
     if v < n {
@@ -24,7 +25,6 @@ pub(crate) fn holder_of(n: u16, holders: &[u16], v: u16) -> u16
 
 // Whether some arcs back from v, at most n, is v again.
 fn on_cycle(n: u16, holders: &[u16], v: u16) -> bool
-    requires { ⌜ Entries n (now holders) ⌝ }
     ensures { λ r. ⌜ r ≡ onCycle n (now (holders .entry)) v ⌝ }
 {
     let mut found = false;
@@ -40,7 +40,7 @@ fn on_cycle(n: u16, holders: &[u16], v: u16) -> bool
 
 // Marks each gateway on a cycle.
 pub(crate) fn on_cycles(n: u16, holders: &[u16]) -> [u16; PLACES]
-    requires { ⌜ Entries n (now holders) ⌝ }
+    requires { ⌜ n ≤ GATEWAYS ⌝ }
     ensures { λ r. ⌜ Marks n (onCycle n (now (holders .entry))) r ⌝ }
 {
     let mut cycles = zeros();
@@ -55,7 +55,7 @@ pub(crate) fn on_cycles(n: u16, holders: &[u16]) -> [u16; PLACES]
 
 // The lowest number on a cycle that v holds; n where there is none.
 pub(crate) fn next_on_cycle(n: u16, holders: &[u16], cycles: &[u16], v: u16) -> u16
-    requires { ⌜ Cycled n (now holders) (now cycles) ⌝ }
+    requires { ⌜ Marks n (onCycle n (now holders)) (now cycles) ⌝ }
     ensures { λ r. ⌜ r ≡ nextOnCycle n (now (holders .entry)) v ⌝ }
 {
     let mut w: u16 = 0;

@@ -9,13 +9,11 @@ ghost use mathlib.Core.Path.{_≡_};
 ghost use mathlib.Core.Bool.{not, _&&_};
 ghost use Prim.Native.Nat.{_<_};
 ghost use lib.Dec.{leb};
-ghost use lib.ListN.{length};
 ghost use Rattle.stars.specs.Stars.{begins, cut};
 ghost use Rattle.stars.specs.Pre.{Marks, Treed, marked};
 
 // Whether u does not lead, and is no lower than v.
 fn goes_on(trees: &[u16], v: u16, u: u16) -> bool
-    requires { ⌜ u < length (now trees) ⌝ }
     ensures { λ r. ⌜ r ≡ (not (marked (now (trees .entry)) u) && leb v u) ⌝ }
 {
     if is_marked(trees, u) {

@@ -3,13 +3,12 @@ use lists::counts::member_count;
 use lists::entry;
 use lists::tests::is_member;
 ghost use mathlib.Core.Path.{_≡_};
-ghost use Prim.Native.Nat.{_<_, _≤_};
+ghost use Prim.Native.Nat.{_≤_};
 ghost use lib.Dec.{ltb};
 ghost use lib.ListN.{length};
 ghost use Rattle.packing.specs.Plant.{at};
 ghost use Rattle.packing.specs.Lists.{listOf, written};
 ghost use Rattle.stars.specs.Stars.{pairLeader, partner, ruleFive};
-ghost use Rattle.stars.specs.Pre.{Entries};
 
 // Of the pair a and b, whether a leads.
 fn leads_pair(a: u16, b: u16) -> bool
@@ -29,7 +28,6 @@ fn pair_leader(a: u16, b: u16) -> u16
 
 // The lowest other with u's number as its entry; n where there is none.
 fn partner_of(n: u16, groups: &[u16], u: u16) -> u16
-    requires { ⌜ Entries n (now groups) ⌝ }
     ensures { λ r. ⌜ r ≡ partner n (at (now (groups .entry))) u ⌝ }
 {
     let mut w: u16 = 0;
@@ -44,7 +42,6 @@ fn partner_of(n: u16, groups: &[u16], u: u16) -> u16
 
 // v's entry once in a group of two the one that leads the pair leads.
 fn rule_five(n: u16, groups: &[u16], v: u16) -> u16
-    requires { ⌜ (Entries n (now groups)) × (v < n) ⌝ }
     ensures { λ r. ⌜ r ≡ ruleFive ltb n (at (now (groups .entry))) v ⌝ }
 {
     let u = entry(groups, v);
@@ -59,7 +56,7 @@ fn rule_five(n: u16, groups: &[u16], v: u16) -> u16
 
 // The list of n entries, written to the front of out.
 pub(crate) fn write_list(n: u16, groups: &[u16], out: &mut [u16])
-    requires { ⌜ (Entries n (now groups)) × (n ≤ length (now out)) ⌝ }
+    requires { ⌜ n ≤ length (now out) ⌝ }
     ensures { λ _. ⌜ now (out .exit) ≡ written n (listOf n (ruleFive ltb n (at (now (groups .entry))))) (now (out .entry)) ⌝ }
 {
     let mut v: u16 = 0;

@@ -6,14 +6,13 @@ use lists::marks::mark_if;
 use lists::marks::zeros;
 ghost use mathlib.Core.Path.{_≡_};
 ghost use mathlib.Core.Bool.{not, _&&_};
-ghost use Prim.Native.Nat.{_<_};
-ghost use lib.ListN.{length};
+ghost use Prim.Native.Nat.{_≤_};
+ghost use Rattle.packing.specs.Plant.{GATEWAYS};
 ghost use Rattle.stars.specs.Stars.{leadsIn};
-ghost use Rattle.stars.specs.Pre.{Marks, Round, Stopped, marked, holdsLed};
+ghost use Rattle.stars.specs.Pre.{Marks, marked, holdsLed};
 
 // Whether w's holder leads w: the arc is not stopped, and w does not lead.
 fn is_led(stops: &[u16], leading: &[u16], w: u16) -> bool
-    requires { ⌜ (w < length (now stops)) × (w < length (now leading)) ⌝ }
     ensures { λ r. ⌜ r ≡ (not (marked (now (stops .entry)) w) && not (marked (now (leading .entry)) w)) ⌝ }
 {
     if is_marked(stops, w) {
@@ -24,7 +23,7 @@ fn is_led(stops: &[u16], leading: &[u16], w: u16) -> bool
 
 // One round: the holder of each that is led leads.
 fn round(n: u16, holders: &[u16], stops: &[u16], leading: &[u16]) -> [u16; PLACES]
-    requires { ⌜ Round n (now holders) (now stops) (now leading) ⌝ }
+    requires { ⌜ n ≤ GATEWAYS ⌝ }
     ensures { λ r. ⌜ Marks n (holdsLed n (now (holders .entry)) (now (stops .entry)) (now (leading .entry))) r ⌝ }
 {
     let mut next = zeros();
@@ -40,7 +39,7 @@ fn round(n: u16, holders: &[u16], stops: &[u16], leading: &[u16]) -> [u16; PLACE
 
 // Marks who leads after n rounds.
 pub(crate) fn leading(n: u16, holders: &[u16], stops: &[u16]) -> [u16; PLACES]
-    requires { ⌜ Stopped n (now holders) (now stops) ⌝ }
+    requires { ⌜ n ≤ GATEWAYS ⌝ }
     ensures { λ r. ⌜ Marks n (leadsIn n n (now (holders .entry)) (λ w. not (marked (now (stops .entry)) w))) r ⌝ }
 {
     let mut led = zeros();

@@ -33,7 +33,7 @@ unfolding nextOnCycle
 returns c = let test = c .before .before .before in
     let turn = test .before in
     seek-found _ _ (turn .before .loop .inv) (turn .loop-test .taken)
-    (next-test _ _ _ (turn .before .before .before .before .pre) (turn .loop-test .taken) (test .is-marked .ensures) (c .before .before .entry .ensures) (c .before .both .ensures)) (c .if1 .taken)
+    (next-test _ _ _ _ (turn .before .before .before .before .pre) (turn .loop-test .taken) (test .is-marked .ensures) (c .before .before .entry .ensures) (c .before .both .ensures)) (c .if1 .taken)
 
 add-w : tie.Need-add-w Inv-loop μ-loop
 add-w c = search needs
@@ -45,7 +45,7 @@ loop-again : tie.Need-loop-again Inv-loop μ-loop
 loop-again c = let test = c .before .before .before in
     let turn = test .before in
     seek-turn _ _ (turn .before .loop .inv) (turn .loop-test .taken)
-    (next-test _ _ _ (turn .before .before .before .before .pre) (turn .loop-test .taken) (test .is-marked .ensures) (c .before .before .entry .ensures) (c .before .both .ensures)) (c .if1 .left)
+    (next-test _ _ _ _ (turn .before .before .before .before .pre) (turn .loop-test .taken) (test .is-marked .ensures) (c .before .before .entry .ensures) (c .before .both .ensures)) (c .if1 .left)
 
 returns-2 : tie.Need-returns-2 Inv-loop μ-loop
 unfolding nextOnCycle

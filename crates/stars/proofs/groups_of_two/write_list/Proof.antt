@@ -37,7 +37,7 @@ loop-less c = search needs
 
 loop-again : tie.Need-loop-again Inv-loop μ-loop
 loop-again c = let turn = c .before in
-    list-turn _ _ _ (turn .before .before .before .before .pre .1) (turn .before .loop .inv) (turn .loop-test .taken) (c .rule-five .ensures)
+    list-turn _ _ _ (turn .before .before .before .before .pre) (turn .before .loop .inv) (turn .loop-test .taken) (c .rule-five .ensures)
 
 same-length : tie.Need-same-length Inv-loop μ-loop
 same-length c = search needs

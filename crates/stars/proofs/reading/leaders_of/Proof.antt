@@ -38,7 +38,7 @@ loop-less c = search needs
 
 loop-again : tie.Need-loop-again Inv-loop μ-loop
 loop-again c = let turn = c .before in
-    fill-turn _ _ (turn .before .before .before .before .before .before .before .pre .holders .few) (turn .before .loop .inv) (turn .loop-test .taken) (c .leader-of .ensures)
+    fill-turn _ _ (turn .before .before .before .before .before .before .before .pre .few) (turn .before .loop .inv) (turn .loop-test .taken) (c .leader-of .ensures)
 
 returns : tie.Need-returns Inv-loop μ-loop
 returns c = fill-end _ _ (c .before .loop .inv) (c .loop-test .left)

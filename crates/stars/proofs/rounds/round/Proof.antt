@@ -42,7 +42,7 @@ loop-again c = let led = c .before .before .before in
     pass-turn _ _ _ _ (turn .before .loop .inv) (turn .loop-test .taken) (led .before .entry .ensures) (led .is-led .ensures) (c .before .mark-if .ensures)
 
 returns : tie.Need-returns Inv-loop μ-loop
-returns c = pass-end _ _ _ _ (c .before .before .before .before .before .before .pre .holders .few) (c .before .loop .inv) (c .loop-test .left)
+returns c = pass-end _ _ _ _ (c .before .before .before .before .before .before .pre) (c .before .loop .inv) (c .loop-test .left)
 
 pub round-spec : {M : Type 1} → statement M
 round-spec =
