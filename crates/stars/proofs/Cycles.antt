@@ -1,4 +1,4 @@
--- Laws of cycles: a walk back over the arcs, what stands on a cycle, and the next on it.
+-- Laws of cycles: the way back over the arcs, what stands on a cycle, and the next on it.
 -- n is at most NONE, so that NONE is no gateway.
 use Prim.Native.Nat.{ℕ, zero, suc, _+_, _-_, _<_, _≤_}
 use mathlib.Core.Path.{_≡_, refl, sym, ap, _∙_}
@@ -41,7 +41,7 @@ pub holder-at : (n : ℕ) (hs : List ℕ) (v : ℕ) → v < n → holder n hs v 
 unfolding holder
 holder-at n hs v l = rw (lt-ltb v n l)
 
--- a walk back of i + j arcs is one of j arcs and then one of i
+-- a way back of i + j arcs is one of j arcs and then one of i
 pub back-add : (n : ℕ) (hs : List ℕ) (i j v : ℕ) → back n hs (i + j) v ≡ back n hs i (back n hs j v)
 unfolding back
 back-add n hs zero j v = rw zero-add
@@ -50,19 +50,19 @@ back-add n hs (suc i) j v = rw (suc-add, back-add n hs i j v)
 back-swap : (n : ℕ) (hs : List ℕ) (i j v : ℕ) → back n hs i (back n hs j v) ≡ back n hs j (back n hs i v)
 back-swap n hs i j v = sym (back-add n hs i j v) ∙ rw add-comm (back-add n hs j i v)
 
--- the walk back from v's holder
+-- the way back from v's holder
 pub back-holder : (n : ℕ) (hs : List ℕ) (i v : ℕ) → back n hs i (holder n hs v) ≡ back n hs (suc i) v
 unfolding back
 back-holder n hs i v = back-swap n hs i (suc zero) v
 
--- where the walk back meets a gateway twice, it goes round from there
+-- where the way back meets a gateway twice, it goes round from there
 pub back-gap : (n : ℕ) (hs : List ℕ) (j k v : ℕ) → j < k → back n hs j v ≡ back n hs k v → back n hs (suc (k - suc j)) (back n hs j v) ≡ back n hs j v
 back-gap n hs j k v l e = sym (back-add n hs (suc (k - suc j)) j v) ∙ rw whole (sym e)
   where
     whole : suc (k - suc j) + j ≡ k
     whole = omega arith
 
--- Where going back i + 1 arcs from v is v again, it is so from every gateway met on the way, and from each the walk comes to v.
+-- Where going back i + 1 arcs from v is v again, it is so from every gateway met, and from each the way back comes to v.
 module _ (n : ℕ) (hs : List ℕ) (v i : ℕ) (round : back n hs (suc i) v ≡ v) where
   round-back : (j : ℕ) → back n hs (suc i) (back n hs j v) ≡ back n hs j v
   round-back j = back-swap n hs (suc i) j v ∙ ap (back n hs j) round

@@ -1,27 +1,33 @@
 -- The leader list computed on small sets of holders.
 use mathlib.Core.Path.{_≡_, refl}
 use mathlib.Core.List.{[], _∷_}
+use lib.Dec.{ltb}
 use Rattle.packing.specs.Count.{sum, count, all, any, firstWith}
 use Rattle.packing.specs.Grouping.{memberCount}
 use Rattle.packing.specs.Lists.{listOf}
-use Rattle.stars.specs.Stars.{holder, back, onCycle, nextOnCycle, leadsIn, leadsInTrees, begins, cut, leads, leaderOf, pairLeader, partner, ruleFive, leaderList}
+use Rattle.stars.specs.Stars.{holder, back, onCycle, nextOnCycle, leadsIn, leadsInTrees, begins, cut, leads, leaderOf, pairLeader, partner, ruleFive, leaderListBy, leaderList}
 
 -- the listing's plant
 listing : listOf 5 (leaderList 5 (2 ∷ 2 ∷ 1 ∷ 0 ∷ 0 ∷ [])) ≡ 0 ∷ 1 ∷ 1 ∷ 0 ∷ 0 ∷ []
-unfolding sum count all any memberCount firstWith holder back onCycle nextOnCycle leadsIn leadsInTrees begins cut leads leaderOf pairLeader partner ruleFive leaderList listOf
+unfolding sum count all any memberCount firstWith holder back onCycle nextOnCycle leadsIn leadsInTrees begins cut leads leaderOf pairLeader partner ruleFive leaderListBy leaderList listOf
 listing = refl
+
+-- .. and with the higher number leading a pair
+higher : listOf 5 (leaderListBy (λ a b. ltb b a) 5 (2 ∷ 2 ∷ 1 ∷ 0 ∷ 0 ∷ [])) ≡ 0 ∷ 2 ∷ 2 ∷ 0 ∷ 0 ∷ []
+unfolding sum count all any memberCount firstWith holder back onCycle nextOnCycle leadsIn leadsInTrees begins cut leads leaderOf pairLeader partner ruleFive leaderListBy listOf
+higher = refl
 
 -- the ring of five
 ring : listOf 5 (leaderList 5 (1 ∷ 0 ∷ 1 ∷ 2 ∷ 3 ∷ [])) ≡ 1 ∷ 1 ∷ 1 ∷ 3 ∷ 3 ∷ []
-unfolding sum count all any memberCount firstWith holder back onCycle nextOnCycle leadsIn leadsInTrees begins cut leads leaderOf pairLeader partner ruleFive leaderList listOf
+unfolding sum count all any memberCount firstWith holder back onCycle nextOnCycle leadsIn leadsInTrees begins cut leads leaderOf pairLeader partner ruleFive leaderListBy leaderList listOf
 ring = refl
 
 -- an odd cycle none of whose gateways lead, arcs 0 to 1 to 2 to 3 to 4 to 0: three led by the middle one, then a pair
 odd : listOf 5 (leaderList 5 (4 ∷ 0 ∷ 1 ∷ 2 ∷ 3 ∷ [])) ≡ 1 ∷ 1 ∷ 1 ∷ 3 ∷ 3 ∷ []
-unfolding sum count all any memberCount firstWith holder back onCycle nextOnCycle leadsIn leadsInTrees begins cut leads leaderOf pairLeader partner ruleFive leaderList listOf
+unfolding sum count all any memberCount firstWith holder back onCycle nextOnCycle leadsIn leadsInTrees begins cut leads leaderOf pairLeader partner ruleFive leaderListBy leaderList listOf
 odd = refl
 
 -- a cycle 0 to 1 to 2 to 3 to 0 on which 0 leads the child 4: the run 1, 2, 3 is odd, so 1 joins 0, and 2 and 3 are a pair
 run : listOf 5 (leaderList 5 (3 ∷ 0 ∷ 1 ∷ 2 ∷ 0 ∷ [])) ≡ 0 ∷ 0 ∷ 2 ∷ 2 ∷ 0 ∷ []
-unfolding sum count all any memberCount firstWith holder back onCycle nextOnCycle leadsIn leadsInTrees begins cut leads leaderOf pairLeader partner ruleFive leaderList listOf
+unfolding sum count all any memberCount firstWith holder back onCycle nextOnCycle leadsIn leadsInTrees begins cut leads leaderOf pairLeader partner ruleFive leaderListBy leaderList listOf
 run = refl

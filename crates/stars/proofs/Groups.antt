@@ -13,10 +13,10 @@ use Rattle.packing.specs.Holders.{held, holds, Feasible}
 use Rattle.packing.proofs.Tests.{by-bool, clash, and-l, and-r, and-i, not-i, not-test, any-elim, any-fails}
 use Rattle.packing.proofs.Sums.{count-mono, count-split, count-some, count-unique}
 use Rattle.packing.proofs.Groupings.{Sym, Loopless, follows-is, follows-means}
-use Rattle.stars.specs.Stars.{back, onCycle, nextOnCycle, leadsInTrees, cut, leads, leaderOf, leaderList}
+use Rattle.stars.specs.Stars.{back, onCycle, nextOnCycle, leadsInTrees, cut, leads, leaderOf, leaderListBy, leaderList}
 use Rattle.stars.proofs.Cycles.{holder-at, back-holder, cycle-round, cycle-only, next-held, next-only}
 use Rattle.stars.proofs.Leads.{Begins, begins-means, cut-begins, trees-child, leads-child, leads-tree, leads-more}
-use Rattle.stars.proofs.Five.{Kind, alone-is, leader-is, member-is, ruleFive-covered, ruleFive-grouping}
+use Rattle.stars.proofs.RuleFive.{Kind, alone-is, leader-is, member-is, ruleFive-covered, ruleFive-grouping}
 
 -- the entry by rules 1 to 4, case by case
 module _ (n : ℕ) (hs : List ℕ) (v : ℕ) where
@@ -44,7 +44,7 @@ module _ (n : ℕ) (hs : List ℕ) (few : n ≤ NONE) where
   cut-starts v l e c =
       begins-means n hs (sym (cut-begins n hs v (not-test (leadsInTrees n hs v) (λ t. clash _ (leads-more n hs few v l t) e))) ∙ c)
 
-  -- the walk back from the holder of a gateway on a cycle comes to the gateway
+  -- the way back from the holder of a gateway on a cycle comes to the gateway
   cycle-behind : (u v : ℕ) → u < n → onCycle n hs u ≡ true → at hs u ≡ v → (i : ℕ) × (back n hs i v ≡ u)
   cycle-behind u v l o e = let (i, m, r, _) = cycle-round n hs u o in (i, rw (← e, ← holder-at n hs u l) (back-holder n hs i u ∙ r))
 
@@ -170,13 +170,23 @@ module _
         held-by : leads n hs v ≡ false → cut n hs v ≡ false → ltb (at hs v) n ≡ true → Kind n limit adj (leaderOf n hs) v
         held-by e c h = let k = ltb-true (at hs v) n h in member (at hs v) (entry-held n hs v e c k) k (feasible .along v l h)
 
--- the leader list by all five rules
-pub leaderList-grouping : (n : ℕ) (hs : List ℕ) → n ≤ NONE → (limit : ℕ → ℕ) (adj : ℕ → ℕ → Bool) → Feasible n limit adj (at hs) → Sym n adj → Loopless n adj → ((u : ℕ) → u < n → 2 ≤ limit u)
-    → Grouping n limit adj (leaderList n hs)
-unfolding leaderList
-leaderList-grouping n hs few limit adj feasible symmetric loopless two =
-    ruleFive-grouping ltb n limit adj (leaderOf n hs) few symmetric loopless (λ u l. omega (arith, two u l)) (leaderOf-grouping n hs few limit adj feasible symmetric two)
+-- the leader list by all five rules, whoever leads a pair
+module _ (leadsPair : ℕ → ℕ → Bool) (n : ℕ) (hs : List ℕ) (few : n ≤ NONE) where
+  pub leaderListBy-grouping : (limit : ℕ → ℕ) (adj : ℕ → ℕ → Bool) → Feasible n limit adj (at hs) → Sym n adj → Loopless n adj → ((u : ℕ) → u < n → 2 ≤ limit u) → Grouping n limit adj (leaderListBy leadsPair n hs)
+  unfolding leaderListBy
+  leaderListBy-grouping limit adj feasible symmetric loopless two =
+      ruleFive-grouping leadsPair n limit adj (leaderOf n hs) few symmetric loopless (λ u l. omega (arith, two u l)) (leaderOf-grouping n hs few limit adj feasible symmetric two)
 
-pub leaderList-covers : (n : ℕ) (hs : List ℕ) → n ≤ NONE → (v : ℕ) → v < n → held n (at hs) v ≡ true → covered (leaderList n hs) v ≡ true
-unfolding leaderList
-leaderList-covers n hs few v l e = ruleFive-covered ltb n (leaderOf n hs) few v ∙ leaderOf-covers n hs few v l e
+  pub leaderListBy-covers : (v : ℕ) → v < n → held n (at hs) v ≡ true → covered (leaderListBy leadsPair n hs) v ≡ true
+  unfolding leaderListBy
+  leaderListBy-covers v l e = ruleFive-covered leadsPair n (leaderOf n hs) few v ∙ leaderOf-covers n hs few v l e
+
+-- .. and where the lower number leads
+module _ (n : ℕ) (hs : List ℕ) (few : n ≤ NONE) where
+  pub leaderList-grouping : (limit : ℕ → ℕ) (adj : ℕ → ℕ → Bool) → Feasible n limit adj (at hs) → Sym n adj → Loopless n adj → ((u : ℕ) → u < n → 2 ≤ limit u) → Grouping n limit adj (leaderList n hs)
+  unfolding leaderList
+  leaderList-grouping = leaderListBy-grouping ltb n hs few
+
+  pub leaderList-covers : (v : ℕ) → v < n → held n (at hs) v ≡ true → covered (leaderList n hs) v ≡ true
+  unfolding leaderList
+  leaderList-covers = leaderListBy-covers ltb n hs few

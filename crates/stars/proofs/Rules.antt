@@ -1,7 +1,8 @@
--- The leader list obeys rules 1 to 5: leaderOf are the entries by rules 1 to 4, and leaderList is rule 5 over leaderOf.
+-- The leader list obeys rules 1 to 5: leaderOf are the entries by rules 1 to 4, and leaderListBy is rule 5 over leaderOf.
 -- n is at most NONE, so that NONE is no gateway.
 use Prim.Native.Nat.{ℕ, _+_, _*_, _-_, _<_, _≤_, min}
-use mathlib.Core.Path.{_≡_, refl, _∙_}
+use mathlib.Core.Path.{_≡_, refl, ap, _∙_}
+use mathlib.Core.Bool.{Bool}
 use mathlib.Core.List.{List}
 use native.Mathlib.Omega.{arith}
 use lib.Dec.{ltb}
@@ -9,13 +10,13 @@ use borrow.Author.Tests.{ltb-true, ltb-false}
 use Rattle.packing.specs.Plant.{NONE, at}
 use Rattle.packing.specs.Grouping.{memberCount}
 use Rattle.packing.proofs.Tests.{by-bool}
-use Rattle.stars.specs.Stars.{leadsInTrees, leaderOf, pairLeader, ruleFive, leaderList}
+use Rattle.stars.specs.Stars.{leadsInTrees, leaderOf, pairLeader, ruleFive, leaderListBy}
 use Rattle.stars.specs.Rules.{RuleOne, RuleTwo, Leaderless, Pair, RuleThree, RuleFour, Itself, RuleFive, OneToFour, ByRules}
 use Rattle.stars.proofs.Cycles.{cycle-held, next-only}
 use Rattle.stars.proofs.Leads.{cut-cycle, trees-child, leads-tree, leads-more}
-use Rattle.stars.proofs.Runs.{idle, pairs}
-use Rattle.stars.proofs.Stretches.{leaderless-stretch, run-kept, run-stretch}
-use Rattle.stars.proofs.Five.{partner-only, five-pair, five-keeps}
+use Rattle.stars.proofs.Stretches.{idle, pairs}
+use Rattle.stars.proofs.StretchesOfRules.{leaderless-stretch, run-kept, run-stretch}
+use Rattle.stars.proofs.RuleFive.{partner-only, five-pair, five-keeps}
 use Rattle.stars.proofs.Groups.{entry-leads, entry-cut, entry-held, entry-none}
 
 module _ (n : ℕ) (hs : List ℕ) (few : n ≤ NONE) where
@@ -74,18 +75,20 @@ module _ (n : ℕ) (hs : List ℕ) (few : n ≤ NONE) where
   entries-hold = record { one = one-holds; two = two-holds; three = three-holds; four = four-holds; itself = itself-holds }
 
 -- rule 5 of any entries
-five-holds : (n : ℕ) (g : ℕ → ℕ) → RuleFive n g (ruleFive ltb n g)
-unfolding pairLeader
-five-holds n g = record { pair = λ u w l k e f other one. (lower u w l k f other one u e, lower u w l k f other one w f); keeps = λ v l. five-keeps ltb n g v }
+five-holds : (leadsPair : ℕ → ℕ → Bool) (n : ℕ) (g : ℕ → ℕ) → RuleFive leadsPair n g (ruleFive leadsPair n g)
+five-holds leadsPair n g = record { pair = λ u w l k e f other one. (both u w l k f other one u e, both u w l k f other one w f); keeps = λ v l. five-keeps leadsPair n g v }
   where
-    lower : (u w : ℕ) → u < n → w < n → g w ≡ u → (w ≡ u → ⊥) → memberCount n g u ≡ 1 → (v : ℕ) → g v ≡ u → ruleFive ltb n g v ≡ min u w
-    lower u w l k f other one v e =
-        five-pair ltb n g v u e l one ∙ rw (partner-only n g u one w k f other)
-        (by-bool (ltb u w) (λ t. rw t (omega (arith, ltb-true u w t))) (λ t. rw t (omega (arith, ltb-false u w t))))
+    both : (u w : ℕ) → u < n → w < n → g w ≡ u → (w ≡ u → ⊥) → memberCount n g u ≡ 1 → (v : ℕ) → g v ≡ u → ruleFive leadsPair n g v ≡ pairLeader leadsPair u w
+    both u w l k f other one v e = five-pair leadsPair n g v u e l one ∙ ap (pairLeader leadsPair u) (partner-only n g u one w k f other)
 
-pub list-holds : (n : ℕ) (hs : List ℕ) → RuleFive n (leaderOf n hs) (leaderList n hs)
-unfolding leaderList
-list-holds n hs = five-holds n (leaderOf n hs)
+pub list-holds : (leadsPair : ℕ → ℕ → Bool) (n : ℕ) (hs : List ℕ) → RuleFive leadsPair n (leaderOf n hs) (leaderListBy leadsPair n hs)
+unfolding leaderListBy
+list-holds leadsPair n hs = five-holds leadsPair n (leaderOf n hs)
 
-pub rules-hold : (n : ℕ) (hs : List ℕ) → n ≤ NONE → ByRules n hs (leaderList n hs)
-rules-hold n hs few = record { lead = leadsInTrees n hs; entry = leaderOf n hs; grouped = entries-hold n hs few; five = list-holds n hs }
+pub rules-hold : (leadsPair : ℕ → ℕ → Bool) (n : ℕ) (hs : List ℕ) → n ≤ NONE → ByRules leadsPair n hs (leaderListBy leadsPair n hs)
+rules-hold leadsPair n hs few = record { lead = leadsInTrees n hs; entry = leaderOf n hs; grouped = entries-hold n hs few; five = list-holds leadsPair n hs }
+
+-- 01's rule 5, "the lower number leads": by `ltb` the leader of a pair is the lower of the two
+pub lower-leads : (a b : ℕ) → pairLeader ltb a b ≡ min a b
+unfolding pairLeader
+lower-leads a b = by-bool (ltb a b) (λ t. rw t (omega (arith, ltb-true a b t))) (λ t. rw t (omega (arith, ltb-false a b t)))

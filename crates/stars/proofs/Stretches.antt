@@ -1,67 +1,69 @@
--- A cycle of rule 3 and a run of rule 4 are stretches of a cycle: which of their arcs are cut.
-use Prim.Native.Nat.{ℕ, suc, _+_, _-_, _<_, _≤_}
-use mathlib.Core.Path.{_≡_, sym, _∙_}
-use mathlib.Core.Bool.{true, false}
+-- Stretches of a cycle: what follows the arcs up to an arc that is cut is in pairs from its end.
+use Prim.Native.Nat.{ℕ, zero, suc, _+_, _*_, _-_, _<_, _≤_}
+use mathlib.Core.Path.{_≡_, sym, ap, _∙_}
+use mathlib.Core.Bool.{true, false, not, _&&_}
 use mathlib.Core.List.{List}
 use native.Mathlib.Omega.{arith}
-use Rattle.packing.specs.Plant.{NONE}
-use Rattle.packing.proofs.Tests.{below-suc, clash, not-test}
-use Rattle.stars.specs.Stars.{back, onCycle, leadsInTrees, begins, cut}
-use Rattle.stars.specs.Rules.{Leaderless, Run}
-use Rattle.stars.proofs.Cycles.{round-met, round-cycle, cycle-back}
-use Rattle.stars.proofs.Leads.{begins-means, begins-is, cut-leads, cut-begins}
-use Rattle.stars.proofs.Runs.{Follows, walk, Stretch}
+use borrow.Author.Tests.{not-true}
+use Rattle.packing.specs.Plant.{NONE, at}
+use Rattle.packing.proofs.Tests.{by-bool, clash, and-l, and-r, iff-test}
+use Rattle.stars.specs.Stars.{back, onCycle, leadsInTrees, cut, leads, leaderOf}
+use Rattle.stars.proofs.Cycles.{holder-at, cycle-below, cycle-only}
+use Rattle.stars.proofs.Leads.{trees-child, leads-child, leads-tree}
+use Rattle.stars.proofs.Groups.{entry-leads, entry-held}
 
--- of a cycle none of whose gateways lead, the arc into its first is cut, and no other
-pub leaderless-stretch : (n : ℕ) (hs : List ℕ) → n ≤ NONE → (length : ℕ) (c : ℕ → ℕ) → Leaderless n hs (leadsInTrees n hs) length c → Stretch n hs 0 length c
-leaderless-stretch n hs few length c cycle = record { way = way; on = on; quiet = λ i a. cycle .none i; kept = kept; end = end }
+-- c follows the arcs up to c stop
+pub record Follows (n : ℕ) (hs : List ℕ) (stop : ℕ) (c : ℕ → ℕ) : Type 0 where
+  pub below : (i : ℕ) → i ≤ stop → c i < n
+  pub arc : (i : ℕ) → i < stop → at hs (c (i + 1)) ≡ c i
+
+-- going back along it
+pub back-along : {n : ℕ} {hs : List ℕ} {stop : ℕ} {c : ℕ → ℕ} → Follows n hs stop c → (i j k : ℕ) → i + j ≡ k → k ≤ stop → back n hs j (c k) ≡ c i
+unfolding back
+back-along {c = c} f i zero k e l = ap c (omega arith)
+back-along {n} {hs} {stop} {c} f i (suc j) k e l = rw (back-along f (i + 1) j k (omega arith) l, holder-at n hs (c (i + 1)) (f .below (i + 1) (omega arith))) (f .arc i (omega arith))
+
+-- the way to a gateway on a cycle, from as far back as is asked
+pub trail : (n : ℕ) (hs : List ℕ) → n ≤ NONE → (y : ℕ) → y < n → onCycle n hs y ≡ true → (stop : ℕ) → Follows n hs stop (λ i. back n hs (stop - i) y)
+unfolding back
+trail n hs few y l on stop = record { below = λ i k. cycle-below n hs few y l on (stop - i); arc = arc }
   where
-    up-to : (P : ℕ → Type 0) → ((i : ℕ) → i < length → P (c i)) → (i : ℕ) → i ≤ length → P (c i)
-    up-to P h i l = below-suc i length (omega arith) (λ q. rw (q, cycle .closed) (h 0 (cycle .some))) (h i)
+    arc : (i : ℕ) → i < stop → at hs (back n hs (stop - (i + 1)) y) ≡ back n hs (stop - i) y
+    arc i k = let step : stop - i ≡ suc (stop - (i + 1)) = omega arith in rw step (sym (holder-at n hs _ (cycle-below n hs few y l on (stop - (i + 1)))))
 
-    way : Follows n hs length c
-    way = record { below = up-to (λ v. v < n) (cycle .below); arc = cycle .arc }
+-- On a cycle, from c first to c stop: none before c stop leads in trees, and the first arc after c first that is cut is the one into c stop.
+pub record Stretch (n : ℕ) (hs : List ℕ) (first stop : ℕ) (c : ℕ → ℕ) : Type 0 where
+  pub way : Follows n hs stop c
+  pub on : (i : ℕ) → i ≤ stop → onCycle n hs (c i) ≡ true
+  pub quiet : (i : ℕ) → first ≤ i → i < stop → leadsInTrees n hs (c i) ≡ false
+  pub kept : (i : ℕ) → first < i → i < stop → cut n hs (c i) ≡ false
+  pub end : cut n hs (c stop) ≡ true
 
-    round : back n hs (suc (length - 1)) (c length) ≡ c length
-    round = let whole : suc (length - 1) ≡ length = omega (arith, cycle .some) in rw whole (walk way 0 length length (omega arith) (omega arith) ∙ sym (cycle .closed))
+module _ (n : ℕ) (hs : List ℕ) (few : n ≤ NONE) where
+  -- on a cycle, one that leads nobody in trees leads the next, if the arc to it is kept and it leads nobody
+  cycle-leads : (v w : ℕ) → v < n → w < n → onCycle n hs w ≡ true → at hs w ≡ v → leadsInTrees n hs v ≡ false → leads n hs v ≡ (not (cut n hs w) && not (leads n hs w))
+  cycle-leads v w l k o e quiet =
+      iff-test (leads n hs v) (not (cut n hs w) && not (leads n hs w))
+      (λ t.
+      let (x, a, p, c, q) = leads-child n hs few v l .0 t in
+      by-bool (onCycle n hs x) (λ y. let same : w ≡ x = cycle-only n hs few w x k a o y (e ∙ sym p) in rw (same, c, q))
+      (λ y. clash _ (trees-child n hs few v l .1 (x, a, p, y, sym (leads-tree n hs few x y) ∙ q)) quiet))
+      (λ t. leads-child n hs few v l .1 (w, k, e, not-true _ (and-l _ _ t), not-true _ (and-r (not (cut n hs w)) _ t)))
 
-    on : (i : ℕ) → i ≤ length → onCycle n hs (c i) ≡ true
-    on i l = rw (walk way i (length - i) length (omega arith) (omega arith)) at (cycle-back n hs (c length) (round-cycle n hs few (c length) (length - 1) (way .below length (omega arith)) round) (length - i))
+  module _ {first stop : ℕ} {c : ℕ → ℕ} (s : Stretch n hs first stop c) where
+    next : (i : ℕ) → first ≤ i → i < stop → leads n hs (c i) ≡ (not (cut n hs (c (i + 1))) && not (leads n hs (c (i + 1))))
+    next i a l = cycle-leads (c i) (c (i + 1)) (s .way .below i (omega arith)) (s .way .below (i + 1) (omega arith)) (s .on (i + 1) (omega arith)) (s .way .arc i l) (s .quiet i a l)
 
-    met : (j : ℕ) → (k : ℕ) × (k ≤ length) × (back n hs j (c length) ≡ c k)
-    met j = let (d, l, r) = round-met n hs (c length) (length - 1) round j in (length - d, omega arith, r ∙ walk way (length - d) d length (omega arith) (omega arith))
+    -- from the end backwards every second one leads nobody ..
+    pub idle : (k i : ℕ) → first ≤ i → i + 2 * k + 1 ≡ stop → leads n hs (c i) ≡ false
+    idle zero i a e = let last : i + 1 ≡ stop = omega arith in rw (next i a (omega arith), last, s .end)
+    idle (suc k) i a e =
+        rw (next i a (omega arith), next (i + 1) (omega arith) (omega arith), s .kept (i + 1) (omega arith) (omega arith), s .kept (i + 1 + 1) (omega arith) (omega arith), idle k (i + 1 + 1) (omega arith) (omega arith))
 
-    quiet : (i : ℕ) → i ≤ length → leadsInTrees n hs (c i) ≡ false
-    quiet = up-to (λ v. leadsInTrees n hs v ≡ false) (cycle .none)
-
-    end : cut n hs (c length) ≡ true
-    end =
-        cut-begins n hs (c length) (quiet length (omega arith)) ∙ begins-is n hs (record {
-          on = on length (omega arith);
-          none = λ j. let (k, l, r) = met j in rw r (quiet k l);
-          low = λ j. let (k, l, r) = met j in omega (arith, r, cycle .closed, up-to (λ v. c 0 ≤ v) (cycle .lowest) k l);
-        })
-
-    kept : (i : ℕ) → 0 < i → i < length → cut n hs (c i) ≡ false
-    kept i a l =
-        cut-begins n hs (c i) (cycle .none i l) ∙ not-test (begins n hs (c i)) (λ t.
-        cycle .once i a l (omega (arith, cycle .lowest i l, rw (walk way 0 i i (omega arith) (omega arith)) at (begins-means n hs t .low i))))
-
-run-way : (n : ℕ) (hs : List ℕ) (r : ℕ) (c : ℕ → ℕ) → Run n hs (leadsInTrees n hs) r c → Follows n hs (r + 1) c
-run-way n hs r c run = record { below = run .below; arc = λ i l. run .arc i (omega arith) }
-
--- of a run the arc into the gateway after it is cut, and none into the others
-pub run-kept : (n : ℕ) (hs : List ℕ) (r : ℕ) (c : ℕ → ℕ) → Run n hs (leadsInTrees n hs) r c → (i : ℕ) → 0 < i → i < r + 1 → cut n hs (c i) ≡ false
-run-kept n hs r c run i a l =
-    cut-begins n hs (c i) (run .others i a (omega arith)) ∙ not-test (begins n hs (c i)) (λ t.
-    clash _ (run .before) (rw (walk (run-way n hs r c run) 0 i i (omega arith) (omega arith)) at (begins-means n hs t .none i)))
-
-pub run-stretch : (n : ℕ) (hs : List ℕ) (r : ℕ) (c : ℕ → ℕ) → Run n hs (leadsInTrees n hs) r c → Stretch n hs 1 (r + 1) c
-run-stretch n hs r c run =
-    record {
-      way = run-way n hs r c run;
-      on = run .on;
-      quiet = λ i a l. run .others i a (omega arith);
-      kept = λ i a. run-kept n hs r c run i (omega arith);
-      end = cut-leads n hs (c (r + 1)) (run .on (r + 1) (omega arith)) (run .after);
-    }
+    -- .. and the one before it leads it
+    pub pairs : (k i : ℕ) → first ≤ i → i + 2 * k + 2 ≡ stop → (leaderOf n hs (c i) ≡ c i) × (leaderOf n hs (c (i + 1)) ≡ c i)
+    pairs k i a e =
+        let still : leads n hs (c (i + 1)) ≡ false = idle k (i + 1) (omega arith) (omega arith) in
+        let kept : cut n hs (c (i + 1)) ≡ false = s .kept (i + 1) (omega arith) (omega arith) in
+        let arc : at hs (c (i + 1)) ≡ c i = s .way .arc i (omega arith) in
+        (entry-leads n hs (c i) (rw (next i a (omega arith), kept, still)), entry-held n hs (c (i + 1)) still kept (rw arc (s .way .below i (omega arith))) ∙ arc)

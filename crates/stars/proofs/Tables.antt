@@ -6,21 +6,27 @@ use mathlib.Core.List.{List}
 use native.Mathlib.Nat.{not-suc-le-zero, le-antisymm}
 use native.Mathlib.Numerals.{add-one}
 use native.Mathlib.Omega.{arith}
-use lib.ListN.{set, replicate, length-set}
+use lib.ListN.{length, set, replicate, length-set}
 use lib.Seq.{getD-set-same, getD-set-other}
 use Rattle.packing.proofs.Counting.{pick-test}
 use Rattle.packing.specs.Count.{pick}
-use Rattle.packing.specs.Plant.{at}
+use Rattle.packing.specs.Plant.{GATEWAYS, at}
 use Rattle.packing.proofs.Tests.{below-suc}
-use Rattle.stars.specs.Pre.{Blank, Table, Marks, marked}
+use Rattle.stars.specs.Pre.{Table, Marks, marked}
+
+-- an array of 1,024 in which nothing is marked
+pub record Blank (l : List ℕ) : Type 0 where
+  pub long : GATEWAYS ≡ length l
+  pub zero : (v : ℕ) → at l v ≡ 0
 
 zero-at : (n v : ℕ) → at (replicate n 0) v ≡ 0
 zero-at zero v = refl
 zero-at (suc n) zero = refl
 zero-at (suc n) (suc v) = zero-at n v
 
-pub blank : Blank (replicate 1024 0)
-blank = record { long = refl; zero = zero-at 1024 }
+-- an array of zeros has nothing marked
+pub blank : {l : List ℕ} → l ≡ replicate GATEWAYS 0 → Blank l
+blank e = rw e record { long = refl; zero = zero-at GATEWAYS }
 
 -- a loop that fills an array has filled it below v
 pub record Filled (n : ℕ) (f : ℕ → ℕ) (l : List ℕ) (v : ℕ) : Type 0 where
@@ -31,7 +37,7 @@ module _ (n : ℕ) (f : ℕ → ℕ) where
   pub fill-start : {l : List ℕ} → Blank l → Filled n f l 0
   fill-start b = record { upto = omega arith; table = record { long = b .long; entry = λ v h. absurd (not-suc-le-zero h) } }
 
-  pub fill-turn : {l : List ℕ} {v x : ℕ} → n ≤ 1024 → Filled n f l v → v < n → x ≡ f v → Filled n f (set l v x) (v + 1)
+  pub fill-turn : {l : List ℕ} {v x : ℕ} → n ≤ GATEWAYS → Filled n f l v → v < n → x ≡ f v → Filled n f (set l v x) (v + 1)
   fill-turn {l} {v} {x} few t h e =
       record {
         upto = omega arith;

@@ -1,4 +1,4 @@
--- What the functions are lent, and the arrays that they fill: cs marks the gateways on cycles, ts those who lead by rule 1, ds the cut arcs, ss the arcs that are stopped, ls those who lead.
+-- The arrays that the functions fill: cs marks the gateways on cycles, ts those who lead by rule 1, ds the cut arcs, ss the arcs that are stopped, ls those who lead.
 use Prim.Native.Nat.{ℕ, _<_, _≤_}
 use mathlib.Core.Path.{_≡_}
 use mathlib.Core.Bool.{Bool, not, _&&_}
@@ -6,22 +6,12 @@ use mathlib.Core.List.{List}
 use lib.Dec.{eqb}
 use lib.ListN.{length}
 use Rattle.packing.specs.Count.{pick, any}
-use Rattle.packing.specs.Plant.{at}
+use Rattle.packing.specs.Plant.{GATEWAYS, at}
 use Rattle.stars.specs.Stars.{onCycle, leadsInTrees, cut, leads}
-
--- the first n entries of a list
-pub record Entries (n : ℕ) (l : List ℕ) : Type 0 where
-  pub few : n ≤ 1024
-  pub enough : n ≤ length l
-
--- an array of 1,024 in which nothing is marked
-pub record Blank (l : List ℕ) : Type 0 where
-  pub long : 1024 ≡ length l
-  pub zero : (v : ℕ) → at l v ≡ 0
 
 -- an array of 1,024 that holds f's value at each v below n
 pub record Table (n : ℕ) (f : ℕ → ℕ) (l : List ℕ) : Type 0 where
-  pub long : 1024 ≡ length l
+  pub long : GATEWAYS ≡ length l
   pub entry : (v : ℕ) → v < n → at l v ≡ f v
 
 -- the same with 1 where a test holds, and 0 where it does not
@@ -36,31 +26,15 @@ marked l v = eqb (at l v) 1
 unfoldable pub holdsLed : ℕ → List ℕ → List ℕ → List ℕ → ℕ → Bool
 holdsLed i hs ss ls u = any i (λ w. eqb (at hs w) u && not (marked ss w) && not (marked ls w))
 
--- n holders, and an array of the stopped arcs
-pub record Stopped (n : ℕ) (hs ss : List ℕ) : Type 0 where
-  pub holders : Entries n hs
-  pub stops : 1024 ≡ length ss
-
--- a round: n holders, an array of the stopped arcs and one of those who lead by the round before
-pub record Round (n : ℕ) (hs ss ls : List ℕ) : Type 0 where
-  pub holders : Entries n hs
-  pub stops : 1024 ≡ length ss
-  pub led : 1024 ≡ length ls
-
--- n holders, with their cycles marked
-pub record Cycled (n : ℕ) (hs cs : List ℕ) : Type 0 where
-  pub holders : Entries n hs
-  pub cycles : Marks n (onCycle n hs) cs
-
--- with those who lead by rule 1 marked too
+-- the arrays by which arcs are cut
 pub record Treed (n : ℕ) (hs cs ts : List ℕ) : Type 0 where
-  pub holders : Entries n hs
+  pub few : n ≤ GATEWAYS
   pub cycles : Marks n (onCycle n hs) cs
   pub trees : Marks n (leadsInTrees n hs) ts
 
--- with the cut arcs and those who lead by rules 1 to 4 marked
+-- the arrays by which each gateway has its leader by rules 1 to 4
 pub record Ruled (n : ℕ) (hs cs ds ls : List ℕ) : Type 0 where
-  pub holders : Entries n hs
+  pub few : n ≤ GATEWAYS
   pub cycles : Marks n (onCycle n hs) cs
   pub cuts : Marks n (cut n hs) ds
   pub led : Marks n (leads n hs) ls

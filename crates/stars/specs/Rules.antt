@@ -1,7 +1,7 @@
 -- 01, "Reading": rules 1 to 5, each as 01 writes it. hs are the holders of n gateways; the arc into w comes from its holder.
 -- lead u: u leads by rule 1. g are the entries by rules 1 to 4: its own number for a leader, the leader's number for a member, NONE for alone. list are the entries by all five.
--- proofs/Rules.antt: the leader list of specs/Stars.antt obeys them. proofs/Only.antt: no other list does.
-use Prim.Native.Nat.{ℕ, _+_, _*_, _<_, _≤_, min}
+-- proofs/Rules.antt: the leader list of specs/Stars.antt obeys them, whoever leads a pair. proofs/Only.antt: no other list does.
+use Prim.Native.Nat.{ℕ, _+_, _*_, _<_, _≤_}
 use mathlib.Core.Path.{_≡_}
 use mathlib.Core.Logic.{_↔_}
 use mathlib.Core.Bool.{Bool, true, false}
@@ -9,7 +9,7 @@ use mathlib.Core.List.{List}
 use Rattle.packing.specs.Plant.{NONE, at}
 use Rattle.packing.specs.Grouping.{memberCount}
 use Rattle.packing.specs.Holders.{held}
-use Rattle.stars.specs.Stars.{onCycle}
+use Rattle.stars.specs.Stars.{onCycle, pairLeader}
 
 -- Rule 1: "From the deepest upwards, a gateway leads those of its children that lead nobody." "Children are tree arcs only, not the next on the cycle."
 pub record RuleOne (n : ℕ) (hs : List ℕ) (lead : ℕ → Bool) (g : ℕ → ℕ) : Type 0 where
@@ -64,9 +64,10 @@ pub record RuleFour (n : ℕ) (hs : List ℕ) (lead : ℕ → Bool) (g : ℕ →
 unfoldable pub Itself : ℕ → List ℕ → (ℕ → Bool) → (ℕ → ℕ) → Type 0
 Itself n hs lead g = (v : ℕ) → v < n → at hs v ≡ v → lead v ≡ false → g v ≡ v
 
--- Rule 5: "After all that, in a group of two the lower number leads." u and its one member w both get the lower number, and every other gateway keeps its entry.
-pub record RuleFive (n : ℕ) (g list : ℕ → ℕ) : Type 0 where
-  pub pair : (u w : ℕ) → u < n → w < n → g u ≡ u → g w ≡ u → (w ≡ u → ⊥) → memberCount n g u ≡ 1 → (list u ≡ min u w) × (list w ≡ min u w)
+-- Rule 5: "After all that, in a group of two the lower number leads." u and its one member w both get the number of the one that leads the pair, and every other gateway keeps its entry.
+-- leadsPair a b: of the pair a and b, a leads. 01's is `ltb`, which gives the lower number (proofs/Rules.antt: `lower-leads`).
+pub record RuleFive (leadsPair : ℕ → ℕ → Bool) (n : ℕ) (g list : ℕ → ℕ) : Type 0 where
+  pub pair : (u w : ℕ) → u < n → w < n → g u ≡ u → g w ≡ u → (w ≡ u → ⊥) → memberCount n g u ≡ 1 → (list u ≡ pairLeader leadsPair u w) × (list w ≡ pairLeader leadsPair u w)
   pub keeps : (v : ℕ) → v < n → (g v < n → memberCount n g (g v) ≡ 1 → ⊥) → list v ≡ g v
 
 -- who leads by rule 1, and the entries by rules 1 to 4
@@ -78,8 +79,8 @@ pub record OneToFour (n : ℕ) (hs : List ℕ) (lead : ℕ → Bool) (g : ℕ �
   pub itself : Itself n hs lead g
 
 -- the list is one by all five rules
-pub record ByRules (n : ℕ) (hs : List ℕ) (list : ℕ → ℕ) : Type 0 where
+pub record ByRules (leadsPair : ℕ → ℕ → Bool) (n : ℕ) (hs : List ℕ) (list : ℕ → ℕ) : Type 0 where
   pub lead : ℕ → Bool
   pub entry : ℕ → ℕ
   pub grouped : OneToFour n hs lead entry
-  pub five : RuleFive n entry list
+  pub five : RuleFive leadsPair n entry list

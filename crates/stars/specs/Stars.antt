@@ -55,7 +55,7 @@ leaderOf n hs v =
     cond (leads n hs v) v
     (cond (cut n hs v) (nextOnCycle n hs v) (cond (ltb (at hs v) n) (at hs v) NONE))
 
--- Rule 5 over any grouping g: "in a group of two the lower number leads". leadsPair a b: of the pair a and b, a leads.
+-- who leads a pair. leadsPair a b: of the pair a and b, a leads. It may be any test: where it says no, b leads.
 unfoldable pub pairLeader : (ℕ → ℕ → Bool) → ℕ → ℕ → ℕ
 pairLeader leadsPair a b = cond (leadsPair a b) a b
 
@@ -63,12 +63,17 @@ pairLeader leadsPair a b = cond (leadsPair a b) a b
 unfoldable pub partner : ℕ → (ℕ → ℕ) → ℕ → ℕ
 partner n g u = firstWith n (follows g u)
 
+-- Rule 5 over any grouping g: in a group of two both get the one that leads the pair, and every other gateway keeps its entry
 unfoldable pub ruleFive : (ℕ → ℕ → Bool) → ℕ → (ℕ → ℕ) → ℕ → ℕ
 ruleFive leadsPair n g v = cond (ltb (g v) n && eqb (memberCount n g (g v)) 1) (pairLeader leadsPair (g v) (partner n g (g v))) (g v)
 
--- the leader list by all five rules, one entry for each gateway
+-- the leader list by all five rules, one entry for each gateway, with any way to decide who leads a pair
+unfoldable pub leaderListBy : (ℕ → ℕ → Bool) → ℕ → List ℕ → ℕ → ℕ
+leaderListBy leadsPair n hs = ruleFive leadsPair n (leaderOf n hs)
+
+-- .. and with 01's rule 5, which is `ltb`: "the lower number leads"
 unfoldable pub leaderList : ℕ → List ℕ → ℕ → ℕ
-leaderList n hs = ruleFive ltb n (leaderOf n hs)
+leaderList n hs = leaderListBy ltb n hs
 
 -- a lent list after the call: the leader list in its first n entries, or as it came where n or a length does not fit
 unfoldable pub leadersWritten : ℕ → List ℕ → List ℕ → List ℕ

@@ -1,20 +1,19 @@
 // The arcs that are cut: those into a cycle's leaders, or into its lowest number where none of it leads.
-use crate::marks::bit;
-use crate::marks::both;
-use crate::marks::is_marked;
-use crate::marks::zeros;
-use crate::walks::holder_of;
+use crate::arcs::holder_of;
+use lists::PLACES;
+use lists::marks::is_marked;
+use lists::marks::zeros;
+use lists::tests::bit;
+use lists::tests::both;
 ghost use mathlib.Core.Path.{_≡_};
 ghost use mathlib.Core.Bool.{not, _&&_};
 ghost use Prim.Native.Nat.{_<_};
 ghost use lib.Dec.{leb};
-ghost use lib.ListN.{length};
 ghost use Rattle.stars.specs.Stars.{begins, cut};
 ghost use Rattle.stars.specs.Pre.{Marks, Treed, marked};
 
 // Whether u does not lead, and is no lower than v.
 fn goes_on(trees: &[u16], v: u16, u: u16) -> bool
-    requires { ⌜ u < length (now trees) ⌝ }
     ensures { λ r. ⌜ r ≡ (not (marked (now (trees .entry)) u) && leb v u) ⌝ }
 {
     if is_marked(trees, u) {
@@ -54,7 +53,7 @@ fn is_cut(n: u16, holders: &[u16], cycles: &[u16], trees: &[u16], v: u16) -> boo
 }
 
 // Marks each gateway whose arc is cut.
-pub(crate) fn cut_arcs(n: u16, holders: &[u16], cycles: &[u16], trees: &[u16]) -> [u16; 1024]
+pub(crate) fn cut_arcs(n: u16, holders: &[u16], cycles: &[u16], trees: &[u16]) -> [u16; PLACES]
     requires { ⌜ Treed n (now holders) (now cycles) (now trees) ⌝ }
     ensures { λ r. ⌜ Marks n (cut n (now (holders .entry))) r ⌝ }
 {

@@ -1,10 +1,9 @@
 // The leader list of a set of holders (01, "Reading", rules 1 to 5), on plain lists and numbers.
+mod arcs;
 mod cuts;
-mod marks;
-mod pairs;
+mod groups_of_two;
 mod reading;
 mod rounds;
-mod walks;
 
 ghost use mathlib.Core.Path.{_≡_};
 ghost use lib.ListN.{length};
@@ -16,12 +15,12 @@ fn write_leaders(n: u16, holders: &[u16], out: &mut [u16])
     requires { ⌜ Lent n (now holders) (now out) ⌝ }
     ensures { λ _. ⌜ now (out .exit) ≡ written n (listOf n (leaderList n (now (holders .entry)))) (now (out .entry)) ⌝ }
 {
-    let cycles = walks::on_cycles(n, holders);
+    let cycles = arcs::on_cycles(n, holders);
     let trees = rounds::leading(n, holders, &cycles);
     let cut = cuts::cut_arcs(n, holders, &cycles, &trees);
     let leading = rounds::leading(n, holders, &cut);
     let groups = reading::leaders_of(n, holders, &cycles, &cut, &leading);
-    pairs::write_list(n, &groups, out);
+    groups_of_two::write_list(n, &groups, out);
 }
 
 // Writes the leader list to the first n places of out, and answers whether n and the lengths fit; if not, nothing is changed.

@@ -1,8 +1,10 @@
 // Each gateway's leader by rules 1 to 4.
-use crate::marks::entry;
-use crate::marks::is_marked;
-use crate::marks::zeros;
-use crate::walks::next_on_cycle;
+use crate::arcs::next_on_cycle;
+use lists::NONE;
+use lists::PLACES;
+use lists::entry;
+use lists::marks::is_marked;
+use lists::marks::zeros;
 ghost use mathlib.Core.Path.{_≡_};
 ghost use mathlib.Core.Bool.{cond};
 ghost use Prim.Native.Nat.{_<_};
@@ -18,7 +20,7 @@ fn gateway_or_none(n: u16, u: u16) -> u16
     if u < n {
         return u;
     }
-    65535
+    NONE
 }
 
 // v's leader: itself, the next on its cycle, or its holder.
@@ -42,7 +44,7 @@ pub(crate) fn leaders_of(
     cycles: &[u16],
     cuts: &[u16],
     leading: &[u16],
-) -> [u16; 1024]
+) -> [u16; PLACES]
     requires { ⌜ Ruled n (now holders) (now cycles) (now cuts) (now leading) ⌝ }
     ensures { λ r. ⌜ Table n (leaderOf n (now (holders .entry))) r ⌝ }
 {

@@ -1,18 +1,18 @@
 // Who leads, by rounds over the arcs that are not stopped.
-use crate::marks::entry;
-use crate::marks::is_marked;
-use crate::marks::note;
-use crate::marks::zeros;
+use lists::PLACES;
+use lists::entry;
+use lists::marks::is_marked;
+use lists::marks::mark_if;
+use lists::marks::zeros;
 ghost use mathlib.Core.Path.{_≡_};
 ghost use mathlib.Core.Bool.{not, _&&_};
-ghost use Prim.Native.Nat.{_<_};
-ghost use lib.ListN.{length};
+ghost use Prim.Native.Nat.{_≤_};
+ghost use Rattle.packing.specs.Plant.{GATEWAYS};
 ghost use Rattle.stars.specs.Stars.{leadsIn};
-ghost use Rattle.stars.specs.Pre.{Marks, Round, Stopped, marked, holdsLed};
+ghost use Rattle.stars.specs.Pre.{Marks, marked, holdsLed};
 
 // Whether w's holder leads w: the arc is not stopped, and w does not lead.
 fn is_led(stops: &[u16], leading: &[u16], w: u16) -> bool
-    requires { ⌜ (w < length (now stops)) × (w < length (now leading)) ⌝ }
     ensures { λ r. ⌜ r ≡ (not (marked (now (stops .entry)) w) && not (marked (now (leading .entry)) w)) ⌝ }
 {
     if is_marked(stops, w) {
@@ -22,8 +22,8 @@ fn is_led(stops: &[u16], leading: &[u16], w: u16) -> bool
 }
 
 // One round: the holder of each that is led leads.
-fn round(n: u16, holders: &[u16], stops: &[u16], leading: &[u16]) -> [u16; 1024]
-    requires { ⌜ Round n (now holders) (now stops) (now leading) ⌝ }
+fn round(n: u16, holders: &[u16], stops: &[u16], leading: &[u16]) -> [u16; PLACES]
+    requires { ⌜ n ≤ GATEWAYS ⌝ }
     ensures { λ r. ⌜ Marks n (holdsLed n (now (holders .entry)) (now (stops .entry)) (now (leading .entry))) r ⌝ }
 {
     let mut next = zeros();
@@ -31,15 +31,15 @@ fn round(n: u16, holders: &[u16], stops: &[u16], leading: &[u16]) -> [u16; 1024]
     while w < n {
         let u = entry(holders, w);
         let led = is_led(stops, leading, w);
-        note(&mut next, u, led);
+        mark_if(led, &mut next, u);
         w += 1;
     }
     next
 }
 
 // Marks who leads after n rounds.
-pub(crate) fn leading(n: u16, holders: &[u16], stops: &[u16]) -> [u16; 1024]
-    requires { ⌜ Stopped n (now holders) (now stops) ⌝ }
+pub(crate) fn leading(n: u16, holders: &[u16], stops: &[u16]) -> [u16; PLACES]
+    requires { ⌜ n ≤ GATEWAYS ⌝ }
     ensures { λ r. ⌜ Marks n (leadsIn n n (now (holders .entry)) (λ w. not (marked (now (stops .entry)) w))) r ⌝ }
 {
     let mut led = zeros();

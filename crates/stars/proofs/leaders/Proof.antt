@@ -1,4 +1,4 @@
--- `leaders` meets its contract: the laws of packing's Fitted.
+-- The two answers are the two cases of fits.
 use Rattle.packing.proofs.Fitted.{fit-lent, fit-refuses, fit-writes}
 use Rattle.stars.specs.Stars.{leadersWritten}
 use borrow.Author.Needs.{needs}

@@ -1,5 +1,5 @@
--- `write_leaders` meets its contract: the laws of Joined.
-use Rattle.stars.proofs.Joined.{trees-marked, leads-marked, list-joined}
+-- Each array holds the test that the next step goes by.
+use Rattle.stars.proofs.LeaderTables.{trees-marked, leads-marked, list-joined}
 use borrow.Author.Needs.{needs}
 use Rattle.stars.proofs.write_leaders.Statement.{statement}
 use Rattle.stars.proofs.write_leaders.Tie as tie
@@ -21,7 +21,7 @@ slice-aggregate-cut-arcs-2 c = search needs
 
 cut-arcs-requires : tie.Need-cut-arcs-requires
 cut-arcs-requires c κs = let first = c .before .before .before .before in
-    record { holders = search needs; cycles = first .on-cycles .ensures; trees = trees-marked _ _ (first .on-cycles .ensures) (c .before .before .leading .ensures) }
+    record { few = search needs; cycles = first .on-cycles .ensures; trees = trees-marked _ _ (first .on-cycles .ensures) (c .before .before .leading .ensures) }
 
 slice-aggregate-leading-2 : tie.Need-slice-aggregate-leading-2
 slice-aggregate-leading-2 c = search needs
@@ -40,7 +40,7 @@ slice-aggregate-leaders-of-3 c = search needs
 
 leaders-of-requires : tie.Need-leaders-of-requires
 leaders-of-requires c κs = let third = c .before .before .before .before .before in
-    record { holders = search needs; cycles = third .before .before .before .before .before .on-cycles .ensures; cuts = third .cut-arcs .ensures; led = leads-marked _ _ (third .cut-arcs .ensures) (c .before .before .before .leading2 .ensures) }
+    record { few = search needs; cycles = third .before .before .before .before .before .on-cycles .ensures; cuts = third .cut-arcs .ensures; led = leads-marked _ _ (third .cut-arcs .ensures) (c .before .before .before .leading2 .ensures) }
 
 slice-aggregate-write-list : tie.Need-slice-aggregate-write-list
 slice-aggregate-write-list c = search needs

@@ -1,8 +1,8 @@
--- `begins_cycle` meets its contract: the laws of Begins.
+-- Going back from a gateway on a cycle meets gateways only, so that each has its mark.
 use borrow.Author.Needs.{needs}
 use Prim.Native.Nat.{_-_}
 use borrow.Author.Tests.{not-true, not-false}
-use Rattle.stars.proofs.Begins.{Begun, begin-start, begin-turn, begin-end, begin-not}
+use Rattle.stars.proofs.CutArcs.{Begun, begin-start, begin-turn, begin-end, begin-not}
 use Rattle.stars.proofs.cuts.begins_cycle.Statement.{statement}
 use Rattle.stars.proofs.cuts.begins_cycle.Tie as tie
 

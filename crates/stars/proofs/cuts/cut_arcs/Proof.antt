@@ -1,9 +1,9 @@
--- `cut_arcs` meets its contract: an array filled.
+-- The array is filled below v.
 use borrow.Author.Needs.{needs}
 use Prim.Native.Nat.{_-_}
 use Rattle.packing.specs.Count.{pick}
 use Rattle.stars.specs.Stars.{cut}
-use Rattle.stars.proofs.Tables.{Filled, fill-start, fill-turn, fill-end, mark}
+use Rattle.stars.proofs.Tables.{blank, Filled, fill-start, fill-turn, fill-end, mark}
 use Rattle.stars.proofs.cuts.cut_arcs.Statement.{statement}
 use Rattle.stars.proofs.cuts.cut_arcs.Tie as tie
 
@@ -17,7 +17,7 @@ zeros-requires : tie.Need-zeros-requires Inv-loop μ-loop
 zeros-requires c κs = search needs
 
 loop-holds : tie.Need-loop-holds Inv-loop μ-loop
-loop-holds c = fill-start _ _ (c .zeros .ensures)
+loop-holds c = fill-start _ _ (blank (c .zeros .ensures))
 
 cast-place : tie.Need-cast-place Inv-loop μ-loop
 cast-place c = search needs
@@ -42,7 +42,7 @@ loop-less c = search needs
 
 loop-again : tie.Need-loop-again Inv-loop μ-loop
 loop-again c = let turn = c .before .before in
-    fill-turn _ _ (turn .before .before .before .before .before .before .pre .holders .few) (turn .before .loop .inv) (turn .loop-test .taken) (mark (c .bit .ensures) (c .before .is-cut .ensures))
+    fill-turn _ _ (turn .before .before .before .before .before .before .pre .few) (turn .before .loop .inv) (turn .loop-test .taken) (mark (c .bit .ensures) (c .before .is-cut .ensures))
 
 returns : tie.Need-returns Inv-loop μ-loop
 returns c = fill-end _ _ (c .before .loop .inv) (c .loop-test .left)

@@ -1,4 +1,3 @@
--- `goes_on` meets its contract: each return rewrites by the test that led there.
 use mathlib.Core.Path.{sym, _∙_}
 use borrow.Author.Needs.{needs}
 use Rattle.stars.proofs.cuts.goes_on.Statement.{statement}

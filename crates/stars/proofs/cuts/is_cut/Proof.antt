@@ -1,5 +1,5 @@
--- `is_cut` meets its contract: the laws of Begins.
-use Rattle.stars.proofs.Begins.{cut-leading, cut-beginning}
+-- The two returns are the two sides of cut.
+use Rattle.stars.proofs.CutArcs.{cut-leading, cut-beginning}
 use borrow.Author.Needs.{needs}
 use Rattle.stars.proofs.cuts.is_cut.Statement.{statement}
 use Rattle.stars.proofs.cuts.is_cut.Tie as tie

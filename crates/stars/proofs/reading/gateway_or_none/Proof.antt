@@ -1,4 +1,3 @@
--- `gateway_or_none` meets its contract: each return rewrites by the test that led there.
 use borrow.Author.Tests.{lt-ltb, le-ltb}
 use Rattle.stars.proofs.reading.gateway_or_none.Statement.{statement}
 use Rattle.stars.proofs.reading.gateway_or_none.Tie as tie

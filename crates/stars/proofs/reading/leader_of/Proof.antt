@@ -1,5 +1,5 @@
--- `leader_of` meets its contract: the laws of Joined.
-use Rattle.stars.proofs.Joined.{leader-self, leader-next, leader-holder}
+-- Each return is one case of leaderOf.
+use Rattle.stars.proofs.LeaderTables.{leader-self, leader-next, leader-holder}
 use borrow.Author.Needs.{needs}
 use Rattle.stars.proofs.reading.leader_of.Statement.{statement}
 use Rattle.stars.proofs.reading.leader_of.Tie as tie

@@ -1,8 +1,8 @@
--- `leaders_of` meets its contract: an array filled.
+-- The array is filled below v.
 use borrow.Author.Needs.{needs}
 use Prim.Native.Nat.{_-_}
 use Rattle.stars.specs.Stars.{leaderOf}
-use Rattle.stars.proofs.Tables.{Filled, fill-start, fill-turn, fill-end}
+use Rattle.stars.proofs.Tables.{blank, Filled, fill-start, fill-turn, fill-end}
 use Rattle.stars.proofs.reading.leaders_of.Statement.{statement}
 use Rattle.stars.proofs.reading.leaders_of.Tie as tie
 
@@ -16,7 +16,7 @@ zeros-requires : tie.Need-zeros-requires Inv-loop μ-loop
 zeros-requires c κs = search needs
 
 loop-holds : tie.Need-loop-holds Inv-loop μ-loop
-loop-holds c = fill-start _ _ (c .zeros .ensures)
+loop-holds c = fill-start _ _ (blank (c .zeros .ensures))
 
 cast-place : tie.Need-cast-place Inv-loop μ-loop
 cast-place c = search needs
@@ -38,7 +38,7 @@ loop-less c = search needs
 
 loop-again : tie.Need-loop-again Inv-loop μ-loop
 loop-again c = let turn = c .before in
-    fill-turn _ _ (turn .before .before .before .before .before .before .before .pre .holders .few) (turn .before .loop .inv) (turn .loop-test .taken) (c .leader-of .ensures)
+    fill-turn _ _ (turn .before .before .before .before .before .before .before .pre .few) (turn .before .loop .inv) (turn .loop-test .taken) (c .leader-of .ensures)
 
 returns : tie.Need-returns Inv-loop μ-loop
 returns c = fill-end _ _ (c .before .loop .inv) (c .loop-test .left)

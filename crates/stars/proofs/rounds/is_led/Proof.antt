@@ -1,4 +1,3 @@
--- `is_led` meets its contract: each return rewrites by the test that led there.
 use mathlib.Core.Path.{sym, _∙_}
 use borrow.Author.Needs.{needs}
 use Rattle.stars.proofs.rounds.is_led.Statement.{statement}

@@ -1,7 +1,8 @@
--- `leading` meets its contract: the laws of Passes.
+-- After f turns the array marks who leads in f rounds.
 use borrow.Author.Needs.{needs}
 use Prim.Native.Nat.{_-_}
-use Rattle.stars.proofs.Passes.{Rounds, rounds-start, rounds-turn, rounds-end}
+use Rattle.stars.proofs.Tables.{blank}
+use Rattle.stars.proofs.RuleOneRounds.{Rounds, rounds-start, rounds-turn, rounds-end}
 use Rattle.stars.proofs.rounds.leading.Statement.{statement}
 use Rattle.stars.proofs.rounds.leading.Tie as tie
 
@@ -15,7 +16,7 @@ zeros-requires : tie.Need-zeros-requires Inv-loop μ-loop
 zeros-requires c κs = search needs
 
 loop-holds : tie.Need-loop-holds Inv-loop μ-loop
-loop-holds c = rounds-start _ _ _ (c .zeros .ensures)
+loop-holds c = rounds-start _ _ _ (blank (c .zeros .ensures))
 
 slice-aggregate-round : tie.Need-slice-aggregate-round Inv-loop μ-loop
 slice-aggregate-round c = search needs

@@ -1,0 +1,68 @@
+// Rule 5, over any grouping: who leads a group of two.
+use lists::counts::member_count;
+use lists::entry;
+use lists::tests::is_member;
+ghost use mathlib.Core.Path.{_≡_};
+ghost use Prim.Native.Nat.{_≤_};
+ghost use lib.Dec.{ltb};
+ghost use lib.ListN.{length};
+ghost use Rattle.packing.specs.Plant.{at};
+ghost use Rattle.packing.specs.Lists.{listOf, written};
+ghost use Rattle.stars.specs.Stars.{pairLeader, partner, ruleFive};
+
+// Of the pair a and b, whether a leads.
+fn leads_pair(a: u16, b: u16) -> bool
+    ensures { λ r. ⌜ r ≡ ltb a b ⌝ }
+{
+    a < b
+}
+
+fn pair_leader(a: u16, b: u16) -> u16
+    ensures { λ r. ⌜ r ≡ pairLeader ltb a b ⌝ }
+{
+    if leads_pair(a, b) {
+        return a;
+    }
+    b
+}
+
+// The lowest other with u's number as its entry; n where there is none.
+fn partner_of(n: u16, groups: &[u16], u: u16) -> u16
+    ensures { λ r. ⌜ r ≡ partner n (at (now (groups .entry))) u ⌝ }
+{
+    let mut w: u16 = 0;
+    while w < n {
+        if is_member(groups, u, w) {
+            return w;
+        }
+        w += 1;
+    }
+    n
+}
+
+// v's entry once in a group of two the one that leads the pair leads.
+fn rule_five(n: u16, groups: &[u16], v: u16) -> u16
+    ensures { λ r. ⌜ r ≡ ruleFive ltb n (at (now (groups .entry))) v ⌝ }
+{
+    let u = entry(groups, v);
+    if n <= u {
+        return u;
+    }
+    if member_count(n, groups, u) != 1 {
+        return u;
+    }
+    pair_leader(u, partner_of(n, groups, u))
+}
+
+// The list of n entries, written to the front of out.
+pub(crate) fn write_list(n: u16, groups: &[u16], out: &mut [u16])
+    requires { ⌜ n ≤ length (now out) ⌝ }
+    ensures { λ _. ⌜ now (out .exit) ≡ written n (listOf n (ruleFive ltb n (at (now (groups .entry))))) (now (out .entry)) ⌝ }
+{
+    let mut v: u16 = 0;
+    while v < n {
+        let place = v as usize;
+        out[place] = rule_five(n, groups, v);
+        v += 1;
+    }
+}
