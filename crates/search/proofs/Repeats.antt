@@ -14,7 +14,7 @@ use Rattle.packing.proofs.Links.{neighbours-linked, linked-sym}
 use Rattle.packing.specs.Lists.{memberOf}
 use Rattle.search.specs.Search.{Search, found, more, seen, look, visit, turns, walk, settled, placedHolders}
 use Rattle.search.specs.Pre.{Going, Startable, Placeable}
-use Rattle.search.proofs.States.{gateway-some, unseen-below, seen-marked, seen-kept, look-seen, look-cases, by-state, never-both, visit-found, visit-going, turns-zero, turns-found, turns-out, turns-step, going-start, startable}
+use Rattle.search.proofs.States.{gateway-some, unseen-below, seen-marked, seen-kept, look-seen, look-cases, by-state, never-both, visit-found, visit-going, turns-zero, turns-found, turns-out, turns-step, going-start, placeable-startable}
 
 module _ (n : ℕ) (limit : ℕ → ℕ) (hs : List ℕ) (x : ℕ) (some : x ≡ NONE → ⊥) where
   -- a neighbour that was looked at is seen, and so is whoever was seen before
@@ -102,4 +102,4 @@ module _ (n : ℕ) (limit : ℕ → ℕ) (hs : List ℕ) (m : ℕ) (ls rest : Li
   -- and so are the holders after placing
   pub place-repeat : {v : ℕ} → Placeable n hs v → placedHolders n limit (ls ++ a ∷ b ∷ rest) hs v ≡ placedHolders n limit (ls ++ rest) hs v
   unfolding placedHolders
-  place-repeat {v} p = ap (settled n v hs) (walk-repeat (startable p))
+  place-repeat {v} p = ap (settled n v hs) (walk-repeat (placeable-startable p))

@@ -9,7 +9,7 @@ use lib.ListN.{length, set, replicate, length-append, length-set, length-replica
 use lib.Seq.{getD-set-same, getD-set-other}
 use borrow.Author.Tests.{eqb-true, eqb-false, ne-eqb, lt-ltb, le-ltb, ltb-true, ltb-false, not-true, not-false}
 use Rattle.packing.specs.Count.{count}
-use Rattle.packing.specs.Plant.{NONE, at, neighbours}
+use Rattle.packing.specs.Plant.{NONE, GATEWAYS, at, neighbours}
 use Rattle.packing.specs.Holders.{held, holds}
 use Rattle.packing.proofs.Tests.{by-bool, clash, and-l, and-r, and-i, not-i, iff-test}
 use Rattle.packing.proofs.Sums.{count-ext, count-split, count-mono, count-all, count-some}
@@ -18,7 +18,7 @@ use Rattle.search.specs.Pre.{waiting, Going, Startable, Placeable}
 use Rattle.search.proofs.Queue.{member-at, append-at, heldBy-length, heldBy-out}
 
 -- a gateway is no NONE
-pub gateway-some : {n x : ℕ} → n ≤ 1024 → x < n → x ≡ NONE → ⊥
+pub gateway-some : {n x : ℕ} → n ≤ GATEWAYS → x < n → x ≡ NONE → ⊥
 gateway-some few l e = omega arith
 
 -- whoever is not seen is a gateway
@@ -117,18 +117,21 @@ going-start {n} {hs} {start} s =
       below = s .below;
     }
 
--- a gateway without holder may start a search alone
-pub startable : {n : ℕ} {hs : List ℕ} {v : ℕ} → Placeable n hs v → Startable n hs (v ∷ [])
-startable {n} {hs} {v} p =
+-- a gateway without holder may start a search by itself
+pub startable : {n : ℕ} {hs : List ℕ} {v : ℕ} → n ≤ GATEWAYS → v < n → held n (at hs) v ≡ false → Startable n hs (v ∷ [])
+startable {n} {hs} {v} few inside free =
     record {
-      few = p .few;
-      below = λ i l. only i (omega arith) (p .inside);
-      room = omega (arith, count-split n (λ w. true) (held n (at hs)), count-all n (λ w. true) (λ w l. refl), count-some n (λ w. not (held n (at hs) w)) v (p .inside) (not-i _ (p .free)));
+      few = few;
+      below = λ i l. only i (omega arith) inside;
+      room = omega (arith, count-split n (λ w. true) (held n (at hs)), count-all n (λ w. true) (λ w l. refl), count-some n (λ w. not (held n (at hs) w)) v inside (not-i _ free));
     }
   where
     only : (i : ℕ) → i < 1 → v < n → at (v ∷ []) i < n
     only zero l k = k
     only (suc i) l k = absurd (omega arith)
+
+pub placeable-startable : {n : ℕ} {hs : List ℕ} {v : ℕ} → Placeable n hs v → Startable n hs (v ∷ [])
+placeable-startable p = startable (p .few) (p .inside) (p .free)
 
 -- what u holds finds room in the queue, where u is not seen yet
 pub going-room : {n : ℕ} {hs queue from : List ℕ} → Going n hs queue from → (u x : ℕ) → x < n → seen from u ≡ false → length queue + holds n (at hs) u ≤ n

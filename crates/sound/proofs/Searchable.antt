@@ -10,7 +10,7 @@ use borrow.Author.Tests.{leb-true, le-leb}
 use Rattle.packing.specs.Count.{all}
 use Rattle.packing.specs.Plant.{GATEWAYS, HIGHEST, at, common}
 use Rattle.packing.specs.Holders.{holds}
-use Rattle.packing.proofs.Tests.{tests, and-i, all-ext, all-intro, all-elim}
+use Rattle.packing.proofs.Tests.{tests, all-ext, all-intro, all-elim}
 use Rattle.sound.specs.Sound.{holdersWithin}
 use Rattle.sound.specs.Marks.{Tally}
 use Rattle.sound.specs.Searchable.{searchable}
