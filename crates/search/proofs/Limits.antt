@@ -1,16 +1,14 @@
 -- Limits that are equal for every gateway give the same search: a number that is no gateway counts as seen, so its limit is never looked at.
-use Prim.Native.Nat.{ℕ, zero, suc, _<_, _≤_}
+use Prim.Native.Nat.{ℕ, _<_, _≤_}
 use mathlib.Core.Path.{_≡_, refl, sym, ap, _∙_}
 use mathlib.Core.List.{List, [], _∷_}
 use native.Mathlib.Omega.{arith}
-use lib.Dec.{ltb}
 use lib.ListN.{length, replicate, getD-replicate}
-use borrow.Author.Tests.{ltb-true, ltb-false}
 use Rattle.packing.specs.Plant.{GATEWAYS, at, common, neighbours}
 use Rattle.packing.proofs.Tests.{by-bool}
-use Rattle.search.specs.Search.{more, seen, look, visit, turns, walk, settled, placedHolders, holdersAfter}
+use Rattle.search.specs.Search.{more, seen, look, visit, walk, settled, placedHolders, holdersAfter}
 use Rattle.search.specs.Pre.{Going, Startable, Placeable}
-use Rattle.search.proofs.States.{unseen-below, look-going, by-state, visit-found, visit-going, turns-zero, turns-found, turns-out, turns-step, going-start, placeable-startable}
+use Rattle.search.proofs.States.{unseen-below, look-going, by-state, visit-found, walk-alike, placeable-startable}
 use Rattle.search.proofs.Tested.{holders-placed}
 
 module _ {n : ℕ} {limit limit' : ℕ → ℕ} (same : (u : ℕ) → u < n → limit u ≡ limit' u) (ls hs : List ℕ) where
@@ -27,24 +25,8 @@ module _ {n : ℕ} {limit limit' : ℕ → ℕ} (same : (u : ℕ) → u < n → 
       ∙ by-state (look n limit' hs x u queue from) (λ w y f e. rw e (visit-found n limit hs x us ∙ sym (visit-found n limit' hs x us)))
       (λ q f e. rw e (visit-limits x us (look-going limit' g u x l e) l))
 
-  turns-limits : (fuel head : ℕ) {queue from : List ℕ} → Going n hs queue from → turns fuel n limit ls hs head (more queue from) ≡ turns fuel n limit' ls hs head (more queue from)
-  turns-limits zero head {queue} {from} g = turns-zero n limit ls hs head (more queue from) ∙ sym (turns-zero n limit' ls hs head (more queue from))
-  turns-limits (suc fuel) head {queue} {from} g =
-      by-bool (ltb head (length queue))
-      (λ e.
-      let l : head < length queue = ltb-true _ _ e in
-      let x : ℕ = at queue head in
-      let below : x < n = g .below head l in
-      turns-step fuel n limit ls hs head queue from l
-      ∙ ap (turns fuel n limit ls hs (suc head)) (visit-limits x (neighbours ls x) g below)
-      ∙ by-state (visit n limit' hs x (neighbours ls x) (more queue from))
-      (λ u y f v. rw v (turns-found fuel n limit ls hs (suc head) ∙ sym (turns-found fuel n limit' ls hs (suc head))))
-      (λ q f v. rw v (turns-limits fuel (suc head) (visit-going limit' x (neighbours ls x) g below v))) ∙ sym (turns-step fuel n limit' ls hs head queue from l))
-      (λ e. let k = ltb-false _ _ e in turns-out (suc fuel) n limit ls hs head queue from k ∙ sym (turns-out (suc fuel) n limit' ls hs head queue from k))
-
   pub walk-limits : {start : List ℕ} → Startable n hs start → walk n limit ls hs start ≡ walk n limit' ls hs start
-  unfolding walk
-  walk-limits s = turns-limits n 0 (going-start s)
+  walk-limits = walk-alike n limit limit' ls ls hs (λ x queue from g l. visit-limits x (neighbours ls x) g l)
 
   pub placed-limits : {v : ℕ} → Placeable n hs v → placedHolders n limit ls hs v ≡ placedHolders n limit' ls hs v
   unfolding placedHolders

@@ -71,7 +71,7 @@ module _ (n : ℕ) (limit : ℕ → ℕ) (x u : ℕ) (hs queue : List ℕ) (tail
       more-is (look-full n limit hs x u (take tail queue) from (unseen e none) (omega (arith, load, most)) ∙ rw (j .state, mark)) (j .within)
 
 -- one link: a look at its other end, where NONE stands for a link that x is no end of
-link-visit : (n : ℕ) (limit : ℕ → ℕ) (hs : List ℕ) (x a b : ℕ) (rest queue from : List ℕ) {u : ℕ} → length from ≤ 1024 → u ≡ cond (eqb a x) b (cond (eqb b x) a NONE)
+link-visit : (n : ℕ) (limit : ℕ → ℕ) (hs : List ℕ) (x a b : ℕ) (rest queue from : List ℕ) {u : ℕ} → length from ≤ GATEWAYS → u ≡ cond (eqb a x) b (cond (eqb b x) a NONE)
     → visit n limit hs x (neighbours (a ∷ b ∷ rest) x) (more queue from) ≡ visit n limit hs x (neighbours rest x) (look n limit hs x u queue from)
 unfolding visit neighbours
 link-visit n limit hs x a b rest queue from long e =
