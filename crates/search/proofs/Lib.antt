@@ -1,5 +1,5 @@
--- Laws of the search: of lists and states; of the loops (Loads, Turns, and the rounds of Shifting); of what a walk reaches, what a shift leaves, and what placing does.
--- Laws of the choke set: of the lists and the loops that write them (Left, Seen), and of the set itself.
+-- Laws of the search: of lists and states; of the loops (Loads, Turns, and the rounds of Shifting); of what a walk reaches, what a shift leaves, what placing does, and what it does not depend on (Repeats, Limits).
+-- Laws of the choke set: of the lists and the loops that write them (Unheld, Seen), and of the walk itself. Tested has what the public calls test.
 pub mod Examples
 pub mod Queue
 pub mod States
@@ -10,7 +10,8 @@ pub mod Shifting
 pub mod Placing
 pub mod Tested
 pub mod Repeats
-pub mod Left
+pub mod Limits
+pub mod Unheld
 pub mod Seen
 pub mod ChokeLaws
 pub mod ChokeExamples

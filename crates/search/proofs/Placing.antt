@@ -1,8 +1,8 @@
--- What placing does (01, "Placing"): v is kept, with feasible holders that hold what was held and v; or v is left, behind a tight pair.
+-- 01's search is a way of placing: v is kept or left, as packing says it of holders before and after; and what either leaves of the list.
 use Prim.Native.Nat.{ℕ, zero, suc, _<_, _≤_}
 use mathlib.Core.Path.{_≡_, refl, sym, ap, _∙_}
 use mathlib.Core.Logic.{_⊎_, inl, inr, ⊎-elim}
-use mathlib.Core.Bool.{Bool, true, false, _||_, false≢true}
+use mathlib.Core.Bool.{true, false, _||_, false≢true}
 use mathlib.Core.List.{List, [], _∷_}
 use native.Mathlib.Nat.{not-suc-le-zero}
 use native.Mathlib.Omega.{arith}
@@ -14,21 +14,12 @@ use Rattle.packing.specs.Plant.{NONE, at, linked}
 use Rattle.packing.specs.Holders.{held, Feasible}
 use Rattle.packing.proofs.Tests.{by-bool, clash, or-cases, or-l}
 use Rattle.packing.specs.Lists.{memberOf}
-use Rattle.packing.proofs.Tight.{Tight}
+use Rattle.packing.proofs.Placing.{Kept, Left, Placing}
 use Rattle.search.specs.Search.{found, more, seen, walk, settled, placedHolders}
 use Rattle.search.specs.Pre.{Placeable}
-use Rattle.search.proofs.States.{by-state, unseen-below, mark-keeps, startable}
+use Rattle.search.proofs.States.{by-state, unseen-below, mark-keeps, placeable-startable}
 use Rattle.search.proofs.Reach.{FoundAt, queued-cases, walk-exhausted, walk-found}
-use Rattle.search.proofs.Shifting.{Kept, Chain, shift-any, shift-kept, shift-length}
-
--- v is left: it is in R of a tight pair, every other gateway of R is held, and no holder changed
-pub record Left (n : ℕ) (limit : ℕ → ℕ) (ls hs : List ℕ) (v : ℕ) : Type 0 where
-  pub R : ℕ → Bool
-  pub S : ℕ → Bool
-  pub tight : Tight n limit (linked ls) (at hs) R S
-  pub mine : R v ≡ true
-  pub others : (x : ℕ) → x < n → R x ≡ true → (x ≡ v) ⊎ (held n (at hs) x ≡ true)
-  pub unchanged : placedHolders n limit ls hs v ≡ hs
+use Rattle.search.proofs.Shifting.{Chain, shift-any, shift-kept, shift-length}
 
 -- the list of v alone
 alone : (v x : ℕ) → memberOf (v ∷ []) x ≡ true → x ≡ v
@@ -57,18 +48,18 @@ module _ {n : ℕ} (limit : ℕ → ℕ) (ls : List ℕ) {hs : List ℕ} {v : �
       let r = queued-chain f (suc (f .place)) (f .place) (omega arith) (f .inside) in (r .0, omega (arith, r .1, f .inside, f .reach .going .room), rw (f .seer) at (r .2))
 
   -- v is kept where the walk found a place free
-  pub place-kept : {u x : ℕ} {from : List ℕ} → Feasible n limit (linked ls) (at hs) → walk n limit ls hs (v ∷ []) ≡ found u x from → Kept n limit (linked ls) hs (placedHolders n limit ls hs v) v
+  place-kept : {u x : ℕ} {from : List ℕ} → Feasible n limit (linked ls) (at hs) → walk n limit ls hs (v ∷ []) ≡ found u x from → Kept n limit (linked ls) (at hs) (at (placedHolders n limit ls hs v)) v
   unfolding placedHolders settled
   place-kept {u} {x} {from} f e =
-      let w = walk-found (startable p) e in
+      let w = walk-found (placeable-startable p) e in
       let c = found-chain w in
       rw e (shift-kept n ls v from (p .inside) n (c .0) hs u x (c .1) (p .holders) (unseen-below (w .marks) u (w .reach .going .marks) (w .unseen)) (c .2) (w .link) f (w .free))
 
   -- v is left where the queue ran out
-  pub place-left : {queue from : List ℕ} → Feasible n limit (linked ls) (at hs) → walk n limit ls hs (v ∷ []) ≡ more queue from → Left n limit ls hs v
+  place-left : {queue from : List ℕ} → Feasible n limit (linked ls) (at hs) → walk n limit ls hs (v ∷ []) ≡ more queue from → Left n limit (linked ls) (at hs) (at (placedHolders n limit ls hs v)) v
   unfolding placedHolders settled memberOf
   place-left {queue} {from} f e =
-      let w = walk-exhausted (startable p) e in
+      let w = walk-exhausted (placeable-startable p) e in
       record {
         R = memberOf queue;
         S = seen from;
@@ -82,9 +73,9 @@ module _ {n : ℕ} (limit : ℕ → ℕ) (ls : List ℕ) {hs : List ℕ} {v : �
         unchanged = rw e;
       }
 
-  -- either way, for callers that do not look into the search
-  pub place-cases : Feasible n limit (linked ls) (at hs) → Kept n limit (linked ls) hs (placedHolders n limit ls hs v) v ⊎ Left n limit ls hs v
-  place-cases f = by-state (walk n limit ls hs (v ∷ [])) (λ u x from e. inl (place-kept f e)) (λ queue from e. inr (place-left f e))
+  -- so it is a way of placing v
+  pub place-is : Feasible n limit (linked ls) (at hs) → Placing n limit (linked ls) (at hs) (at (placedHolders n limit ls hs v)) v
+  place-is f = by-state (walk n limit ls hs (v ∷ [])) (λ u x from e. inl (place-kept f e)) (λ queue from e. inr (place-left f e))
 
   -- Whether v is kept or left:
   -- what any entry written among the first n keeps, placing keeps
@@ -93,7 +84,7 @@ module _ {n : ℕ} (limit : ℕ → ℕ) (ls : List ℕ) {hs : List ℕ} {v : �
   placed-any P step start =
       by-state (walk n limit ls hs (v ∷ []))
       (λ u x from e.
-      let w = walk-found (startable p) e in
+      let w = walk-found (placeable-startable p) e in
       let c = found-chain w in
       rw e (shift-any n ls v from (p .inside) P step n (c .0) hs u x (unseen-below (w .marks) u (w .reach .going .marks) (w .unseen)) (c .2) start))
       (λ queue from e. rw e start)

@@ -46,8 +46,8 @@ pub record Reach (n : ℕ) (limit : ℕ → ℕ) (ls hs start queue from : List 
   pub full : (u : ℕ) → u < n → seen from u ≡ true → limit u ≤ holds n (at hs) u
 
 -- the links of the gateways before place k are all looked at
-abbrev pub Closed : ℕ → List ℕ → List ℕ → List ℕ → ℕ → Type 0
-Closed n ls queue from k = (i : ℕ) → i < k → i < length queue → (u : ℕ) → u < n → linked ls (at queue i) u ≡ true → seen from u ≡ true
+abbrev pub LinksSeen : ℕ → List ℕ → List ℕ → List ℕ → ℕ → Type 0
+LinksSeen n ls queue from k = (i : ℕ) → i < k → i < length queue → (u : ℕ) → u < n → linked ls (at queue i) u ≡ true → seen from u ≡ true
 
 -- a place free at u, looked at from x: the state before, and that all of it holds
 pub record FoundAt (n : ℕ) (limit : ℕ → ℕ) (ls hs start : List ℕ) (u x : ℕ) (from : List ℕ) : Type 0 where
@@ -198,16 +198,16 @@ module _ (n : ℕ) (limit : ℕ → ℕ) (ls hs start : List ℕ) where
   -- after turns up to place k
   unfoldable pub Ran : ℕ → Search → Type 0
   Ran k (found u x from) = FoundAt n limit ls hs start u x from
-  Ran k (more queue from) = Reach n limit ls hs start queue from × Closed n ls queue from k
+  Ran k (more queue from) = Reach n limit ls hs start queue from × LinksSeen n ls queue from k
 
   -- the closed places after a turn
-  closed-turn : {queue from queue' from' : List ℕ} (head : ℕ) → head < length queue → Closed n ls queue from head → Grown queue from queue' from'
-      → ((u : ℕ) → memberOf (neighbours ls (at queue head)) u ≡ true → seen from' u ≡ true) → Closed n ls queue' from' (suc head)
+  closed-turn : {queue from queue' from' : List ℕ} (head : ℕ) → head < length queue → LinksSeen n ls queue from head → Grown queue from queue' from'
+      → ((u : ℕ) → memberOf (neighbours ls (at queue head)) u ≡ true → seen from' u ≡ true) → LinksSeen n ls queue' from' (suc head)
   closed-turn {queue} head l c g s i k inside u b a =
       below-suc i head k (λ q. s u (neighbours-linked ls (at queue head) u ∙ (rw (q, g .same head l) at a)))
       (λ q. g .keeps u (c i q (omega arith) u b (rw (g .same i (omega arith)) at a)))
 
-  turns-reach : {queue from : List ℕ} (fuel head : ℕ) → Reach n limit ls hs start queue from → Closed n ls queue from head → Ran (head + fuel) (turns fuel n limit ls hs head (more queue from))
+  turns-reach : {queue from : List ℕ} (fuel head : ℕ) → Reach n limit ls hs start queue from → LinksSeen n ls queue from head → Ran (head + fuel) (turns fuel n limit ls hs head (more queue from))
   unfolding Ran After
   turns-reach {queue} {from} zero head r c = rw (turns-zero n limit ls hs head (more queue from)) (r, λ i l. c i (omega arith))
   turns-reach {queue} {from} (suc fuel) head r c =
@@ -227,6 +227,10 @@ module _ (n : ℕ) (limit : ℕ → ℕ) (ls hs start : List ℕ) where
   pub walk-reach : Startable n hs start → Ran n (walk n limit ls hs start)
   unfolding walk
   walk-reach s = rw zero-add at (turns-reach n 0 (reach-start s) (λ i l. absurd (not-suc-le-zero l)))
+
+-- what may start a search is below n
+pub start-below : {n : ℕ} {hs start : List ℕ} → Startable n hs start → (x : ℕ) → memberOf start x ≡ true → x < n
+start-below {start = start} s x m = let (i, l, q) = member-place start x m in rw q at (s .below i l)
 
 -- A walk whose queue ran out: the queue is R, and those seen are S.
 pub record Exhausted (n : ℕ) (limit : ℕ → ℕ) (ls hs start queue from : List ℕ) : Type 0 where

@@ -1,20 +1,20 @@
 -- "A link listed twice in a record filled by hand counts where it first stands": a neighbour that was looked at is seen, and looking at it again changes nothing.
-use Prim.Native.Nat.{ℕ, zero, suc, _*_, _-_, _<_}
+use Prim.Native.Nat.{ℕ, _*_, _-_}
 use mathlib.Core.Path.{_≡_, refl, sym, ap, _∙_}
 use mathlib.Core.Logic.{_⊎_, inl, inr, ⊎-elim}
 use mathlib.Core.Bool.{Bool, true, false, cond, false≢true}
 use mathlib.Core.List.{List, [], _∷_, _++_}
 use native.Mathlib.Omega.{arith}
-use lib.Dec.{eqb, ltb}
+use lib.Dec.{eqb}
 use lib.ListN.{length, set}
-use borrow.Author.Tests.{eqb-true, ltb-true, ltb-false}
-use Rattle.packing.specs.Plant.{NONE, at, linked, neighbours}
+use borrow.Author.Tests.{eqb-true}
+use Rattle.packing.specs.Plant.{NONE, linked, neighbours}
 use Rattle.packing.proofs.Tests.{by-bool, or-cases}
 use Rattle.packing.proofs.Links.{neighbours-linked, linked-sym}
 use Rattle.packing.specs.Lists.{memberOf}
-use Rattle.search.specs.Search.{Search, found, more, seen, look, visit, turns, walk, settled, placedHolders}
-use Rattle.search.specs.Pre.{Going, Startable, Placeable}
-use Rattle.search.proofs.States.{gateway-some, unseen-below, seen-marked, seen-kept, look-seen, look-cases, by-state, never-both, visit-found, visit-going, turns-zero, turns-found, turns-out, turns-step, going-start, startable}
+use Rattle.search.specs.Search.{Search, found, more, seen, look, visit, walk, settled, placedHolders}
+use Rattle.search.specs.Pre.{Startable, Placeable}
+use Rattle.search.proofs.States.{gateway-some, unseen-below, seen-marked, seen-kept, look-seen, look-cases, by-state, never-both, visit-found, walk-alike, placeable-startable}
 
 module _ (n : ℕ) (limit : ℕ → ℕ) (hs : List ℕ) (x : ℕ) (some : x ≡ NONE → ⊥) where
   -- a neighbour that was looked at is seen, and so is whoever was seen before
@@ -78,28 +78,11 @@ module _ (n : ℕ) (limit : ℕ → ℕ) (hs : List ℕ) (m : ℕ) (ls rest : Li
       (λ f. rw (e, f) (visit-repeat n limit hs x some (neighbours ls x) (neighbours rest x) a queue from (neighbours-linked ls x a ∙ linked-sym ls x a ∙ (rw (eqb-true b x f) at there))))
       (λ f. rw (e, f))))
 
-  turns-repeat : (fuel head : ℕ) {queue from : List ℕ} → Going n hs queue from
-      → turns fuel n limit (ls ++ a ∷ b ∷ rest) hs head (more queue from) ≡ turns fuel n limit (ls ++ rest) hs head (more queue from)
-  turns-repeat zero head {queue} {from} g = turns-zero n limit (ls ++ a ∷ b ∷ rest) hs head (more queue from) ∙ sym (turns-zero n limit (ls ++ rest) hs head (more queue from))
-  turns-repeat (suc fuel) head {queue} {from} g =
-      by-bool (ltb head (length queue))
-      (λ e.
-      let l : head < length queue = ltb-true _ _ e in
-      let x : ℕ = at queue head in
-      let below : x < n = g .below head l in
-      turns-step fuel n limit (ls ++ a ∷ b ∷ rest) hs head queue from l
-      ∙ ap (turns fuel n limit (ls ++ a ∷ b ∷ rest) hs (suc head)) (link-repeat x (gateway-some (g .few) below) queue from)
-      ∙ by-state (visit n limit hs x (neighbours (ls ++ rest) x) (more queue from))
-      (λ u y f v. rw (v, turns-found fuel n limit (ls ++ a ∷ b ∷ rest) hs (suc head)) (sym (turns-found fuel n limit (ls ++ rest) hs (suc head))))
-      (λ q f v. rw v (turns-repeat fuel (suc head) (visit-going limit x (neighbours (ls ++ rest) x) g below v))) ∙ sym (turns-step fuel n limit (ls ++ rest) hs head queue from l))
-      (λ e. let k = ltb-false _ _ e in turns-out (suc fuel) n limit (ls ++ a ∷ b ∷ rest) hs head queue from k ∙ sym (turns-out (suc fuel) n limit (ls ++ rest) hs head queue from k))
-
   -- the walk is the one without it
   pub walk-repeat : {start : List ℕ} → Startable n hs start → walk n limit (ls ++ a ∷ b ∷ rest) hs start ≡ walk n limit (ls ++ rest) hs start
-  unfolding walk
-  walk-repeat s = turns-repeat n 0 (going-start s)
+  walk-repeat = walk-alike n limit limit (ls ++ a ∷ b ∷ rest) (ls ++ rest) hs (λ x queue from g l. link-repeat x (gateway-some (g .few) l) queue from)
 
   -- and so are the holders after placing
   pub place-repeat : {v : ℕ} → Placeable n hs v → placedHolders n limit (ls ++ a ∷ b ∷ rest) hs v ≡ placedHolders n limit (ls ++ rest) hs v
   unfolding placedHolders
-  place-repeat {v} p = ap (settled n v hs) (walk-repeat (startable p))
+  place-repeat {v} p = ap (settled n v hs) (walk-repeat (placeable-startable p))

@@ -1,6 +1,6 @@
 -- From the lists that the walk works in to the choke bytes.
-use Prim.Native.Nat.{ℕ, _≤_}
-use mathlib.Core.Path.{_≡_, ap, _∙_}
+use Prim.Native.Nat.{ℕ, zero, suc, _≤_}
+use mathlib.Core.Path.{_≡_, refl, ap, fun-ext, _∙_}
 use mathlib.Core.Bool.{Bool, not}
 use mathlib.Core.List.{List}
 use native.Mathlib.Omega.{arith}
@@ -9,16 +9,16 @@ use lib.ListN.{length, take, replicate, length-replicate}
 use borrow.Author.Tests.{eq-eqb, ne-eqb}
 use Rattle.packing.specs.Count.{pick}
 use Rattle.packing.specs.Lists.{listOf, written, Lent}
-use Rattle.packing.specs.Plant.{NONE, at, common}
+use Rattle.packing.specs.Plant.{NONE, GATEWAYS, at, common}
 use Rattle.search.specs.Search.{Search, seen, walk}
 use Rattle.search.specs.declared.Walked.{Walked}
 use Rattle.search.specs.declared.Walked.the-variants.{Found, RanOut}
 use Rattle.search.specs.Pre.{outcome, Is, Walkable}
-use Rattle.search.specs.ChokeSet.{chokeWalk, seenIn, inChoke, chokeByte}
+use Rattle.search.specs.ChokeSet.{withoutHolder, chokeWalk, seenIn, walkSaw, inChoke, chokeByte}
 use Rattle.search.specs.ChokePre.{Queued, Workable, seenByte}
 use Rattle.packing.proofs.Lists.{listOf-ext}
 use Rattle.search.proofs.Turns.{workspace}
-use Rattle.search.proofs.Left.{left-startable}
+use Rattle.search.proofs.Unheld.{unheld-startable}
 
 -- a byte of one that is not seen, and of one that is
 pub byte-none : {k : ℕ} → k ≡ NONE → 0 ≡ pick (not (eqb k NONE)) 1
@@ -37,12 +37,22 @@ unfolding outcome seenIn
 walked-seen (Found u x) queue from e v = ap (λ (t : Search). seenIn t v) e
 walked-seen (RanOut tail) queue from e v = ap (λ (t : Search). seenIn t v) e
 
+-- a list of zeros is the common limit of 0
+zero-limits : at (replicate GATEWAYS 0) ≡ common 0
+unfolding common
+zero-limits = fun-ext (λ u. zeros GATEWAYS u)
+  where
+    zeros : (k u : ℕ) → at (replicate k 0) u ≡ 0
+    zeros zero u = refl
+    zeros (suc k) zero = refl
+    zeros (suc k) (suc u) = zeros k u
+
 module _ {n : ℕ} {hs queue from out queue' : List ℕ} {tail : ℕ} (w : Workable n hs queue from out) (q : Queued n hs queue' tail) where
   -- the gateways without holder may be walked from
   pub set-walkable : length queue' ≡ length queue → Walkable n hs queue' tail from
   set-walkable same =
       record {
-        start = rw (q .state) (left-startable n hs (w .lent .few));
+        start = rw (q .state) (unheld-startable n hs (w .lent .few));
         holders = w .lent .entries;
         within = q .within;
         space = record { places = omega (arith, w .space .places); unseen = w .space .unseen };
@@ -56,15 +66,18 @@ module _ {n : ℕ} {hs queue from out queue' : List ℕ} {tail : ℕ} (w : Worka
   pub set-places : {m : ℕ} → m ≡ length from → m ≤ length out
   set-places same = omega (arith, marks-long same, w .lent .places)
 
-  -- the bytes of those seen in a walk with a limit of 0 are the choke bytes
-  pub set-written : (t : ℕ) (ls : List ℕ) {r : Walked} {queue'' from' new : List ℕ} → Is r queue'' from' (walk n (common t) ls hs (take tail queue')) → t ≡ 0 → length from' ≡ length from
-      → new ≡ written (length from') (listOf (length from') (seenByte from')) out → new ≡ written n (listOf n (chokeByte n ls hs)) out
-  unfolding chokeByte inChoke chokeWalk seenByte
-  set-written t ls {r} {queue''} {from'} d none same e =
+  -- the bytes of those seen in a walk with limits of 0 are the choke bytes
+  pub set-written : (limits ls : List ℕ) {r : Walked} {queue'' from' new : List ℕ} → Is r queue'' from' (walk n (at limits) ls hs (take tail queue')) → limits ≡ replicate GATEWAYS 0
+      → length from' ≡ length from → new ≡ written (length from') (listOf (length from') (seenByte from')) out → new ≡ written n (listOf n (chokeByte n ls hs)) out
+  unfolding chokeByte inChoke walkSaw chokeWalk seenByte
+  set-written limits ls {r} {queue''} {from'} d none same e =
       (rw (marks-long same) at e)
       ∙ ap (λ (l : List ℕ). written n l out)
-      (listOf-ext n (seenByte from') (chokeByte n ls hs) (λ v l. ap (λ (b : Bool). pick b 1) (walked-seen r queue'' from' (rw (q .state, none) at (d .state)) v)))
+      (listOf-ext n (seenByte from') (chokeByte n ls hs) (λ v l. ap (λ (b : Bool). pick b 1) (walked-seen r queue'' from' (d .state ∙ same-walk) v)))
+    where
+      same-walk : walk n (at limits) ls hs (take tail queue') ≡ walk n (common 0) ls hs (withoutHolder n hs)
+      same-walk = rw (none, q .state) (ap (λ (limit : ℕ → ℕ). walk n limit ls hs (withoutHolder n hs)) zero-limits)
 
 -- the arrays to work in
-pub lent-workable : {n : ℕ} {hs out : List ℕ} → Lent n hs out → Workable n hs (replicate 1024 0) (take n (replicate 1024 NONE)) out
-lent-workable {n} l = record { lent = l; space = workspace n (l .few) }
+pub lent-workable : {n : ℕ} {hs out queue all : List ℕ} → queue ≡ replicate GATEWAYS 0 → all ≡ replicate GATEWAYS NONE → Lent n hs out → Workable n hs queue (take n all) out
+lent-workable zeros unseen l = record { lent = l; space = workspace unseen zeros (l .few) }

@@ -13,6 +13,7 @@ use Rattle.packing.specs.Count.{pick, count}
 use Rattle.packing.specs.Plant.{at, linked}
 use Rattle.packing.specs.Holders.{held, holds, Feasible}
 use Rattle.packing.proofs.Tests.{by-bool}
+use Rattle.packing.proofs.Placing.{Kept}
 use Rattle.packing.proofs.Sums.{sum-ext, sum-single, pick-and, count-ext, count-split}
 use Rattle.search.specs.Search.{shift}
 
@@ -111,11 +112,6 @@ module _ (n : ℕ) (hs : List ℕ) (x u : ℕ) (long : n ≤ length hs) (inside 
         by-bool (eqb u (at hs x)) (λ q. let same : u ≡ at hs x = eqb-true u (at hs x) q in omega (arith, taken-holds (at hs x), one, ap (λ (b : Bool). pick b 1) q, rw same at free))
         (λ q. omega (arith, taken-holds (at hs x), one, ap (λ (b : Bool). pick b 1) q, f .within (at hs x) below))
 
--- what is kept: the holders hs' are feasible, and hold what hs held and v
-pub record Kept (n : ℕ) (limit : ℕ → ℕ) (adj : ℕ → ℕ → Bool) (hs hs' : List ℕ) (v : ℕ) : Type 0 where
-  pub feasible : Feasible n limit adj (at hs')
-  pub holding : (w : ℕ) → w < n → held n (at hs') w ≡ (held n (at hs) w || eqb w v)
-
 module _ (n : ℕ) (ls : List ℕ) (v : ℕ) (from : List ℕ) (inside : v < n) where
   -- From x, going to the gateway that the holder was seen from, v is reached in k steps and not before. So each gateway has one such k, and none comes twice.
   unfoldable pub Chain : List ℕ → ℕ → ℕ → Type 0
@@ -150,7 +146,7 @@ module _ (n : ℕ) (ls : List ℕ) (v : ℕ) (from : List ℕ) (inside : v < n) 
 
   -- The shift: the holders so far are feasible, and u has a place free.
   pub shift-kept : {limit : ℕ → ℕ} (fuel k : ℕ) (hs : List ℕ) (u x : ℕ) → k < fuel → n ≤ length hs → u < n → Chain hs k x → linked ls x u ≡ true
-      → Feasible n limit (linked ls) (at hs) → holds n (at hs) u < limit u → Kept n limit (linked ls) hs (shift fuel v from u x hs) v
+      → Feasible n limit (linked ls) (at hs) → holds n (at hs) u < limit u → Kept n limit (linked ls) (at hs) (at (shift fuel v from u x hs)) v
   unfolding shift Chain
   shift-kept zero k hs u x l long below c link f free = absurd (not-suc-le-zero l)
   shift-kept {limit} (suc fuel) zero hs u x l long below c link f free =
@@ -161,7 +157,7 @@ module _ (n : ℕ) (ls : List ℕ) (v : ℕ) (from : List ℕ) (inside : v < n) 
       })
   shift-kept {limit} (suc fuel) (suc k) hs u x l long below c link f free =
       let old : at hs x < n = ltb-true _ _ (c .2) in
-      let r : Kept n limit (linked ls) (set hs x u) (shift fuel v from (at hs x) (at from (at hs x)) (set hs x u)) v =
+      let r : Kept n limit (linked ls) (at (set hs x u)) (at (shift fuel v from (at hs x) (at from (at hs x)) (set hs x u))) v =
       shift-kept fuel k (set hs x u) (at hs x) (at from (at hs x)) (omega arith) (rw length-set long) old (chain-kept hs x u (suc k) c k (at from (at hs x)) (omega arith) (c .4)) (c .3)
       (taken-feasible n hs x u long (c .1) f free link) (taken-frees n hs x u long (c .1) f free old) in
       rw (ne-eqb x v (c .0))

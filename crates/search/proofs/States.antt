@@ -9,16 +9,16 @@ use lib.ListN.{length, set, replicate, length-append, length-set, length-replica
 use lib.Seq.{getD-set-same, getD-set-other}
 use borrow.Author.Tests.{eqb-true, eqb-false, ne-eqb, lt-ltb, le-ltb, ltb-true, ltb-false, not-true, not-false}
 use Rattle.packing.specs.Count.{count}
-use Rattle.packing.specs.Plant.{NONE, at, neighbours}
+use Rattle.packing.specs.Plant.{NONE, GATEWAYS, at, neighbours}
 use Rattle.packing.specs.Holders.{held, holds}
 use Rattle.packing.proofs.Tests.{by-bool, clash, and-l, and-r, and-i, not-i, iff-test}
 use Rattle.packing.proofs.Sums.{count-ext, count-split, count-mono, count-all, count-some}
-use Rattle.search.specs.Search.{Search, found, more, seen, heldBy, look, visit, turn, turns}
+use Rattle.search.specs.Search.{Search, found, more, seen, heldBy, look, visit, turn, turns, walk}
 use Rattle.search.specs.Pre.{waiting, Going, Startable, Placeable}
 use Rattle.search.proofs.Queue.{member-at, append-at, heldBy-length, heldBy-out}
 
 -- a gateway is no NONE
-pub gateway-some : {n x : ℕ} → n ≤ 1024 → x < n → x ≡ NONE → ⊥
+pub gateway-some : {n x : ℕ} → n ≤ GATEWAYS → x < n → x ≡ NONE → ⊥
 gateway-some few l e = omega arith
 
 -- whoever is not seen is a gateway
@@ -117,18 +117,21 @@ going-start {n} {hs} {start} s =
       below = s .below;
     }
 
--- a gateway without holder may start a search alone
-pub startable : {n : ℕ} {hs : List ℕ} {v : ℕ} → Placeable n hs v → Startable n hs (v ∷ [])
-startable {n} {hs} {v} p =
+-- a gateway without holder may start a search by itself
+pub startable : {n : ℕ} {hs : List ℕ} {v : ℕ} → n ≤ GATEWAYS → v < n → held n (at hs) v ≡ false → Startable n hs (v ∷ [])
+startable {n} {hs} {v} few inside free =
     record {
-      few = p .few;
-      below = λ i l. only i (omega arith) (p .inside);
-      room = omega (arith, count-split n (λ w. true) (held n (at hs)), count-all n (λ w. true) (λ w l. refl), count-some n (λ w. not (held n (at hs) w)) v (p .inside) (not-i _ (p .free)));
+      few = few;
+      below = λ i l. only i (omega arith) inside;
+      room = omega (arith, count-split n (λ w. true) (held n (at hs)), count-all n (λ w. true) (λ w l. refl), count-some n (λ w. not (held n (at hs) w)) v inside (not-i _ free));
     }
   where
     only : (i : ℕ) → i < 1 → v < n → at (v ∷ []) i < n
     only zero l k = k
     only (suc i) l k = absurd (omega arith)
+
+pub placeable-startable : {n : ℕ} {hs : List ℕ} {v : ℕ} → Placeable n hs v → Startable n hs (v ∷ [])
+placeable-startable p = startable (p .few) (p .inside) (p .free)
 
 -- what u holds finds room in the queue, where u is not seen yet
 pub going-room : {n : ℕ} {hs queue from : List ℕ} → Going n hs queue from → (u x : ℕ) → x < n → seen from u ≡ false → length queue + holds n (at hs) u ≤ n
@@ -196,3 +199,27 @@ pub turns-step : (fuel n : ℕ) (limit : ℕ → ℕ) (ls hs : List ℕ) (head :
     → turns (suc fuel) n limit ls hs head (more queue from) ≡ turns fuel n limit ls hs (suc head) (visit n limit hs (at queue head) (neighbours ls (at queue head)) (more queue from))
 unfolding turns turn
 turns-step fuel n limit ls hs head queue from l = rw (lt-ltb head (length queue) l)
+
+-- Two searches by other limits or links, in which the looks of every gateway taken from the queue give the same, are the same.
+module _
+    (n : ℕ) (limit limit' : ℕ → ℕ) (ls ls' hs : List ℕ)
+    (alike : (x : ℕ) (queue from : List ℕ) → Going n hs queue from → x < n → visit n limit hs x (neighbours ls x) (more queue from) ≡ visit n limit' hs x (neighbours ls' x) (more queue from))
+  where
+    turns-alike : (fuel head : ℕ) {queue from : List ℕ} → Going n hs queue from → turns fuel n limit ls hs head (more queue from) ≡ turns fuel n limit' ls' hs head (more queue from)
+    turns-alike zero head {queue} {from} g = turns-zero n limit ls hs head (more queue from) ∙ sym (turns-zero n limit' ls' hs head (more queue from))
+    turns-alike (suc fuel) head {queue} {from} g =
+        by-bool (ltb head (length queue))
+        (λ e.
+        let l : head < length queue = ltb-true _ _ e in
+        let x : ℕ = at queue head in
+        let below : x < n = g .below head l in
+        turns-step fuel n limit ls hs head queue from l
+        ∙ ap (turns fuel n limit ls hs (suc head)) (alike x queue from g below)
+        ∙ by-state (visit n limit' hs x (neighbours ls' x) (more queue from))
+        (λ u y f v. rw v (turns-found fuel n limit ls hs (suc head) ∙ sym (turns-found fuel n limit' ls' hs (suc head))))
+        (λ q f v. rw v (turns-alike fuel (suc head) (visit-going limit' x (neighbours ls' x) g below v))) ∙ sym (turns-step fuel n limit' ls' hs head queue from l))
+        (λ e. let k = ltb-false _ _ e in turns-out (suc fuel) n limit ls hs head queue from k ∙ sym (turns-out (suc fuel) n limit' ls' hs head queue from k))
+
+    pub walk-alike : {start : List ℕ} → Startable n hs start → walk n limit ls hs start ≡ walk n limit' ls' hs start
+    unfolding walk
+    walk-alike s = turns-alike n 0 (going-start s)

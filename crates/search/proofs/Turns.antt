@@ -10,7 +10,8 @@ use lib.Dec.{eqb}
 use lib.ListN.{length, set, take, drop, replicate, length-set, length-replicate, List·getD-eq-default}
 use lib.Seq.{length-take-le, getD-take}
 use borrow.Author.Tests.{eq-eqb, ne-eqb}
-use Rattle.packing.specs.Plant.{NONE, at, common, neighbours}
+use Rattle.packing.specs.Plant.{NONE, GATEWAYS, at, neighbours}
+use Rattle.packing.specs.Count.{count}
 use Rattle.packing.specs.Holders.{holds}
 use Rattle.packing.proofs.Tests.{by-bool, not-i, not-i-false}
 use Rattle.packing.proofs.Flat.{pair-at, pair-end}
@@ -18,7 +19,7 @@ use Rattle.search.specs.Search.{Search, found, more, seen, look, visit, 
 use Rattle.search.specs.declared.Walked.{Walked}
 use Rattle.search.specs.declared.Walked.the-variants.{Found, RanOut}
 use Rattle.search.specs.Pre.{outcome, queued, Is, Going, Ready, Joinable, Joined, Workspace, Walkable, Placeable, Settleable}
-use Rattle.search.proofs.States.{look-seen, look-free, look-full, look-going, going-room, going-start, visit-found, visit-going, turns-found, turns-out, turns-step, startable}
+use Rattle.search.proofs.States.{look-seen, look-free, look-full, look-going, going-room, going-start, visit-found, visit-going, turns-found, turns-out, turns-step, placeable-startable}
 
 -- a state read from a result and the lent lists
 found-state : {u x : ℕ} {queue from : List ℕ} {s : Search} → Is (Found u x) queue from s → s ≡ found u x from
@@ -41,19 +42,19 @@ more-is : {tail : ℕ} {queue from : List ℕ} {s : Search} → s ≡ more (take
 unfolding outcome queued
 more-is e l = record { state = sym e; within = l }
 
--- The three ways of a look. The lent list of marks is from' once u is marked, and k is u's entry.
-module _ (n t x u : ℕ) (hs queue : List ℕ) (tail : ℕ) (from : List ℕ) (r : Ready n x hs queue tail from) where
+-- The three ways of a look. The lent list of marks is from' once u is marked, k is u's entry, and t is u's limit.
+module _ (n : ℕ) (limit : ℕ → ℕ) (x u : ℕ) (hs queue : List ℕ) (tail : ℕ) (from : List ℕ) (r : Ready n x hs queue tail from) where
   unseen : {k : ℕ} → k ≡ at from u → k ≡ NONE → seen from u ≡ false
   unseen e none = not-i-false _ (eq-eqb (at from u) NONE (sym e ∙ none))
 
-  pub look-is-seen : {k : ℕ} → k ≡ at from u → (k ≡ NONE → ⊥) → Is (RanOut tail) queue from (look n (common t) hs x u (take tail queue) from)
-  look-is-seen e some = more-is (look-seen n (common t) hs x u (take tail queue) from (not-i _ (ne-eqb (at from u) NONE (λ q. some (e ∙ q))))) (r .within)
+  pub look-is-seen : {k : ℕ} → k ≡ at from u → (k ≡ NONE → ⊥) → Is (RanOut tail) queue from (look n limit hs x u (take tail queue) from)
+  look-is-seen e some = more-is (look-seen n limit hs x u (take tail queue) from (not-i _ (ne-eqb (at from u) NONE (λ q. some (e ∙ q))))) (r .within)
 
-  pub look-is-free : {k load : ℕ} {from' : List ℕ} → k ≡ at from u → k ≡ NONE → from' ≡ set from u x → load ≡ holds n (at hs) u → load < t
-      → Is (Found u x) queue from' (look n (common t) hs x u (take tail queue) from)
-  unfolding common
-  look-is-free e none mark count less =
-      found-is (look-free n (common t) hs x u (take tail queue) from (unseen e none) (omega (arith, count)) ∙ ap (found u x) (sym mark))
+  pub look-is-free : {k load t : ℕ} {from' : List ℕ} → k ≡ at from u → k ≡ NONE → from' ≡ set from u x → load ≡ count n (λ w. eqb (at hs w) u) → t ≡ limit u → load < t
+      → Is (Found u x) queue from' (look n limit hs x u (take tail queue) from)
+  unfolding holds
+  look-is-free e none mark load most less =
+      found-is (look-free n limit hs x u (take tail queue) from (unseen e none) (omega (arith, load, most)) ∙ ap (found u x) (sym mark))
 
   pub look-joins : {k : ℕ} → k ≡ at from u → k ≡ NONE → Joinable n u hs queue tail
   look-joins e none =
@@ -63,14 +64,14 @@ module _ (n t x u : ℕ) (hs queue : List ℕ) (tail : ℕ) (from : List ℕ) (r
         room = omega (arith, r .places, length-take-le tail queue (r .within), going-room (r .going) u x (r .gateway) (unseen e none));
       }
 
-  pub look-is-full : {k load tail' : ℕ} {queue' from' : List ℕ} → k ≡ at from u → k ≡ NONE → from' ≡ set from u x → load ≡ holds n (at hs) u → t ≤ load
-      → Joined n u hs queue queue' tail tail' → Is (RanOut tail') queue' from' (look n (common t) hs x u (take tail queue) from)
-  unfolding common
-  look-is-full e none mark count most j =
-      more-is (look-full n (common t) hs x u (take tail queue) from (unseen e none) (omega (arith, count)) ∙ rw (j .state, mark)) (j .within)
+  pub look-is-full : {k load t tail' : ℕ} {queue' from' : List ℕ} → k ≡ at from u → k ≡ NONE → from' ≡ set from u x → load ≡ count n (λ w. eqb (at hs w) u) → t ≡ limit u → t ≤ load
+      → Joined n u hs queue queue' tail tail' → Is (RanOut tail') queue' from' (look n limit hs x u (take tail queue) from)
+  unfolding holds
+  look-is-full e none mark load most less j =
+      more-is (look-full n limit hs x u (take tail queue) from (unseen e none) (omega (arith, load, most)) ∙ rw (j .state, mark)) (j .within)
 
 -- one link: a look at its other end, where NONE stands for a link that x is no end of
-link-visit : (n : ℕ) (limit : ℕ → ℕ) (hs : List ℕ) (x a b : ℕ) (rest queue from : List ℕ) {u : ℕ} → length from ≤ 1024 → u ≡ cond (eqb a x) b (cond (eqb b x) a NONE)
+link-visit : (n : ℕ) (limit : ℕ → ℕ) (hs : List ℕ) (x a b : ℕ) (rest queue from : List ℕ) {u : ℕ} → length from ≤ GATEWAYS → u ≡ cond (eqb a x) b (cond (eqb b x) a NONE)
     → visit n limit hs x (neighbours (a ∷ b ∷ rest) x) (more queue from) ≡ visit n limit hs x (neighbours rest x) (look n limit hs x u queue from)
 unfolding visit neighbours
 link-visit n limit hs x a b rest queue from long e =
@@ -87,34 +88,34 @@ visit-short n limit hs x (a ∷ []) s h = refl
 visit-short n limit hs x (a ∷ b ∷ ls) s h = absurd (omega arith)
 
 -- what the links from i on give is what all give
-pub record Visiting (n t x : ℕ) (ls hs queue₀ : List ℕ) (tail : ℕ) (from₀ queue from : List ℕ) (end i : ℕ) : Type 0 where
+pub record Visiting (n : ℕ) (limit : ℕ → ℕ) (x : ℕ) (ls hs queue₀ : List ℕ) (tail : ℕ) (from₀ queue from : List ℕ) (end i : ℕ) : Type 0 where
   pub upto : i ≤ length ls
   pub ready : Ready n x hs queue end from
   pub same : (length queue ≡ length queue₀) × (length from ≡ length from₀)
-  pub rest : visit n (common t) hs x (neighbours (drop i ls) x) (more (take end queue) from) ≡ visit n (common t) hs x (neighbours ls x) (more (take tail queue₀) from₀)
+  pub rest : visit n limit hs x (neighbours (drop i ls) x) (more (take end queue) from) ≡ visit n limit hs x (neighbours ls x) (more (take tail queue₀) from₀)
 
-module _ (n t x : ℕ) (ls hs queue₀ : List ℕ) (tail : ℕ) (from₀ : List ℕ) where
-  pub visit-start : Ready n x hs queue₀ tail from₀ → Visiting n t x ls hs queue₀ tail from₀ queue₀ from₀ tail 0
+module _ (n : ℕ) (limit : ℕ → ℕ) (x : ℕ) (ls hs queue₀ : List ℕ) (tail : ℕ) (from₀ : List ℕ) where
+  pub visit-start : Ready n x hs queue₀ tail from₀ → Visiting n limit x ls hs queue₀ tail from₀ queue₀ from₀ tail 0
   visit-start r = record { upto = omega arith; ready = r; same = (refl, refl); rest = refl }
 
   module _
-      {queue from queue' from' : List ℕ} {end i u : ℕ} {w : Walked} (v : Visiting n t x ls hs queue₀ tail from₀ queue from end i) (l : i + 1 < length ls)
-      (e : u ≡ cond (eqb (at ls i) x) (at ls (i + 1)) (cond (eqb (at ls (i + 1)) x) (at ls i) NONE)) (d : Is w queue' from' (look n (common t) hs x u (take end queue) from))
+      {queue from queue' from' : List ℕ} {end i u : ℕ} {w : Walked} (v : Visiting n limit x ls hs queue₀ tail from₀ queue from end i) (l : i + 1 < length ls)
+      (e : u ≡ cond (eqb (at ls i) x) (at ls (i + 1)) (cond (eqb (at ls (i + 1)) x) (at ls i) NONE)) (d : Is w queue' from' (look n limit hs x u (take end queue) from))
     where
-      step : visit n (common t) hs x (neighbours (drop (i + 2) ls) x) (look n (common t) hs x u (take end queue) from)
-          ≡ visit n (common t) hs x (neighbours ls x) (more (take tail queue₀) from₀)
+      step : visit n limit hs x (neighbours (drop (i + 2) ls) x) (look n limit hs x u (take end queue) from)
+          ≡ visit n limit hs x (neighbours ls x) (more (take tail queue₀) from₀)
       step =
-          sym (link-visit n (common t) hs x (at ls i) (at ls (i + 1)) (drop (i + 2) ls) (take end queue) from (omega (arith, v .ready .going .marks, v .ready .going .few)) e)
+          sym (link-visit n limit hs x (at ls i) (at ls (i + 1)) (drop (i + 2) ls) (take end queue) from (omega (arith, v .ready .going .marks, v .ready .going .few)) e)
           ∙ (rw (pair-at ls i l) at (v .rest))
 
-      pub visit-turn : {end' : ℕ} → w ≡ RanOut end' → (length queue' ≡ length queue) × (length from' ≡ length from) → Visiting n t x ls hs queue₀ tail from₀ queue' from' end' (i + 2)
+      pub visit-turn : {end' : ℕ} → w ≡ RanOut end' → (length queue' ≡ length queue) × (length from' ≡ length from) → Visiting n limit x ls hs queue₀ tail from₀ queue' from' end' (i + 2)
       visit-turn {end'} q long =
-          let is : Is (RanOut end') queue' from' (look n (common t) hs x u (take end queue) from) = rw q at d in
-          let same : look n (common t) hs x u (take end queue) from ≡ more (take end' queue') from' = more-state is in
+          let is : Is (RanOut end') queue' from' (look n limit hs x u (take end queue) from) = rw q at d in
+          let same : look n limit hs x u (take end queue) from ≡ more (take end' queue') from' = more-state is in
           record {
             upto = omega arith;
             ready = record {
-              going = look-going (common t) (v .ready .going) u x (v .ready .gateway) same;
+              going = look-going limit (v .ready .going) u x (v .ready .gateway) same;
               gateway = v .ready .gateway;
               holders = v .ready .holders;
               places = omega (arith, v .ready .places, long .0);
@@ -124,27 +125,27 @@ module _ (n t x : ℕ) (ls hs queue₀ : List ℕ) (tail : ℕ) (from₀ : List 
             rest = rw same at step;
           }
 
-      pub visit-ends : {y z : ℕ} → w ≡ Found y z → Is (Found y z) queue' from' (visit n (common t) hs x (neighbours ls x) (more (take tail queue₀) from₀))
+      pub visit-ends : {y z : ℕ} → w ≡ Found y z → Is (Found y z) queue' from' (visit n limit hs x (neighbours ls x) (more (take tail queue₀) from₀))
       visit-ends {y} {z} q =
-          let is : Is (Found y z) queue' from' (look n (common t) hs x u (take end queue) from) = rw q at d in
-          found-is (sym step ∙ ap (visit n (common t) hs x (neighbours (drop (i + 2) ls) x)) (found-state is) ∙ visit-found n (common t) hs x (neighbours (drop (i + 2) ls) x))
+          let is : Is (Found y z) queue' from' (look n limit hs x u (take end queue) from) = rw q at d in
+          found-is (sym step ∙ ap (visit n limit hs x (neighbours (drop (i + 2) ls) x)) (found-state is) ∙ visit-found n limit hs x (neighbours (drop (i + 2) ls) x))
 
-  pub visit-out : {queue from : List ℕ} {end i : ℕ} → Visiting n t x ls hs queue₀ tail from₀ queue from end i → length ls ≤ i + 1
-      → Is (RanOut end) queue from (visit n (common t) hs x (neighbours ls x) (more (take tail queue₀) from₀))
+  pub visit-out : {queue from : List ℕ} {end i : ℕ} → Visiting n limit x ls hs queue₀ tail from₀ queue from end i → length ls ≤ i + 1
+      → Is (RanOut end) queue from (visit n limit hs x (neighbours ls x) (more (take tail queue₀) from₀))
   visit-out {queue} {from} {end} {i} v l =
-      more-is (sym (v .rest) ∙ visit-short n (common t) hs x (drop i ls) (more (take end queue) from) (pair-end ls i l)) (v .ready .within)
+      more-is (sym (v .rest) ∙ visit-short n limit hs x (drop i ls) (more (take end queue) from) (pair-end ls i l)) (v .ready .within)
 
 -- what the turns from head on give is what the walk gives
-pub record Walking (n t : ℕ) (ls hs queue₀ : List ℕ) (tail : ℕ) (from₀ queue from : List ℕ) (end head : ℕ) : Type 0 where
+pub record Walking (n : ℕ) (limit : ℕ → ℕ) (ls hs queue₀ : List ℕ) (tail : ℕ) (from₀ queue from : List ℕ) (end head : ℕ) : Type 0 where
   pub going : Going n hs (take end queue) from
   pub holders : n ≤ length hs
   pub places : n ≤ length queue
   pub within : end ≤ length queue
   pub same : (length queue ≡ length queue₀) × (length from ≡ length from₀)
-  pub rest : turns (n - head) n (common t) ls hs head (more (take end queue) from) ≡ walk n (common t) ls hs (take tail queue₀)
+  pub rest : turns (n - head) n limit ls hs head (more (take end queue) from) ≡ walk n limit ls hs (take tail queue₀)
 
-module _ (n t : ℕ) (ls hs queue₀ : List ℕ) (tail : ℕ) (from₀ : List ℕ) where
-  pub walk-start : Walkable n hs queue₀ tail from₀ → Walking n t ls hs queue₀ tail from₀ queue₀ from₀ tail 0
+module _ (n : ℕ) (limit : ℕ → ℕ) (ls hs queue₀ : List ℕ) (tail : ℕ) (from₀ : List ℕ) where
+  pub walk-start : Walkable n hs queue₀ tail from₀ → Walking n limit ls hs queue₀ tail from₀ queue₀ from₀ tail 0
   unfolding walk
   walk-start w =
       record {
@@ -156,7 +157,7 @@ module _ (n t : ℕ) (ls hs queue₀ : List ℕ) (tail : ℕ) (from₀ : List �
         rest = rw (w .space .unseen, sub-zero);
       }
 
-  module _ {queue from : List ℕ} {end head : ℕ} (v : Walking n t ls hs queue₀ tail from₀ queue from end head) (l : head < end) where
+  module _ {queue from : List ℕ} {end head : ℕ} (v : Walking n limit ls hs queue₀ tail from₀ queue from end head) (l : head < end) where
     long : length (take end queue) ≡ end
     long = length-take-le end queue (v .within)
 
@@ -173,23 +174,23 @@ module _ (n t : ℕ) (ls hs queue₀ : List ℕ) (tail : ℕ) (from₀ : List �
         record { going = v .going; gateway = rw here at (v .going .below head (rw long l)); holders = v .holders; places = v .places; within = v .within }
 
     module _
-        {queue' from' : List ℕ} {w : Walked} (d : Is w queue' from' (visit n (common t) hs (at queue head) (neighbours ls (at queue head)) (more (take end queue) from)))
+        {queue' from' : List ℕ} {w : Walked} (d : Is w queue' from' (visit n limit hs (at queue head) (neighbours ls (at queue head)) (more (take end queue) from)))
       where
-        next : turns (n - (head + 1)) n (common t) ls hs (head + 1) (visit n (common t) hs (at queue head) (neighbours ls (at queue head)) (more (take end queue) from))
-            ≡ walk n (common t) ls hs (take tail queue₀)
+        next : turns (n - (head + 1)) n limit ls hs (head + 1) (visit n limit hs (at queue head) (neighbours ls (at queue head)) (more (take end queue) from))
+            ≡ walk n limit ls hs (take tail queue₀)
         next =
-            rw (add-one, ← here) (sym (turns-step (n - suc head) n (common t) ls hs head (take end queue) from (rw long l)))
-            ∙ ap (λ (k : ℕ). turns k n (common t) ls hs head (more (take end queue) from)) (one walk-below) ∙ v .rest
+            rw (add-one, ← here) (sym (turns-step (n - suc head) n limit ls hs head (take end queue) from (rw long l)))
+            ∙ ap (λ (k : ℕ). turns k n limit ls hs head (more (take end queue) from)) (one walk-below) ∙ v .rest
           where
             one : head < n → suc (n - suc head) ≡ n - head
             one k = omega arith
 
-        pub walk-turn : {end' : ℕ} → w ≡ RanOut end' → (length queue' ≡ length queue) × (length from' ≡ length from) → Walking n t ls hs queue₀ tail from₀ queue' from' end' (head + 1)
+        pub walk-turn : {end' : ℕ} → w ≡ RanOut end' → (length queue' ≡ length queue) × (length from' ≡ length from) → Walking n limit ls hs queue₀ tail from₀ queue' from' end' (head + 1)
         walk-turn {end'} q long' =
             let is = rw q at d in
             let same = more-state is in
             record {
-              going = visit-going (common t) (at queue head) (neighbours ls (at queue head)) (v .going) (walk-ready .gateway) same;
+              going = visit-going limit (at queue head) (neighbours ls (at queue head)) (v .going) (walk-ready .gateway) same;
               holders = v .holders;
               places = omega (arith, v .places, long' .0);
               within = more-within is;
@@ -197,15 +198,15 @@ module _ (n t : ℕ) (ls hs queue₀ : List ℕ) (tail : ℕ) (from₀ : List �
               rest = rw same at next;
             }
 
-        pub walk-ends : {y z : ℕ} → w ≡ Found y z → Is (Found y z) queue' from' (walk n (common t) ls hs (take tail queue₀))
+        pub walk-ends : {y z : ℕ} → w ≡ Found y z → Is (Found y z) queue' from' (walk n limit ls hs (take tail queue₀))
         walk-ends {y} {z} q =
             let is = rw q at d in
-            found-is (sym next ∙ ap (turns (n - (head + 1)) n (common t) ls hs (head + 1)) (found-state is) ∙ turns-found (n - (head + 1)) n (common t) ls hs (head + 1))
+            found-is (sym next ∙ ap (turns (n - (head + 1)) n limit ls hs (head + 1)) (found-state is) ∙ turns-found (n - (head + 1)) n limit ls hs (head + 1))
 
-  pub walk-out : {queue from : List ℕ} {end head : ℕ} → Walking n t ls hs queue₀ tail from₀ queue from end head → end ≤ head
-      → Is (RanOut end) queue from (walk n (common t) ls hs (take tail queue₀))
+  pub walk-out : {queue from : List ℕ} {end head : ℕ} → Walking n limit ls hs queue₀ tail from₀ queue from end head → end ≤ head
+      → Is (RanOut end) queue from (walk n limit ls hs (take tail queue₀))
   walk-out {queue} {from} {end} {head} v l =
-      more-is (sym (v .rest) ∙ turns-out (n - head) n (common t) ls hs head (take end queue) from (rw (length-take-le end queue (v .within)) l)) (v .within)
+      more-is (sym (v .rest) ∙ turns-out (n - head) n limit ls hs head (take end queue) from (rw (length-take-le end queue (v .within)) l)) (v .within)
 
 -- Placing v: a queue that starts with v.
 first-set : (l : List ℕ) (v : ℕ) → 1 ≤ length l → take 1 (set l 0 v) ≡ v ∷ []
@@ -215,26 +216,26 @@ first-set (a ∷ l) v h = refl
 pub settle-walkable : {n : ℕ} {hs : List ℕ} {v : ℕ} {queue from : List ℕ} → Settleable n hs v queue from → Walkable n hs (set queue 0 v) 1 from
 settle-walkable {n} {hs} {v} {queue} s =
     record {
-      start = rw (first-set queue v (omega (arith, s .space .places, s .free .inside))) (startable (s .free));
+      start = rw (first-set queue v (omega (arith, s .space .places, s .free .inside))) (placeable-startable (s .free));
       holders = s .free .holders;
       within = rw length-set (omega (arith, s .space .places, s .free .inside));
       space = record { places = rw length-set (s .space .places); unseen = s .space .unseen };
     }
 
 module _
-    (n t : ℕ) (ls hs : List ℕ) (v : ℕ) {queue from queue' from' : List ℕ} {w : Walked} (s : Settleable n hs v queue from)
-    (d : Is w queue' from' (walk n (common t) ls hs (take 1 (set queue 0 v))))
+    (n : ℕ) (limit : ℕ → ℕ) (ls hs : List ℕ) (v : ℕ) {queue from queue' from' : List ℕ} {w : Walked} (s : Settleable n hs v queue from)
+    (d : Is w queue' from' (walk n limit ls hs (take 1 (set queue 0 v))))
   where
-    walked : Is w queue' from' (walk n (common t) ls hs (v ∷ []))
+    walked : Is w queue' from' (walk n limit ls hs (v ∷ []))
     walked = rw (first-set queue v (omega (arith, s .space .places, s .free .inside))) at d
 
-    pub settle-kept : {u x : ℕ} {hs' : List ℕ} → w ≡ Found u x → hs' ≡ shift n v from' u x hs → hs' ≡ placedHolders n (common t) ls hs v
+    pub settle-kept : {u x : ℕ} {hs' : List ℕ} → w ≡ Found u x → hs' ≡ shift n v from' u x hs → hs' ≡ placedHolders n limit ls hs v
     unfolding placedHolders settled
-    settle-kept {u} {x} q e = let is : Is (Found u x) queue' from' (walk n (common t) ls hs (v ∷ [])) = rw q at walked in rw (found-state is) e
+    settle-kept {u} {x} q e = let is : Is (Found u x) queue' from' (walk n limit ls hs (v ∷ [])) = rw q at walked in rw (found-state is) e
 
-    pub settle-left : {tail : ℕ} → w ≡ RanOut tail → hs ≡ placedHolders n (common t) ls hs v
+    pub settle-left : {tail : ℕ} → w ≡ RanOut tail → hs ≡ placedHolders n limit ls hs v
     unfolding placedHolders settled
-    settle-left {tail} q = let is : Is (RanOut tail) queue' from' (walk n (common t) ls hs (v ∷ [])) = rw q at walked in rw (more-state is)
+    settle-left {tail} q = let is : Is (RanOut tail) queue' from' (walk n limit ls hs (v ∷ [])) = rw q at walked in rw (more-state is)
 
 -- the first n of a list of equal entries
 take-replicate : (n m a : ℕ) → n ≤ m → take n (replicate m a) ≡ replicate n a
@@ -242,12 +243,16 @@ take-replicate zero m a h = refl
 take-replicate (suc n) zero a h = absurd (omega arith)
 take-replicate (suc n) (suc m) a h = ap {B = List ℕ} (λ l. a ∷ l) (take-replicate n m a (omega arith))
 
--- the arrays to work in
-pub place-marks : (n : ℕ) → n ≤ 1024 → n ≡ length (take n (replicate 1024 NONE))
-place-marks n few = sym (rw (take-replicate n 1024 NONE few) (length-replicate n NONE))
+-- The arrays to work in: zeros for the queue, and the first n of the marks of nobody.
+module _ {n : ℕ} {all : List ℕ} (unseen : all ≡ replicate GATEWAYS NONE) where
+  pub marks-room : n ≤ GATEWAYS → n ≤ length all
+  marks-room few = rw (unseen, length-replicate) few
 
-pub workspace : (n : ℕ) → n ≤ 1024 → Workspace n (replicate 1024 0) (take n (replicate 1024 NONE))
-workspace n few = record { places = rw length-replicate few; unseen = take-replicate n 1024 NONE few }
+  pub place-marks : n ≤ GATEWAYS → n ≡ length (take n all)
+  place-marks few = sym (rw (unseen, take-replicate n GATEWAYS NONE few) (length-replicate n NONE))
 
-pub place-settles : {n : ℕ} {hs : List ℕ} {v : ℕ} → Placeable n hs v → Settleable n hs v (replicate 1024 0) (take n (replicate 1024 NONE))
-place-settles {n} p = record { free = p; space = workspace n (p .few) }
+  pub workspace : {queue : List ℕ} → queue ≡ replicate GATEWAYS 0 → n ≤ GATEWAYS → Workspace n queue (take n all)
+  workspace zeros few = record { places = rw (zeros, length-replicate) few; unseen = rw unseen (take-replicate n GATEWAYS NONE few) }
+
+  pub place-settles : {queue hs : List ℕ} {v : ℕ} → queue ≡ replicate GATEWAYS 0 → Placeable n hs v → Settleable n hs v queue (take n all)
+  place-settles zeros p = record { free = p; space = workspace zeros (p .few) }

@@ -5,7 +5,7 @@ use mathlib.Core.Bool.{Bool, false, not, _&&_}
 use mathlib.Core.List.{List, _++_}
 use lib.ListN.{length, take, replicate}
 use Rattle.packing.specs.Count.{count}
-use Rattle.packing.specs.Plant.{NONE, at}
+use Rattle.packing.specs.Plant.{NONE, GATEWAYS, HIGHEST, at}
 use Rattle.packing.specs.Holders.{held, holds}
 use Rattle.search.specs.Search.{Search, found, more, seen, heldBy}
 use Rattle.search.specs.declared.Walked.{Walked}
@@ -32,7 +32,7 @@ waiting n hs from v = held n (at hs) v && not (seen from (at hs v))
 
 -- A state in which the queue fits n places to the end: what is queued and what may yet join are n at most.
 pub record Going (n : ℕ) (hs queue from : List ℕ) : Type 0 where
-  pub few : n ≤ 1024
+  pub few : n ≤ GATEWAYS
   pub marks : length from ≡ n
   pub room : length queue + count n (waiting n hs from) ≤ n
   pub below : (i : ℕ) → i < length queue → at queue i < n
@@ -47,7 +47,7 @@ pub record Ready (n x : ℕ) (hs queue : List ℕ) (tail : ℕ) (from : List ℕ
 
 -- what u holds finds room behind the queue
 pub record Joinable (n u : ℕ) (hs queue : List ℕ) (tail : ℕ) : Type 0 where
-  pub few : n ≤ 1024
+  pub few : n ≤ GATEWAYS
   pub holders : n ≤ length hs
   pub room : tail + holds n (at hs) u ≤ length queue
 
@@ -63,7 +63,7 @@ pub record Workspace (n : ℕ) (queue from : List ℕ) : Type 0 where
 
 -- Gateways that a search may start from: they and all that are held fit a queue of n places.
 pub record Startable (n : ℕ) (hs start : List ℕ) : Type 0 where
-  pub few : n ≤ 1024
+  pub few : n ≤ GATEWAYS
   pub below : (i : ℕ) → i < length start → at start i < n
   pub room : length start + count n (held n (at hs)) ≤ n
 
@@ -76,8 +76,9 @@ pub record Walkable (n : ℕ) (hs queue : List ℕ) (tail : ℕ) (from : List �
 
 -- what the test of whether v may be placed says
 pub record Placeable (n : ℕ) (hs : List ℕ) (v : ℕ) : Type 0 where
-  pub few : n ≤ 1024
+  pub few : n ≤ GATEWAYS
   pub holders : n ≤ length hs
+  pub within : (u : ℕ) → u < n → holds n (at hs) u ≤ HIGHEST
   pub inside : v < n
   pub free : held n (at hs) v ≡ false
 

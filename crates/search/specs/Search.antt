@@ -2,11 +2,12 @@
 use Prim.Native.Nat.{ℕ, zero, suc}
 use mathlib.Core.Bool.{Bool, not, cond, _&&_}
 use mathlib.Core.List.{List, [], _∷_, _++_}
-use lib.Dec.{eqb, ltb, leb}
+use lib.Dec.{eqb, ltb}
 use lib.ListN.{length, set, replicate}
 use Rattle.packing.specs.Lists.{listWhere}
 use Rattle.packing.specs.Plant.{NONE, at, neighbours}
 use Rattle.packing.specs.Holders.{held, holds}
+use Rattle.sound.specs.Searchable.{searchable}
 
 -- the gateways below n that u holds, ascending
 unfoldable pub heldBy : ℕ → List ℕ → ℕ → List ℕ
@@ -62,9 +63,9 @@ settled n v hs (more queue from) = hs
 unfoldable pub placedHolders : ℕ → (ℕ → ℕ) → List ℕ → List ℕ → ℕ → List ℕ
 placedHolders n limit ls hs v = settled n v hs (walk n limit ls hs (v ∷ []))
 
--- v may be placed: n is in range, there is a holder entry for each gateway, and v is a gateway without a holder
+-- v may be placed: a search may be made with the holders, and v is a gateway without holder
 unfoldable pub placeable : ℕ → List ℕ → ℕ → Bool
-placeable n hs v = leb n 1024 && leb n (length hs) && ltb v n && not (held n (at hs) v)
+placeable n hs v = searchable n hs && ltb v n && not (held n (at hs) v)
 
 -- the holders after the call: as they came where v may not be placed
 unfoldable pub holdersAfter : ℕ → (ℕ → ℕ) → List ℕ → List ℕ → ℕ → List ℕ

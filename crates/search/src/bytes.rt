@@ -13,7 +13,7 @@ ghost use Rattle.search.specs.ChokePre.{seenByte};
 fn byte(from: u16) -> u8
     ensures { λ r. ⌜ r ≡ pick (not (eqb from NONE)) 1 ⌝ }
 {
-    if from == 65535 {
+    if from == lists::NONE {
         return 0;
     }
     1

@@ -1,11 +1,11 @@
 // The choke set (01, "Reading"), on plain lists and numbers.
 use crate::bytes::write_seen;
-use crate::start::queue_left;
+use crate::start::queue_unheld;
 use crate::walk::walk;
 ghost use mathlib.Core.Path.{_≡_};
 ghost use lib.ListN.{length};
-ghost use Rattle.packing.specs.Lists.{listOf, written, fits};
-ghost use Rattle.search.specs.ChokeSet.{chokeByte, chokeWritten};
+ghost use Rattle.packing.specs.Lists.{listOf, written};
+ghost use Rattle.search.specs.ChokeSet.{chokeByte, chokeable, chokeWritten};
 ghost use Rattle.search.specs.ChokePre.{Workable};
 
 // Writes the choke bytes with a queue and marks to work in.
@@ -20,22 +20,33 @@ fn write_set(
     requires { ⌜ Workable n (now holders) (now queue) (now from) (now out) ⌝ }
     ensures { λ _. ⌜ now (out .exit) ≡ written n (listOf n (chokeByte n (now (links .entry)) (now (holders .entry)))) (now (out .entry)) ⌝ }
 {
-    let tail = queue_left(n, holders, queue);
-    walk(n as usize, 0, links, holders, queue, tail, from);
+    let tail = queue_unheld(n, holders, queue);
+    let limits = lists::marks::bytes(0);
+    walk(n, &limits, links, holders, queue, tail, from);
     write_seen(from, out);
 }
 
-// Writes the choke bytes to the first n places of out, and answers whether n and the lengths fit; if not, nothing is changed.
-// The equation shuts out, for one, the set seen from the first gateway without holder alone; and a walk that stops at a gateway with a place free.
-pub fn choke_set(n: u16, links: &[u16], holders: &[u16], out: &mut [u8]) -> bool
-    ensures done { λ r. ⌜ r ≡ fits n (length (now (holders .entry))) (length (now (out .entry))) ⌝ }
-    ensures out { λ _. ⌜ now (out .exit) ≡ chokeWritten n (now (links .entry)) (now (holders .entry)) (now (out .entry)) ⌝ }
+// Whether the choke bytes may be written to a list with room for so many.
+fn is_chokeable(n: u16, holders: &[u16], room: usize) -> bool
+    ensures { λ r. ⌜ r ≡ chokeable n (now (holders .entry)) room ⌝ }
 {
-    if !sound::is_fitting(n, holders.len(), out.len()) {
+    if !sound::held::is_searchable(n, holders) {
         return false;
     }
-    let mut queue = [0u16; 1024];
-    let mut from = [65535u16; 1024];
+    (n as usize) <= room
+}
+
+// Writes the choke bytes to the first n places of out, and answers whether they may be written; if not, nothing is changed.
+// The equation shuts out, for one, the set seen from the first gateway without holder alone; and a walk that stops at a gateway with a place free.
+pub fn choke_set(n: u16, links: &[u16], holders: &[u16], out: &mut [u8]) -> bool
+    ensures done { λ r. ⌜ r ≡ chokeable n (now (holders .entry)) (length (now (out .entry))) ⌝ }
+    ensures out { λ _. ⌜ now (out .exit) ≡ chokeWritten n (now (links .entry)) (now (holders .entry)) (now (out .entry)) ⌝ }
+{
+    if !is_chokeable(n, holders, out.len()) {
+        return false;
+    }
+    let mut queue = lists::marks::zeros();
+    let mut from = lists::marks::nones();
     let end = n as usize;
     write_set(n, links, holders, &mut queue, &mut from[..end], out);
     true

@@ -1,23 +1,21 @@
 // "u takes x. If x is not v, x's old holder lets x go and takes the gateway it was seen from, and so on until v has a holder."
-use crate::lists::entry;
-use crate::lists::put;
 ghost use mathlib.Core.Path.{_≡_};
 ghost use Rattle.search.specs.Search.{shift};
 
-pub(crate) fn shift_back(n: usize, v: u16, u: u16, x: u16, from: &[u16], holders: &mut [u16])
+pub(crate) fn shift_back(n: u16, v: u16, u: u16, x: u16, from: &[u16], holders: &mut [u16])
     ensures { λ _. ⌜ now (holders .exit) ≡ shift n v (now (from .entry)) u x (now (holders .entry)) ⌝ }
 {
     let mut taker = u;
     let mut taken = x;
-    let mut k: usize = 0;
+    let mut k: u16 = 0;
     while k < n {
-        let old = entry(holders, taken);
-        put(holders, taken, taker);
+        let old = lists::entry(holders, taken);
+        lists::put(holders, taken, taker);
         if taken == v {
             return;
         }
         taker = old;
-        taken = entry(from, old);
+        taken = lists::entry(from, old);
         k += 1;
     }
 }

@@ -3,7 +3,7 @@ ghost use Rattle.packing.specs.Lists.{Lent};
 ghost use Rattle.search.specs.ChokePre.{Queued};
 
 // Queues all gateways without holder, ascending. Returns how many are queued.
-pub(crate) fn queue_left(n: u16, holders: &[u16], queue: &mut [u16]) -> usize
+pub(crate) fn queue_unheld(n: u16, holders: &[u16], queue: &mut [u16]) -> usize
     requires { ⌜ Lent n (now holders) (now queue) ⌝ }
     ensures { λ r. ⌜ Queued n (now (holders .entry)) (now (queue .exit)) r ⌝ }
 {

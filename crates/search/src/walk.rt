@@ -1,14 +1,11 @@
 // The search for a gateway with a place free.
 use crate::Walked;
 use crate::held::join;
-use crate::held::load;
-use crate::lists::entry;
-use crate::lists::put;
 ghost use mathlib.Core.Path.{_≡_};
 ghost use mathlib.Core.Bool.{cond};
 ghost use lib.Dec.{eqb};
 ghost use lib.ListN.{take};
-ghost use Rattle.packing.specs.Plant.{NONE, common, neighbours};
+ghost use Rattle.packing.specs.Plant.{NONE, at, neighbours};
 ghost use Rattle.search.specs.Search as model;
 ghost use Rattle.search.specs.Search.{more};
 ghost use Rattle.search.specs.Pre.{Is, Ready, Walkable};
@@ -23,13 +20,13 @@ fn other_end(a: u16, b: u16, x: u16) -> u16
     if b == x {
         return a;
     }
-    65535
+    lists::NONE
 }
 
 // Looks at u from x.
 fn look(
-    n: usize,
-    t: u8,
+    n: u16,
+    limits: &[u8],
     x: u16,
     u: u16,
     holders: &[u16],
@@ -38,13 +35,13 @@ fn look(
     from: &mut [u16],
 ) -> Walked
     requires { ⌜ Ready n x (now holders) (now queue) tail (now from) ⌝ }
-    ensures { λ r. ⌜ Is r (now (queue .exit)) (now (from .exit)) (model.look n (common t) (now (holders .entry)) x u (take tail (now (queue .entry))) (now (from .entry))) ⌝ }
+    ensures { λ r. ⌜ Is r (now (queue .exit)) (now (from .exit)) (model.look n (at (now (limits .entry))) (now (holders .entry)) x u (take tail (now (queue .entry))) (now (from .entry))) ⌝ }
 {
-    if entry(from, u) != 65535 {
+    if lists::entry(from, u) != lists::NONE {
         return Walked::RanOut(tail);
     }
-    put(from, u, x);
-    if load(n, u, holders) < t as usize {
+    lists::put(from, u, x);
+    if lists::counts::count_of(n, holders, u) < lists::byte(limits, u as usize) as u16 {
         return Walked::Found(u, x);
     }
     Walked::RanOut(join(n, u, holders, queue, tail))
@@ -52,8 +49,8 @@ fn look(
 
 // Goes through x's links in order of arrival.
 fn visit(
-    n: usize,
-    t: u8,
+    n: u16,
+    limits: &[u8],
     x: u16,
     links: &[u16],
     holders: &[u16],
@@ -62,13 +59,13 @@ fn visit(
     from: &mut [u16],
 ) -> Walked
     requires { ⌜ Ready n x (now holders) (now queue) tail (now from) ⌝ }
-    ensures { λ r. ⌜ Is r (now (queue .exit)) (now (from .exit)) (model.visit n (common t) (now (holders .entry)) x (neighbours (now (links .entry)) x) (more (take tail (now (queue .entry))) (now (from .entry)))) ⌝ }
+    ensures { λ r. ⌜ Is r (now (queue .exit)) (now (from .exit)) (model.visit n (at (now (limits .entry))) (now (holders .entry)) x (neighbours (now (links .entry)) x) (more (take tail (now (queue .entry))) (now (from .entry)))) ⌝ }
 {
     let mut end = tail;
     let mut i: usize = 0;
     while i + 1 < links.len() {
         let u = other_end(links[i], links[i + 1], x);
-        let w = look(n, t, x, u, holders, queue, end, from);
+        let w = look(n, limits, x, u, holders, queue, end, from);
         match w {
             Walked::Found(y, z) => return Walked::Found(y, z),
             Walked::RanOut(e) => end = e,
@@ -80,8 +77,8 @@ fn visit(
 
 // The search from the first `tail` of the queue, nobody seen yet. A limit of 0 leaves nobody a place free.
 pub(crate) fn walk(
-    n: usize,
-    t: u8,
+    n: u16,
+    limits: &[u8],
     links: &[u16],
     holders: &[u16],
     queue: &mut [u16],
@@ -89,13 +86,13 @@ pub(crate) fn walk(
     from: &mut [u16],
 ) -> Walked
     requires { ⌜ Walkable n (now holders) (now queue) tail (now from) ⌝ }
-    ensures { λ r. ⌜ Is r (now (queue .exit)) (now (from .exit)) (model.walk n (common t) (now (links .entry)) (now (holders .entry)) (take tail (now (queue .entry)))) ⌝ }
+    ensures { λ r. ⌜ Is r (now (queue .exit)) (now (from .exit)) (model.walk n (at (now (limits .entry))) (now (links .entry)) (now (holders .entry)) (take tail (now (queue .entry)))) ⌝ }
 {
     let mut end = tail;
     let mut head: usize = 0;
     while head < end {
         let x = queue[head];
-        let w = visit(n, t, x, links, holders, queue, end, from);
+        let w = visit(n, limits, x, links, holders, queue, end, from);
         match w {
             Walked::Found(y, z) => return Walked::Found(y, z),
             Walked::RanOut(e) => end = e,

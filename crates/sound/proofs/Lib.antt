@@ -5,3 +5,4 @@ pub mod Joined
 pub mod Meaning
 pub mod Orders
 pub mod Lookup
+pub mod Searchable

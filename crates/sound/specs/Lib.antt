@@ -1,3 +1,4 @@
--- What it is for a record to be sound.
+-- What it is for a record to be sound, and for holders to be such that a search may be made with them.
 pub mod Sound
 pub mod Marks
+pub mod Searchable

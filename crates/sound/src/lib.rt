@@ -1,4 +1,5 @@
 // Whether a record is sound (01, "The record"; refusal 26). Each list is passed over once.
+pub mod held;
 pub mod links;
 mod marks;
 mod passes;

@@ -1,4 +1,3 @@
--- `place` meets its contract: the laws of Tested.
 use borrow.Author.Needs.{needs}
 use Rattle.search.proofs.Tested.{place-free, place-refuses, place-places}
 use Rattle.search.proofs.place.Statement.{statement}

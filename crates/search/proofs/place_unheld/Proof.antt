@@ -1,8 +1,13 @@
--- `place_unheld` meets its contract.
 use borrow.Author.Needs.{needs}
 use Rattle.search.proofs.Turns.{place-marks, place-settles}
 use Rattle.search.proofs.place_unheld.Statement.{statement}
 use Rattle.search.proofs.place_unheld.Tie as tie
+
+zeros-requires : tie.Need-zeros-requires
+zeros-requires c κs = search needs
+
+nones-requires : tie.Need-nones-requires
+nones-requires c κs = search needs
 
 slice-aggregate-settle : tie.Need-slice-aggregate-settle
 slice-aggregate-settle c = search needs
@@ -11,10 +16,12 @@ array-borrow-prefix-from : tie.Need-array-borrow-prefix-from
 array-borrow-prefix-from c = search needs
 
 slice-aggregate-settle-2 : tie.Need-slice-aggregate-settle-2
-slice-aggregate-settle-2 c = place-marks _ (c .before .before .before .before .before .pre .few)
+slice-aggregate-settle-2 c = let marks = c .before .before .before in
+    place-marks (marks .nones .ensures) (marks .before .before .before .before .before .pre .few)
 
 settle-requires : tie.Need-settle-requires
-settle-requires c κs = place-settles (c .before .before .before .before .before .pre)
+settle-requires c κs = let marks = c .before .before .before in
+    place-settles (marks .nones .ensures) (marks .before .zeros .ensures) (marks .before .before .before .before .before .pre)
 
 same-length : tie.Need-same-length
 same-length c = search needs
@@ -26,6 +33,8 @@ pub place-unheld-spec : {M : Type 1} → statement M
 place-unheld-spec =
     tie.close
     (tie.spec
+    zeros-requires
+    nones-requires
     slice-aggregate-settle
     array-borrow-prefix-from
     slice-aggregate-settle-2

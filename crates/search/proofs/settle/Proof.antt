@@ -1,4 +1,3 @@
--- `settle` meets its contract: the laws of Turns.
 use mathlib.Core.Path.{_∙_}
 use lib.ListN.{length-set}
 use Rattle.search.proofs.Turns.{settle-walkable, settle-kept, settle-left}
@@ -10,7 +9,7 @@ slice-write-queue : tie.Need-slice-write-queue
 slice-write-queue c = search needs
 
 walk-requires : tie.Need-walk-requires
-walk-requires c κs = settle-walkable (c .before .before .before .before .before .before .before .pre)
+walk-requires c κs = settle-walkable (c .before .before .before .before .before .before .before .before .pre)
 
 enum-known-w : tie.Need-enum-known-w
 enum-known-w c = search needs
@@ -26,7 +25,7 @@ same-length c = search needs
 
 same-length-2 : tie.Need-same-length-2
 same-length-2 c = let called = c .before .before .before .before .before .before .before .before .before .before .before .before in
-    let start = called .before .before .before .before .before .before .before .before in
+    let start = called .before .before .before .before .before .before .before .before .before in
     called .walk .kept .1 .1 .1 .1 .0 ∙ length-set (start .args .queue .now) 0 (start .args .v)
 
 same-length-3 : tie.Need-same-length-3
@@ -35,7 +34,7 @@ same-length-3 c = search needs
 returns : tie.Need-returns
 returns c = let known = c .before .before .before .before .before .before in
     let called = known .before .before .before .before .before .before in
-    let start = called .before .before .before .before .before .before .before .before in
+    let start = called .before .before .before .before .before .before .before .before .before in
     settle-kept _ _ _ _ _ (start .pre) (called .walk .ensures) (known .w .given .1) (c .before .before .shift-back .ensures)
 
 same-length-4 : tie.Need-same-length-4
@@ -43,7 +42,7 @@ same-length-4 c = search needs
 
 same-length-5 : tie.Need-same-length-5
 same-length-5 c = let called = c .before .before .before .before .before .before in
-    let start = called .before .before .before .before .before .before .before .before in
+    let start = called .before .before .before .before .before .before .before .before .before in
     called .walk .kept .1 .1 .1 .1 .0 ∙ length-set (start .args .queue .now) 0 (start .args .v)
 
 same-length-6 : tie.Need-same-length-6
@@ -51,7 +50,7 @@ same-length-6 c = search needs
 
 returns-2 : tie.Need-returns-2
 returns-2 c = let called = c .before .before .before .before .before .before in
-    let start = called .before .before .before .before .before .before .before .before in
+    let start = called .before .before .before .before .before .before .before .before .before in
     settle-left _ _ _ _ _ (start .pre) (called .walk .ensures) (c .enum-told .given .1)
 
 pub settle-spec : {M : Type 1} → statement M

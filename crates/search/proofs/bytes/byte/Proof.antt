@@ -1,4 +1,3 @@
--- `byte` meets its contract.
 use Rattle.search.proofs.Seen.{byte-none, byte-some}
 use Rattle.search.proofs.bytes.byte.Statement.{statement}
 use Rattle.search.proofs.bytes.byte.Tie as tie

@@ -1,4 +1,3 @@
--- `write_seen` meets its contract: the laws of lists.
 use Prim.Native.Nat.{_-_}
 use borrow.Author.Needs.{needs}
 use lib.ListN.{length}

@@ -1,4 +1,3 @@
--- `join` meets its contract: the laws of Loads.
 use mathlib.Core.Path.{refl}
 use borrow.Author.Needs.{needs}
 use Prim.Native.Nat.{_-_}
@@ -16,14 +15,14 @@ abbrev μ-loop : tie.MeasureT-loop
 loop-holds : tie.Need-loop-holds Inv-loop μ-loop
 loop-holds c = join-start _ _ _ _ _ (c .pre)
 
+cast-if1 : tie.Need-cast-if1 Inv-loop μ-loop
+cast-if1 c = search needs
+
 mul-if1 : tie.Need-mul-if1 Inv-loop μ-loop
 mul-if1 c = search needs
 
 shared-slice-read-if1 : tie.Need-shared-slice-read-if1 Inv-loop μ-loop
 shared-slice-read-if1 c = search needs
-
-cast-queue : tie.Need-cast-queue Inv-loop μ-loop
-cast-queue c = search needs
 
 mul-queue : tie.Need-mul-queue Inv-loop μ-loop
 mul-queue c = let turn = c .before .before in
@@ -61,9 +60,9 @@ join-spec =
     Inv-loop
     μ-loop
     loop-holds
+    cast-if1
     mul-if1
     shared-slice-read-if1
-    cast-queue
     mul-queue
     slice-write-queue
     add-end

@@ -1,4 +1,3 @@
--- `shift_back` meets its contract: the laws of Shifting.
 use borrow.Author.Needs.{needs}
 use Prim.Native.Nat.{_-_}
 use Rattle.search.proofs.Shifting.{Rounds, rounds-start, rounds-turn, rounds-done, rounds-end}

@@ -1,4 +1,3 @@
--- `other_end` meets its contract.
 use borrow.Author.Tests.{eq-eqb, ne-eqb}
 use Rattle.search.proofs.walk.other_end.Statement.{statement}
 use Rattle.search.proofs.walk.other_end.Tie as tie

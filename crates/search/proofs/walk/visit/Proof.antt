@@ -1,19 +1,19 @@
--- `visit` meets its contract: the laws of Turns.
 use borrow.Author.Needs.{needs}
 use Prim.Native.Nat.{_-_}
 use lib.ListN.{length}
+use Rattle.packing.specs.Plant.{at}
 use Rattle.search.proofs.Turns.{Visiting, visit-start, visit-turn, visit-ends, visit-out}
 use Rattle.search.proofs.walk.visit.Statement.{statement}
 use Rattle.search.proofs.walk.visit.Tie as tie
 
 abbrev Inv-loop : tie.InvT-loop
-Inv-loop n t x links holders queue₀ tail from₀ end₀ i₀ queue from end i = Visiting n t x links holders queue₀ tail from₀ queue from end i
+Inv-loop n limits x links holders queue₀ tail from₀ end₀ i₀ queue from end i = Visiting n (at limits) x links holders queue₀ tail from₀ queue from end i
 
 abbrev μ-loop : tie.MeasureT-loop
-μ-loop n t x links holders queue₀ tail from₀ end₀ i₀ queue from end i = length links - i
+μ-loop n limits x links holders queue₀ tail from₀ end₀ i₀ queue from end i = length links - i
 
 loop-holds : tie.Need-loop-holds Inv-loop μ-loop
-loop-holds c = visit-start _ _ _ _ _ _ _ _ (c .before .before .before .before .pre)
+loop-holds c = visit-start _ _ _ _ _ _ _ _ (c .before .before .before .before .before .pre)
 
 add-loop : tie.Need-add-loop Inv-loop μ-loop
 add-loop c = search needs

@@ -1,19 +1,19 @@
--- `walk` meets its contract: the laws of Turns.
 use borrow.Author.Needs.{needs}
 use Prim.Native.Nat.{_-_}
 use native.Mathlib.Omega.{arith}
+use Rattle.packing.specs.Plant.{at}
 use Rattle.search.proofs.Turns.{Walking, walk-start, walk-below, walk-ready, walk-turn, walk-ends, walk-out}
 use Rattle.search.proofs.walk.walk.Statement.{statement}
 use Rattle.search.proofs.walk.walk.Tie as tie
 
 abbrev Inv-loop : tie.InvT-loop
-Inv-loop n t links holders queue₀ tail from₀ end₀ head₀ queue from end head = Walking n t links holders queue₀ tail from₀ queue from end head
+Inv-loop n limits links holders queue₀ tail from₀ end₀ head₀ queue from end head = Walking n (at limits) links holders queue₀ tail from₀ queue from end head
 
 abbrev μ-loop : tie.MeasureT-loop
-μ-loop n t links holders queue₀ tail from₀ end₀ head₀ queue from end head = n - head
+μ-loop n limits links holders queue₀ tail from₀ end₀ head₀ queue from end head = n - head
 
 loop-holds : tie.Need-loop-holds Inv-loop μ-loop
-loop-holds c = walk-start _ _ _ _ _ _ _ (c .before .before .before .before .pre)
+loop-holds c = walk-start _ _ _ _ _ _ _ (c .before .before .before .before .before .pre)
 
 mul-x : tie.Need-mul-x Inv-loop μ-loop
 mul-x c = search needs

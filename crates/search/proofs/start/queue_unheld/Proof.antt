@@ -1,12 +1,11 @@
--- `queue_left` meets its contract: the laws of Left.
 use Prim.Native.Nat.{_-_}
 use borrow.Author.Needs.{needs}
 use mathlib.Core.Logic.{⊎-elim}
 use native.Mathlib.Omega.{arith}
 use Rattle.packing.proofs.Lists.{Gathered, gather-start}
-use Rattle.search.proofs.Left.{unheld, queue-one, queue-pass, queue-end}
-use Rattle.search.proofs.start.queue_left.Statement.{statement}
-use Rattle.search.proofs.start.queue_left.Tie as tie
+use Rattle.search.proofs.Unheld.{unheld, queue-one, queue-pass, queue-end}
+use Rattle.search.proofs.start.queue_unheld.Statement.{statement}
+use Rattle.search.proofs.start.queue_unheld.Tie as tie
 
 abbrev Inv-loop : tie.InvT-loop
 Inv-loop n holders queue₀ end₀ v₀ queue end v = Gathered n (unheld n holders) queue₀ queue end v
@@ -55,8 +54,8 @@ same-length c = search needs
 returns : tie.Need-returns Inv-loop μ-loop
 returns c = queue-end _ _ _ (c .before .before .pre) (c .before .loop .inv) (c .loop-test .left)
 
-pub queue-left-spec : {M : Type 1} → statement M
-queue-left-spec =
+pub queue-unheld-spec : {M : Type 1} → statement M
+queue-unheld-spec =
     tie.close
     (tie.spec
     Inv-loop

@@ -7,7 +7,7 @@ use native.Mathlib.Omega.{arith}
 use lib.ListN.{length, set}
 use borrow.Author.Tests.{lt-ltb, le-ltb, not-true}
 use Rattle.packing.specs.Lists.{listWhere, Lent, memberOf}
-use Rattle.packing.specs.Plant.{at}
+use Rattle.packing.specs.Plant.{GATEWAYS, at}
 use Rattle.packing.specs.Holders.{held}
 use Rattle.packing.proofs.Tests.{not-i, not-i-false}
 use Rattle.packing.proofs.Sums.{count-split, count-all, count-bound}
@@ -18,21 +18,21 @@ use Rattle.search.specs.ChokeSet.{withoutHolder}
 use Rattle.search.specs.ChokePre.{Queued}
 
 -- who is without holder
-pub left-in : (n : ℕ) (hs : List ℕ) (v : ℕ) → v < n → held n (at hs) v ≡ false → memberOf (withoutHolder n hs) v ≡ true
+pub unheld-in : (n : ℕ) (hs : List ℕ) (v : ℕ) → v < n → held n (at hs) v ≡ false → memberOf (withoutHolder n hs) v ≡ true
 unfolding withoutHolder
-left-in n hs v l e = listWhere-in n (λ w. not (held n (at hs) w)) v l (not-i (held n (at hs) v) e)
+unheld-in n hs v l e = listWhere-in n (λ w. not (held n (at hs) w)) v l (not-i (held n (at hs) v) e)
 
-pub left-out : (n : ℕ) (hs : List ℕ) (v : ℕ) → memberOf (withoutHolder n hs) v ≡ true → (v < n) × (held n (at hs) v ≡ false)
+pub unheld-out : (n : ℕ) (hs : List ℕ) (v : ℕ) → memberOf (withoutHolder n hs) v ≡ true → (v < n) × (held n (at hs) v ≡ false)
 unfolding withoutHolder
-left-out n hs v m = let r = listWhere-out n (λ w. not (held n (at hs) w)) v m in (r .0, not-true (held n (at hs) v) (r .1))
+unheld-out n hs v m = let r = listWhere-out n (λ w. not (held n (at hs) w)) v m in (r .0, not-true (held n (at hs) v) (r .1))
 
 -- the gateways without holder may start a search: they and those held are n
-pub left-startable : (n : ℕ) (hs : List ℕ) → n ≤ 1024 → Startable n hs (withoutHolder n hs)
+pub unheld-startable : (n : ℕ) (hs : List ℕ) → n ≤ GATEWAYS → Startable n hs (withoutHolder n hs)
 unfolding withoutHolder
-left-startable n hs few =
+unheld-startable n hs few =
     record {
       few = few;
-      below = λ i l. left-out n hs (at (withoutHolder n hs) i) (member-at (withoutHolder n hs) i l) .0;
+      below = λ i l. unheld-out n hs (at (withoutHolder n hs) i) (member-at (withoutHolder n hs) i l) .0;
       room =
           omega (
             arith,

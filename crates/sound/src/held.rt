@@ -1,0 +1,45 @@
+// Whether a search may be made with a list of holders.
+use crate::marks::tally;
+use crate::passes::counts_between;
+ghost use mathlib.Core.Path.{_≡_};
+ghost use Prim.Native.Nat.{_≤_};
+ghost use lib.ListN.{replicate};
+ghost use Rattle.packing.specs.Plant.{GATEWAYS, HIGHEST, common};
+ghost use Rattle.sound.specs.Sound.{holdersWithin};
+ghost use Rattle.sound.specs.Marks.{Tally};
+ghost use Rattle.sound.specs.Searchable.{searchable};
+
+// Counts how many each gateway holds, in one pass.
+fn count_held(n: u16, holders: &[u16], loads: &mut [u16])
+    requires { ⌜ (n ≤ GATEWAYS) × (now loads ≡ replicate GATEWAYS 0) ⌝ }
+    ensures { λ _. ⌜ Tally (now (holders .entry)) n (now (loads .exit)) ⌝ }
+{
+    let mut v: u16 = 0;
+    while v < n {
+        tally(loads, lists::entry(holders, v));
+        v += 1;
+    }
+}
+
+// Whether nobody holds more than the highest limit.
+fn is_within(n: u16, holders: &[u16]) -> bool
+    requires { ⌜ n ≤ GATEWAYS ⌝ }
+    ensures { λ r. ⌜ r ≡ holdersWithin n (common HIGHEST) (now (holders .entry)) ⌝ }
+{
+    let mut loads = lists::marks::zeros();
+    count_held(n, holders, &mut loads);
+    counts_between(n as usize, 0, lists::HIGHEST as u16, &loads)
+}
+
+// Any number, and a list of any length and contents.
+pub fn is_searchable(n: u16, holders: &[u16]) -> bool
+    ensures { λ r. ⌜ r ≡ searchable n (now (holders .entry)) ⌝ }
+{
+    if lists::GATEWAYS < n {
+        return false;
+    }
+    if holders.len() < n as usize {
+        return false;
+    }
+    is_within(n, holders)
+}
