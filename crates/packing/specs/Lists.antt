@@ -4,6 +4,7 @@ use mathlib.Core.Bool.{Bool, false, cond, _&&_, _||_}
 use mathlib.Core.List.{List, [], _∷_, _++_}
 use lib.Dec.{eqb, leb}
 use lib.ListN.{length, drop}
+use Rattle.packing.specs.Plant.{GATEWAYS}
 
 -- f 0, .., f (n - 1) as a list
 unfoldable pub listOf : ℕ → (ℕ → ℕ) → List ℕ
@@ -26,11 +27,11 @@ written n front lent = front ++ drop n lent
 
 -- n is in range (01, "The product"), and there are n entries in a list that is read by gateway and in one that is written, by their lengths
 unfoldable pub fits : ℕ → ℕ → ℕ → Bool
-fits n read out = leb n 1024 && leb n read && leb n out
+fits n read out = leb n GATEWAYS && leb n read && leb n out
 
 -- .. as facts of the lists
 pub record Lent (n : ℕ) (read out : List ℕ) : Type 0 where
-  pub few : n ≤ 1024
+  pub few : n ≤ GATEWAYS
   pub entries : n ≤ length read
   pub places : n ≤ length out
 

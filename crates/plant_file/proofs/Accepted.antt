@@ -8,24 +8,23 @@ use native.Mathlib.Omega.{arith}
 use lib.Dec.{eqb, ltb, leb}
 use lib.ListN.{length, take}
 use borrow.Author.Tests.{ltb-false, leb-false, eqb-true, eqb-false, not-false}
-use Rattle.packing.specs.Plant.{at, linked}
+use Rattle.packing.specs.Plant.{GATEWAYS, LINKS, LOWEST, HIGHEST, at, linked}
 use Rattle.packing.proofs.Tests.{or-false-l, or-false-r}
 use Rattle.packing.proofs.Prefixes.{IsOrder}
 use Rattle.packing.specs.Orders.{repeatsOrOutside}
-use Rattle.packing.proofs.Refusals.{refuse-none}
+use Rattle.packing.proofs.Refusals.{refuse-none, first-none}
 use Rattle.sound.proofs.Orders.{order-right}
 use Rattle.plant_file.specs.PlantFile.{number, fileN, fileT, fileM, fileLinks, fileOrder, beginsPLT, endsRefusal, linksRefusal, fileRefusal}
-use Rattle.plant_file.proofs.Steps.{links-long}
-use Rattle.plant_file.proofs.Checked.{onward, onward-at}
-use Rattle.plant_file.proofs.Parts.{first-none}
+use Rattle.plant_file.proofs.LinksByIndex.{links-long}
+use Rattle.plant_file.proofs.LinkChecks.{onward, onward-at}
 
 pub record FileFits (file : List ℕ) : Type 0 where
   pub begins : beginsPLT file ≡ true
   pub version : number file 3 ≡ 1
-  pub few : fileN file ≤ 1024
-  pub least : 2 ≤ fileT file
-  pub most : fileT file ≤ 16
-  pub links-few : fileM file ≤ 8192
+  pub few : fileN file ≤ GATEWAYS
+  pub least : LOWEST ≤ fileT file
+  pub most : fileT file ≤ HIGHEST
+  pub links-few : fileM file ≤ LINKS
   pub long : length file ≡ 10 + 4 * fileM file + 2 * fileN file
   pub links : linksRefusal (fileN file) [] (fileLinks file) ≡ 0
   pub order : IsOrder (fileN file) (at (fileOrder file))
@@ -36,19 +35,19 @@ file-fits file z =
     let short = refuse-none (ltb (length file) 10) 9 _ (omega arith) z in
     let begins = refuse-none (not (beginsPLT file)) 7 _ (omega arith) (short .1) in
     let version = refuse-none (not (eqb (number file 3) 1)) 8 _ (omega arith) (begins .1) in
-    let n = refuse-none (ltb 1024 (fileN file)) 1 _ (omega arith) (version .1) in
-    let t = refuse-none (ltb (fileT file) 2 || ltb 16 (fileT file)) 2 _ (omega arith) (n .1) in
-    let m = refuse-none (ltb 8192 (fileM file)) 12 _ (omega arith) (t .1) in
+    let n = refuse-none (ltb GATEWAYS (fileN file)) 1 _ (omega arith) (version .1) in
+    let t = refuse-none (ltb (fileT file) LOWEST || ltb HIGHEST (fileT file)) 2 _ (omega arith) (n .1) in
+    let m = refuse-none (ltb LINKS (fileM file)) 12 _ (omega arith) (t .1) in
     let long = refuse-none (not (eqb (length file) (10 + 4 * fileM file + 2 * fileN file))) 9 _ (omega arith) (m .1) in
     let links = first-none (linksRefusal (fileN file) [] (fileLinks file)) _ (long .1) in
     let order = refuse-none (repeatsOrOutside (fileN file) (fileOrder file)) 6 0 (omega arith) (links .1) in
     record {
       begins = not-false (beginsPLT file) (begins .0);
       version = eqb-true (number file 3) 1 (not-false (eqb (number file 3) 1) (version .0));
-      few = ltb-false 1024 (fileN file) (n .0);
-      least = ltb-false (fileT file) 2 (or-false-l _ _ (t .0));
-      most = ltb-false 16 (fileT file) (or-false-r (ltb (fileT file) 2) _ (t .0));
-      links-few = ltb-false 8192 (fileM file) (m .0);
+      few = ltb-false GATEWAYS (fileN file) (n .0);
+      least = ltb-false (fileT file) LOWEST (or-false-l _ _ (t .0));
+      most = ltb-false HIGHEST (fileT file) (or-false-r (ltb (fileT file) LOWEST) _ (t .0));
+      links-few = ltb-false LINKS (fileM file) (m .0);
       long = eqb-true (length file) _ (not-false (eqb (length file) (10 + 4 * fileM file + 2 * fileN file)) (long .0));
       links = links .0;
       order = order-right (fileN file) (fileOrder file) (order .0);

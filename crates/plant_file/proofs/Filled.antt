@@ -10,9 +10,9 @@ use Rattle.packing.proofs.Lists.{Listed, written-front, list-turn}
 use Rattle.sound.specs.Sound.{onceEach, isOrder}
 use Rattle.sound.proofs.Meaning.{order-is}
 use Rattle.plant_file.specs.PlantFile.{number, fileN, fileM, fileOrder}
-use Rattle.plant_file.specs.Walk.{linkAt}
+use Rattle.plant_file.specs.Reader.{linkAt}
 use Rattle.plant_file.specs.Pre.{withEnds}
-use Rattle.plant_file.proofs.Steps.{linkNumber, orderNumber, order-long, step-is}
+use Rattle.plant_file.proofs.LinksByIndex.{linkNumber, orderNumber, order-long, step-is}
 
 -- with the first i links written, link i is written next
 pub links-turn : (file lent : List ℕ) {links new : List ℕ} {i : ℕ} → 2 * fileM file ≤ length lent → Listed (2 * fileM file) (linkNumber file) lent links (2 * i) → i < fileM file

@@ -1,9 +1,10 @@
 -- Laws of the plant file, by subject.
 pub mod Numbers
-pub mod Steps
-pub mod Before
-pub mod Checked
+pub mod LinksByIndex
+pub mod LinkedBefore
+pub mod LinkChecks
 pub mod Filled
-pub mod Parts
+pub mod Refusing
+pub mod Loading
 pub mod Accepted
 pub mod Examples

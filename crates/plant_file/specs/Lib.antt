@@ -1,5 +1,5 @@
 -- What the bytes of a plant file say.
 pub mod PlantFile
-pub mod Walk
+pub mod Reader
 pub mod Load
 pub mod Pre

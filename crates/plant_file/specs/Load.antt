@@ -1,17 +1,16 @@
--- What load gives: its answer, and the two lent lists after it.
+-- What load gives: its answer, and the two lent lists after it; and the list that order writes.
 use Prim.Native.Nat.{ℕ, _*_}
-use mathlib.Core.Bool.{_||_}
+use mathlib.Core.Bool.{cond, _||_}
 use mathlib.Core.List.{List}
-use lib.Dec.{ltb}
+use lib.Dec.{ltb, leb}
 use lib.ListN.{length}
 use Rattle.packing.specs.Lists.{written}
-use Rattle.packing.specs.Refusals.{refuse, byNumber, firstOf}
-use Rattle.plant_file.specs.PlantFile.{fileN, fileM, fileLinks, fileOrder, fileRefusal}
+use Rattle.packing.specs.Refusals.{byNumber}
+use Rattle.plant_file.specs.PlantFile.{fileN, fileM, fileLinks, fileOrder, fileThenShort}
 
--- the file's refusal, "then 10": a lent list too short for the 2m numbers of the links, or for the n of the order
+-- the file's number, "then 10": a lent list too short for the 2m numbers of the links, or for the n of the order
 unfoldable pub loadRefusal : List ℕ → ℕ → ℕ → ℕ
-loadRefusal file linksLen orderLen =
-    firstOf (fileRefusal file) (refuse (ltb linksLen (2 * fileM file) || ltb orderLen (fileN file)) 10 0)
+loadRefusal file linksLen orderLen = fileThenShort file (ltb linksLen (2 * fileM file) || ltb orderLen (fileN file))
 
 -- the links in the first 2m places; all as it was on refusal
 unfoldable pub loadLinks : List ℕ → List ℕ → List ℕ → List ℕ
@@ -22,3 +21,7 @@ loadLinks file links order =
 unfoldable pub loadOrder : List ℕ → List ℕ → List ℕ → List ℕ
 loadOrder file links order =
     byNumber (loadRefusal file (length links) (length order)) (written (fileN file) (fileOrder file) order) order
+
+-- the order alone, of any bytes: in the first n places, where there are as many
+unfoldable pub orderWritten : List ℕ → List ℕ → List ℕ
+orderWritten file out = cond (leb (fileN file) (length out)) (written (fileN file) (fileOrder file) out) out

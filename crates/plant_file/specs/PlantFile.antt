@@ -6,7 +6,7 @@ use mathlib.Core.List.{List, [], _∷_, _++_}
 use lib.Dec.{eqb, ltb, leb}
 use lib.ListN.{length}
 use Rattle.packing.specs.Lists.{listOf}
-use Rattle.packing.specs.Plant.{at, linked}
+use Rattle.packing.specs.Plant.{GATEWAYS, LINKS, LOWEST, HIGHEST, at, linked}
 use Rattle.packing.specs.Orders.{repeatsOrOutside}
 use Rattle.packing.specs.Refusals.{refuse, firstOf}
 
@@ -51,9 +51,13 @@ fileRefusal file =
     refuse (ltb (length file) 10) 9
     (refuse (not (beginsPLT file)) 7
     (refuse (not (eqb (number file 3) 1)) 8
-    (refuse (ltb 1024 (fileN file)) 1
-    (refuse (ltb (fileT file) 2 || ltb 16 (fileT file)) 2
-    (refuse (ltb 8192 (fileM file)) 12
+    (refuse (ltb GATEWAYS (fileN file)) 1
+    (refuse (ltb (fileT file) LOWEST || ltb HIGHEST (fileT file)) 2
+    (refuse (ltb LINKS (fileM file)) 12
     (refuse (not (eqb (length file) (10 + 4 * fileM file + 2 * fileN file))) 9
     (firstOf (linksRefusal (fileN file) [] (fileLinks file))
     (refuse (repeatsOrOutside (fileN file) (fileOrder file)) 6 0))))))))
+
+-- the file's number, "then 10": short says that a lent list is too short
+unfoldable pub fileThenShort : List ℕ → Bool → ℕ
+fileThenShort file short = firstOf (fileRefusal file) (refuse short 10 0)

@@ -4,9 +4,10 @@ use mathlib.Core.Bool.{not, _||_}
 use mathlib.Core.List.{List, [], _∷_}
 use lib.Dec.{eqb, ltb}
 use lib.ListN.{length, set}
+use Rattle.packing.specs.Plant.{GATEWAYS, LINKS, LOWEST, HIGHEST}
 use Rattle.packing.specs.Refusals.{refuse}
-use Rattle.plant_file.specs.declared.walk.Step.{Step}
-use Rattle.plant_file.specs.declared.walk.Step.the-variants.{Link, End}
+use Rattle.plant_file.specs.declared.reader.Step.{Step}
+use Rattle.plant_file.specs.declared.reader.Step.the-variants.{Link, End}
 use Rattle.plant_file.specs.PlantFile.{number, fileN, fileT, fileM, beginsPLT, endsRefusal}
 
 -- a link as a list of links
@@ -27,9 +28,9 @@ withEnds End i l = l
 -- the conditions of a file that speak of its header and length alone, in their turn
 unfoldable pub sizesRefusal : List ℕ → ℕ
 sizesRefusal file =
-    refuse (ltb 1024 (fileN file)) 1
-    (refuse (ltb (fileT file) 2 || ltb 16 (fileT file)) 2
-    (refuse (ltb 8192 (fileM file)) 12
+    refuse (ltb GATEWAYS (fileN file)) 1
+    (refuse (ltb (fileT file) LOWEST || ltb HIGHEST (fileT file)) 2
+    (refuse (ltb LINKS (fileM file)) 12
     (refuse (not (eqb (length file) (10 + 4 * fileM file + 2 * fileN file))) 9 0)))
 
 unfoldable pub headerRefusal : List ℕ → ℕ

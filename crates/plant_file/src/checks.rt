@@ -1,29 +1,30 @@
 // The refusals of a file, in 01's turn; 0 where no condition holds.
-use crate::bytes::byte_at;
 use crate::bytes::number_at;
-use crate::walk::Step;
+use crate::reader::Step;
+use lists::byte;
+use lists::tests::either;
 use sound::links::is_linked;
 ghost use mathlib.Core.Path.{_≡_};
 ghost use mathlib.Core.List.{[]};
 ghost use Prim.Native.Nat.{_*_, _≤_};
 ghost use lib.ListN.{take, length};
-ghost use Rattle.packing.specs.Plant.{linked};
+ghost use Rattle.packing.specs.Plant.{GATEWAYS, linked};
 ghost use Rattle.sound.specs.Sound.{onceEach};
 ghost use Rattle.plant_file.specs.PlantFile.{fileN, fileM, fileLinks, fileOrder, beginsPLT, linksRefusal};
 ghost use Rattle.plant_file.specs.Load.{loadRefusal};
-ghost use Rattle.plant_file.specs.Walk.{linkAt};
+ghost use Rattle.plant_file.specs.Reader.{linkAt};
 ghost use Rattle.plant_file.specs.Pre.{endsOf, stepRefusal, sizesRefusal, headerRefusal};
 
 fn begins_plt(file: &[u8]) -> bool
     ensures { λ r. ⌜ r ≡ beginsPLT (now (file .entry)) ⌝ }
 {
-    if byte_at(file, 0) != 80 {
+    if byte(file, 0) != 80 {
         return false;
     }
-    if byte_at(file, 1) != 76 {
+    if byte(file, 1) != 76 {
         return false;
     }
-    byte_at(file, 2) == 84
+    byte(file, 2) == 84
 }
 
 // The sizes that the header gives: 1, 2, 12, 9 for the length.
@@ -31,18 +32,18 @@ fn of_sizes(file: &[u8]) -> u32
     ensures { λ r. ⌜ r ≡ sizesRefusal (now (file .entry)) ⌝ }
 {
     let n = crate::gateways(file);
-    if 1024 < n {
+    if lists::GATEWAYS < n {
         return 1;
     }
     let t = crate::limit(file);
-    if t < 2 {
+    if t < lists::LOWEST {
         return 2;
     }
-    if 16 < t {
+    if lists::HIGHEST < t {
         return 2;
     }
     let m = crate::link_count(file);
-    if 8192 < m {
+    if lists::LINKS < m {
         return 12;
     }
     if file.len() != 10 + 4 * (m as usize) + 2 * (n as usize) {
@@ -71,7 +72,7 @@ pub(crate) fn of_header(file: &[u8]) -> u32
 fn joins_at(file: &[u8], j: usize, a: u16, b: u16) -> bool
     ensures { λ r. ⌜ r ≡ linked (endsOf (linkAt (now (file .entry)) j)) a b ⌝ }
 {
-    let Step::Link(x, y) = crate::walk::link_of(file, j) else {
+    let Step::Link(x, y) = crate::reader::link_of(file, j) else {
         return false;
     };
     let ends = [x, y];
@@ -98,7 +99,7 @@ fn of_link(file: &[u8], n: u16, i: usize) -> u32
     requires { ⌜ i ≤ fileM (now file) ⌝ }
     ensures { λ r. ⌜ r ≡ stepRefusal n (take (2 * i) (fileLinks (now (file .entry)))) (linkAt (now (file .entry)) i) ⌝ }
 {
-    let Step::Link(a, b) = crate::walk::link_of(file, i) else {
+    let Step::Link(a, b) = crate::reader::link_of(file, i) else {
         return 0;
     };
     if n <= a {
@@ -135,29 +136,21 @@ pub(crate) fn of_links(file: &[u8]) -> u32
 
 // Whether the order holds 0 to n - 1 once each.
 pub(crate) fn is_order(file: &[u8]) -> bool
-    requires { ⌜ fileN (now file) ≤ 1024 ⌝ }
+    requires { ⌜ fileN (now file) ≤ GATEWAYS ⌝ }
     ensures { λ r. ⌜ r ≡ onceEach (fileN (now (file .entry))) (fileOrder (now (file .entry))) ⌝ }
 {
     let n = crate::gateways(file);
     let end = n as usize;
-    let mut numbers = [0u16; 1024];
+    let mut numbers = [0u16; lists::PLACES];
     crate::fill::with_order(file, &mut numbers);
     sound::is_order(n, &numbers[..end])
 }
 
-// The file's own, and then 10.
+// The file's number, then 10 for a lent list too short.
 pub(crate) fn of_load(file: &[u8], links: &[u16], order: &[u16]) -> u32
     ensures { λ r. ⌜ r ≡ loadRefusal (now (file .entry)) (length (now (links .entry))) (length (now (order .entry))) ⌝ }
 {
-    let refusal = crate::refusal(file);
-    if refusal != 0 {
-        return refusal;
-    }
-    if links.len() < 2 * (crate::link_count(file) as usize) {
-        return 10;
-    }
-    if order.len() < crate::gateways(file) as usize {
-        return 10;
-    }
-    0
+    let few_ends = links.len() < 2 * (crate::link_count(file) as usize);
+    let few_places = order.len() < crate::gateways(file) as usize;
+    crate::refusal_then(file, either(few_ends, few_places))
 }

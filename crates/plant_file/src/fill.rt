@@ -1,11 +1,11 @@
 // Writes what a file says into the front of a lent list, and nothing past it.
-use crate::walk::Step;
+use crate::reader::Step;
 ghost use mathlib.Core.Path.{_≡_};
 ghost use Prim.Native.Nat.{_+_, _*_, _<_, _≤_};
 ghost use lib.ListN.{length};
 ghost use Rattle.packing.specs.Lists.{written};
 ghost use Rattle.plant_file.specs.PlantFile.{fileN, fileM, fileLinks, fileOrder};
-ghost use Rattle.plant_file.specs.Walk.{linkAt};
+ghost use Rattle.plant_file.specs.Reader.{linkAt};
 ghost use Rattle.plant_file.specs.Pre.{withEnds};
 
 // The two ends of the link at an index, at its two places.
@@ -13,7 +13,7 @@ fn with_link(file: &[u8], i: usize, links: &mut [u16])
     requires { ⌜ 2 * i + 1 < length (now links) ⌝ }
     ensures { λ _. ⌜ now (links .exit) ≡ withEnds (linkAt (now (file .entry)) i) (2 * i) (now (links .entry)) ⌝ }
 {
-    let Step::Link(a, b) = crate::walk::link_of(file, i) else {
+    let Step::Link(a, b) = crate::reader::link_of(file, i) else {
         return;
     };
     let at = 2 * i;

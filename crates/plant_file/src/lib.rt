@@ -2,12 +2,13 @@
 mod bytes;
 mod checks;
 mod fill;
-pub mod walk;
+pub mod reader;
 
 ghost use mathlib.Core.Path.{_≡_};
+ghost use lib.Dec.{leb};
 ghost use lib.ListN.{length};
-ghost use Rattle.plant_file.specs.PlantFile.{fileN, fileT, fileM, fileRefusal};
-ghost use Rattle.plant_file.specs.Load.{loadRefusal, loadLinks, loadOrder};
+ghost use Rattle.plant_file.specs.PlantFile.{fileN, fileT, fileM, fileRefusal, fileThenShort};
+ghost use Rattle.plant_file.specs.Load.{loadRefusal, loadLinks, loadOrder, orderWritten};
 
 // n, T and m as the header's bytes give them. A byte past the end counts as 0.
 pub fn gateways(file: &[u8]) -> u16
@@ -19,7 +20,7 @@ pub fn gateways(file: &[u8]) -> u16
 pub fn limit(file: &[u8]) -> u8
     ensures { λ r. ⌜ r ≡ fileT (now (file .entry)) ⌝ }
 {
-    bytes::byte_at(file, 7)
+    lists::byte(file, 7)
 }
 
 pub fn link_count(file: &[u8]) -> u16
@@ -46,6 +47,20 @@ pub fn refusal(file: &[u8]) -> u32
     0
 }
 
+// The file's number, then 10: short says that a lent list is too short.
+pub fn refusal_then(file: &[u8], short: bool) -> u32
+    ensures { λ r. ⌜ r ≡ fileThenShort (now (file .entry)) short ⌝ }
+{
+    let refused = refusal(file);
+    if refused != 0 {
+        return refused;
+    }
+    if short {
+        return 10;
+    }
+    0
+}
+
 // The file's links and order into lent lists. Its own refusal first, then 10 for a list too short; nothing is written on refusal.
 pub fn load(file: &[u8], links: &mut [u16], order: &mut [u16]) -> u32
     ensures answer { λ r. ⌜ r ≡ loadRefusal (now (file .entry)) (length (now (links .entry))) (length (now (order .entry))) ⌝ }
@@ -59,4 +74,16 @@ pub fn load(file: &[u8], links: &mut [u16], order: &mut [u16]) -> u32
     fill::with_links(file, links);
     fill::with_order(file, order);
     0
+}
+
+// The file's order alone into a lent list, with no check of the file. Answers whether there are n places; where there are not, nothing is written.
+pub fn order(file: &[u8], out: &mut [u16]) -> bool
+    ensures answer { λ r. ⌜ r ≡ leb (fileN (now (file .entry))) (length (now (out .entry))) ⌝ }
+    ensures out { λ _. ⌜ now (out .exit) ≡ orderWritten (now (file .entry)) (now (out .entry)) ⌝ }
+{
+    if out.len() < gateways(file) as usize {
+        return false;
+    }
+    fill::with_order(file, out);
+    true
 }

@@ -5,12 +5,12 @@ use mathlib.Core.List.{List, [], _∷_}
 use lib.Dec.{eqb, ltb, leb}
 use lib.ListN.{length}
 use Rattle.packing.specs.Count.{count, all}
-use Rattle.packing.specs.Plant.{NONE, at, common, firstLinks, linked}
+use Rattle.packing.specs.Plant.{NONE, GATEWAYS, LINKS, LOWEST, HIGHEST, at, common, firstLinks, linked}
 use Rattle.packing.specs.Holders.{holds}
 
 -- "n, T, m are in range, k ≤ n" (01, "The product": 0 to 1,024 gateways, 0 to 8,192 links, a limit T of 2 to 16)
 unfoldable pub numbersSound : ℕ → ℕ → ℕ → ℕ → Bool
-numbersSound n t m k = leb n 1024 && leb 2 t && leb t 16 && leb m 8192 && leb k n
+numbersSound n t m k = leb n GATEWAYS && leb LOWEST t && leb t HIGHEST && leb m LINKS && leb k n
 
 -- "the lists are at least 2m, n and n long"
 unfoldable pub listsLong : ℕ → ℕ → List ℕ → List ℕ → List ℕ → Bool
@@ -28,7 +28,7 @@ onceEach n os = all n (λ v. eqb (count n (λ i. eqb (at os i) v)) 1)
 
 -- a list that may be an order: n is in range, there are n numbers, and the first n hold 0 to n − 1 once each
 unfoldable pub isOrder : ℕ → List ℕ → Bool
-isOrder n l = leb n 1024 && leb n (length l) && onceEach n l
+isOrder n l = leb n GATEWAYS && leb n (length l) && onceEach n l
 
 -- "every holder is linked to what it holds"
 unfoldable pub holdersLinked : ℕ → List ℕ → List ℕ → Bool

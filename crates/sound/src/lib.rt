@@ -4,27 +4,29 @@ pub mod links;
 mod marks;
 mod passes;
 
+use lists::marks::bytes;
+use lists::marks::zeros;
+use lists::tests::both;
 ghost use mathlib.Core.Path.{_≡_};
 ghost use mathlib.Core.Bool.{_&&_};
 ghost use Prim.Native.Nat.{_≤_};
-ghost use lib.ListN.{length};
 ghost use Rattle.packing.specs.Lists.{fits};
-ghost use Rattle.packing.specs.Plant.{common};
+ghost use Rattle.packing.specs.Plant.{GATEWAYS, at};
 ghost use Rattle.sound.specs.Sound.{isSound, isOrder, numbersSound, listsLong, endsSound, holdersLinked, holdersWithin, onceEach, onlyPlacedHeld};
 
 fn numbers_sound(n: u16, t: u8, m: u16, k: u16) -> bool
     ensures { λ r. ⌜ r ≡ numbersSound n t m k ⌝ }
 {
-    if 1024 < n {
+    if lists::GATEWAYS < n {
         return false;
     }
-    if t < 2 {
+    if t < lists::LOWEST {
         return false;
     }
-    if 16 < t {
+    if lists::HIGHEST < t {
         return false;
     }
-    if 8192 < m {
+    if lists::LINKS < m {
         return false;
     }
     k <= n
@@ -42,35 +44,35 @@ fn lists_long(n: u16, m: u16, links: &[u16], order: &[u16], holders: &[u16]) -> 
     (n as usize) <= holders.len()
 }
 
-// The links' ends, and the holders: linked to what they hold, and within the limit.
-fn holders_sound(n: u16, t: u8, links: &[u16], holders: &[u16]) -> bool
-    requires { ⌜ (n ≤ 1024) × (n ≤ length (now holders)) ⌝ }
-    ensures { λ r. ⌜ r ≡ (endsSound n (now (links .entry)) && holdersLinked n (now (links .entry)) (now (holders .entry)) && holdersWithin n (common t) (now (holders .entry))) ⌝ }
+// The links' ends, and the holders: linked to what they hold, and each within the limit of its gateway.
+fn holders_sound(n: u16, limits: &[u8], links: &[u16], holders: &[u16]) -> bool
+    requires { ⌜ n ≤ GATEWAYS ⌝ }
+    ensures { λ r. ⌜ r ≡ (endsSound n (now (links .entry)) && holdersLinked n (now (links .entry)) (now (holders .entry)) && holdersWithin n (at (now (limits .entry))) (now (holders .entry))) ⌝ }
 {
-    let mut marks = marks::zeros();
-    let mut loads = marks::zeros();
+    let mut marks = zeros();
+    let mut loads = zeros();
     let ends = passes::over_links(n, links, holders, &mut marks);
-    let linked = passes::over_holders(n as usize, holders, &marks, &mut loads);
-    let within = passes::counts_between(n as usize, 0, t as u16, &loads);
-    marks::both(marks::both(ends, linked), within)
+    let linked = passes::over_holders(n, holders, &marks, &mut loads);
+    let within = passes::loads_within(n, limits, &loads);
+    both(both(ends, linked), within)
 }
 
 // The order: each gateway once, and no holder from place k on.
 fn order_sound(n: u16, k: u16, order: &[u16], holders: &[u16]) -> bool
-    requires { ⌜ (n ≤ 1024) × (n ≤ length (now order)) ⌝ }
+    requires { ⌜ n ≤ GATEWAYS ⌝ }
     ensures { λ r. ⌜ r ≡ (onceEach n (now (order .entry)) && onlyPlacedHeld n k (now (order .entry)) (now (holders .entry))) ⌝ }
 {
-    let mut counts = marks::zeros();
-    let placed = passes::over_order(n as usize, k as usize, order, holders, &mut counts);
-    let once = passes::counts_between(n as usize, 1, 1, &counts);
-    marks::both(once, placed)
+    let mut counts = zeros();
+    let placed = passes::over_order(n, k, order, holders, &mut counts);
+    let once = passes::counts_one(n, &counts);
+    both(once, placed)
 }
 
 // Whether n is in range, and n entries are lent in a list that is read by gateway and in one that is written.
 pub fn is_fitting(n: u16, read: usize, out: usize) -> bool
     ensures { λ r. ⌜ r ≡ fits n read out ⌝ }
 {
-    if 1024 < n {
+    if lists::GATEWAYS < n {
         return false;
     }
     if read < n as usize {
@@ -83,7 +85,7 @@ pub fn is_fitting(n: u16, read: usize, out: usize) -> bool
 pub fn is_order(n: u16, numbers: &[u16]) -> bool
     ensures { λ r. ⌜ r ≡ isOrder n (now (numbers .entry)) ⌝ }
 {
-    if 1024 < n {
+    if lists::GATEWAYS < n {
         return false;
     }
     if numbers.len() < n as usize {
@@ -112,6 +114,7 @@ pub fn is_sound(
     }
     let end = 2 * (m as usize);
     let order_holds = order_sound(n, k, order, holders);
-    let holders_hold = holders_sound(n, t, &links[..end], holders);
-    marks::both(order_holds, holders_hold)
+    let limits = bytes(t);
+    let holders_hold = holders_sound(n, &limits, &links[..end], holders);
+    both(order_holds, holders_hold)
 }

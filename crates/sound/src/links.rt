@@ -1,26 +1,14 @@
 // Looking a link up.
+use lists::tests::both;
+use lists::tests::either;
 ghost use mathlib.Core.Path.{_≡_};
-ghost use mathlib.Core.Bool.{_&&_};
-ghost use lib.Dec.{eqb};
 ghost use Rattle.packing.specs.Plant.{joins, linked};
-
-fn same(a: u16, b: u16, x: u16, y: u16) -> bool
-    ensures { λ r. ⌜ r ≡ (eqb a x && eqb b y) ⌝ }
-{
-    if a == x {
-        return b == y;
-    }
-    false
-}
 
 // Whether the link a-b joins x and y, either way round.
 fn is_joining(a: u16, b: u16, x: u16, y: u16) -> bool
     ensures { λ r. ⌜ r ≡ joins a b x y ⌝ }
 {
-    if same(a, b, x, y) {
-        return true;
-    }
-    same(a, b, y, x)
+    either(both(a == x, b == y), both(a == y, b == x))
 }
 
 // Whether x and y are linked by a list of two numbers for each link.

@@ -1,18 +1,18 @@
-// One pass over each list.
-use crate::marks::both;
+// One pass over each list. What is past a list's end counts as 0, so lists of any lengths are passed over.
 use crate::marks::ends_sound;
-use crate::marks::free_or_marked;
-use crate::marks::is_between;
 use crate::marks::note;
-use crate::marks::placed_or_free;
 use crate::marks::tally;
+use lists::NONE;
+use lists::byte;
+use lists::entry;
+use lists::marks::is_marked;
+use lists::tests::both;
+use lists::tests::either;
 ghost use mathlib.Core.Path.{_≡_};
-ghost use mathlib.Core.Bool.{_&&_};
-ghost use lib.Dec.{leb};
-ghost use Prim.Native.Nat.{_≤_};
-ghost use lib.ListN.{length, getD};
+ghost use lib.Dec.{eqb, leb};
 ghost use Rattle.packing.specs.Count.{all};
-ghost use Rattle.sound.specs.Marks.{Zeros, Room, LinksPassed, HoldersPassed, OrderPassed};
+ghost use Rattle.packing.specs.Plant.{at};
+ghost use Rattle.sound.specs.Marks.{Zeros, LinksPassed, HoldersPassed, OrderPassed};
 
 // The links: whether the ends of each differ and are below n. Marks each gateway whose holder is linked to it.
 pub(crate) fn over_links(n: u16, links: &[u16], holders: &[u16], marks: &mut [u16]) -> bool
@@ -33,15 +33,15 @@ pub(crate) fn over_links(n: u16, links: &[u16], holders: &[u16], marks: &mut [u1
 }
 
 // The holders: whether each is none or its gateway is marked. Counts how many each gateway holds.
-pub(crate) fn over_holders(n: usize, holders: &[u16], marks: &[u16], loads: &mut [u16]) -> bool
-    requires { ⌜ Room n (now holders) (now marks) (now loads) ⌝ }
+pub(crate) fn over_holders(n: u16, holders: &[u16], marks: &[u16], loads: &mut [u16]) -> bool
+    requires { ⌜ Zeros (now loads) ⌝ }
     ensures { λ r. ⌜ HoldersPassed n (now (holders .entry)) (now (marks .entry)) (now (loads .exit)) r ⌝ }
 {
     let mut ok = true;
-    let mut v: usize = 0;
+    let mut v: u16 = 0;
     while v < n {
-        let u = holders[v];
-        ok = both(ok, free_or_marked(u, marks[v]));
+        let u = entry(holders, v);
+        ok = both(ok, either(u == NONE, is_marked(marks, v)));
         tally(loads, u);
         v += 1;
     }
@@ -49,36 +49,42 @@ pub(crate) fn over_holders(n: usize, holders: &[u16], marks: &[u16], loads: &mut
 }
 
 // The order: whether those from place k on have no holder. Counts how often each gateway stands in it.
-pub(crate) fn over_order(
-    n: usize,
-    k: usize,
-    order: &[u16],
-    holders: &[u16],
-    counts: &mut [u16],
-) -> bool
-    requires { ⌜ Room n (now order) (now order) (now counts) ⌝ }
+pub(crate) fn over_order(n: u16, k: u16, order: &[u16], holders: &[u16], counts: &mut [u16]) -> bool
+    requires { ⌜ Zeros (now counts) ⌝ }
     ensures { λ r. ⌜ OrderPassed n k (now (order .entry)) (now (holders .entry)) (now (counts .exit)) r ⌝ }
 {
     let mut ok = true;
-    let mut i: usize = 0;
+    let mut i: u16 = 0;
     while i < n {
-        let x = order[i];
-        ok = both(ok, placed_or_free(i, k, x, holders));
+        let x = entry(order, i);
+        ok = both(ok, either(i < k, entry(holders, x) == NONE));
         tally(counts, x);
         i += 1;
     }
     ok
 }
 
-// Whether each of the first n counts is from low to high.
-pub(crate) fn counts_between(n: usize, low: u16, high: u16, counts: &[u16]) -> bool
-    requires { ⌜ n ≤ length (now counts) ⌝ }
-    ensures { λ r. ⌜ r ≡ all n (λ v. leb low (getD (now (counts .entry)) v 0) && leb (getD (now (counts .entry)) v 0) high) ⌝ }
+// Whether each of the first n counts is 1.
+pub(crate) fn counts_one(n: u16, counts: &[u16]) -> bool
+    ensures { λ r. ⌜ r ≡ all n (λ v. eqb (at (now (counts .entry)) v) 1) ⌝ }
 {
     let mut ok = true;
-    let mut v: usize = 0;
+    let mut v: u16 = 0;
     while v < n {
-        ok = both(ok, is_between(low, high, counts[v]));
+        ok = both(ok, entry(counts, v) == 1);
+        v += 1;
+    }
+    ok
+}
+
+// Whether each of the first n loads is within the limit of its gateway.
+pub(crate) fn loads_within(n: u16, limits: &[u8], loads: &[u16]) -> bool
+    ensures { λ r. ⌜ r ≡ all n (λ v. leb (at (now (loads .entry)) v) (at (now (limits .entry)) v)) ⌝ }
+{
+    let mut ok = true;
+    let mut v: u16 = 0;
+    while v < n {
+        ok = both(ok, entry(loads, v) <= byte(limits, v as usize) as u16);
         v += 1;
     }
     ok

@@ -1,4 +1,3 @@
--- `gateways` meets its contract.
 use Rattle.plant_file.specs.PlantFile.{fileN}
 use borrow.Author.Needs.{needs}
 use Rattle.plant_file.proofs.gateways.Statement.{statement}

@@ -1,4 +1,3 @@
--- `link_count` meets its contract.
 use Rattle.plant_file.specs.PlantFile.{fileM}
 use borrow.Author.Needs.{needs}
 use Rattle.plant_file.proofs.link_count.Statement.{statement}

@@ -1,5 +1,4 @@
--- `load` meets its contract: the laws of Parts.
-use Rattle.plant_file.proofs.Parts.{load-room, load-refused, load-accepted}
+use Rattle.plant_file.proofs.Loading.{load-places, load-refused, load-accepted}
 use borrow.Author.Needs.{needs}
 use Rattle.plant_file.proofs.load.Statement.{statement}
 use Rattle.plant_file.proofs.load.Tie as tie
@@ -17,10 +16,10 @@ returns : tie.Need-returns
 returns c = load-refused _ _ _ (c .before .of-load .ensures) (c .if1 .taken)
 
 with-links-requires : tie.Need-with-links-requires
-with-links-requires c κs = load-room _ _ _ (c .before .before .of-load .ensures) (c .before .if1 .left) .1
+with-links-requires c κs = load-places _ _ _ (c .before .before .of-load .ensures) (c .before .if1 .left) .1
 
 with-order-requires : tie.Need-with-order-requires
-with-order-requires c κs = load-room _ _ _ (c .before .before .before .before .before .before .of-load .ensures) (c .before .before .before .before .before .if1 .left) .2
+with-order-requires c κs = load-places _ _ _ (c .before .before .before .before .before .before .of-load .ensures) (c .before .before .before .before .before .if1 .left) .2
 
 same-length-3 : tie.Need-same-length-3
 same-length-3 c = search needs

@@ -1,6 +1,5 @@
--- `refusal` meets its contract: the laws of Parts.
 use borrow.Author.Tests.{not-true, not-false}
-use Rattle.plant_file.proofs.Parts.{header-few, file-header, file-links, file-disorder, file-fine}
+use Rattle.plant_file.proofs.Refusing.{header-few, file-header, file-links, file-disorder, file-fine}
 use borrow.Author.Needs.{needs}
 use Rattle.plant_file.proofs.refusal.Statement.{statement}
 use Rattle.plant_file.proofs.refusal.Tie as tie

@@ -1,6 +1,7 @@
--- `holders_sound` meets its contract: the passes' results put together.
+-- The passes' results put together.
 use native.Mathlib.Omega.{arith}
-use Rattle.sound.proofs.Joined.{holders-joined}
+use Rattle.sound.proofs.Tallies.{all-zero}
+use Rattle.sound.proofs.PassResults.{holders-results}
 use borrow.Author.Needs.{needs}
 use Rattle.sound.proofs.holders_sound.Statement.{statement}
 use Rattle.sound.proofs.holders_sound.Tie as tie
@@ -15,7 +16,7 @@ slice-aggregate-over-links : tie.Need-slice-aggregate-over-links
 slice-aggregate-over-links c = search needs
 
 over-links-requires : tie.Need-over-links-requires
-over-links-requires c κs = search needs
+over-links-requires c κs = all-zero (c .before .before .zeros .ensures)
 
 slice-aggregate-over-holders : tie.Need-slice-aggregate-over-holders
 slice-aggregate-over-holders c = search needs
@@ -24,13 +25,13 @@ slice-aggregate-over-holders-2 : tie.Need-slice-aggregate-over-holders-2
 slice-aggregate-over-holders-2 c = search needs
 
 over-holders-requires : tie.Need-over-holders-requires
-over-holders-requires c κs = search needs
+over-holders-requires c κs = all-zero (c .before .before .before .before .before .zeros2 .ensures)
 
-slice-aggregate-counts-between : tie.Need-slice-aggregate-counts-between
-slice-aggregate-counts-between c = search needs
+slice-aggregate-loads-within : tie.Need-slice-aggregate-loads-within
+slice-aggregate-loads-within c = search needs
 
-counts-between-requires : tie.Need-counts-between-requires
-counts-between-requires c κs = search needs
+loads-within-requires : tie.Need-loads-within-requires
+loads-within-requires c κs = search needs
 
 both-requires : tie.Need-both-requires
 both-requires c κs = search needs
@@ -41,7 +42,8 @@ both-requires-2 c κs = search needs
 returns : tie.Need-returns
 returns c = let held = c .before .before .before .before .before in
     let linked = held .before .before .before .before in
-    holders-joined _ _ _ _ _ _ (omega arith) (omega arith) (omega arith) (linked .over-links .ensures) (held .over-holders .ensures) (c .before .before .counts-between .ensures) (c .before .both .ensures) (c .both2 .ensures)
+    let a = linked .before .before .before .before .before .before .before .args in
+    holders-results _ (a .limits .now) _ _ _ _ (omega arith) (omega arith) (linked .over-links .ensures) (held .over-holders .ensures) (c .before .before .loads-within .ensures) (c .before .both .ensures) (c .both2 .ensures)
 
 pub holders-sound-spec : {M : Type 1} → statement M
 holders-sound-spec =
@@ -54,8 +56,8 @@ holders-sound-spec =
     slice-aggregate-over-holders
     slice-aggregate-over-holders-2
     over-holders-requires
-    slice-aggregate-counts-between
-    counts-between-requires
+    slice-aggregate-loads-within
+    loads-within-requires
     both-requires
     both-requires-2
     returns)

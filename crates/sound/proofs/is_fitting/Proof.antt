@@ -1,4 +1,4 @@
--- `is_fitting` meets its contract: each return rewrites by the tests that led there.
+-- Each return rewrites by the tests that led there.
 use borrow.Author.Tests.{lt-leb, le-leb}
 use Rattle.packing.specs.Lists.{fits}
 use Rattle.sound.proofs.is_fitting.Statement.{statement}

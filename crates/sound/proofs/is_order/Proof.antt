@@ -1,7 +1,7 @@
--- `is_order` meets its contract: each return rewrites by the tests that led there.
+-- Each return rewrites by the tests that led there.
 use borrow.Author.Tests.{lt-leb, le-leb}
 use Rattle.sound.specs.Sound.{isOrder}
-use Rattle.sound.proofs.Joined.{order-only}
+use Rattle.sound.proofs.PassResults.{order-only}
 use borrow.Author.Needs.{needs}
 use Rattle.sound.proofs.is_order.Statement.{statement}
 use Rattle.sound.proofs.is_order.Tie as tie

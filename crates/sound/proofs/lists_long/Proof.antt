@@ -1,4 +1,4 @@
--- `lists_long` meets its contract: each return rewrites by the tests that led there.
+-- Each return rewrites by the tests that led there.
 use borrow.Author.Tests.{lt-leb, le-leb}
 use Rattle.sound.specs.Sound.{listsLong}
 use borrow.Author.Needs.{needs}

@@ -1,4 +1,4 @@
--- `numbers_sound` meets its contract: each return rewrites by the tests that led there.
+-- Each return rewrites by the tests that led there.
 use borrow.Author.Tests.{lt-leb, le-leb}
 use Rattle.sound.specs.Sound.{numbersSound}
 use Rattle.sound.proofs.numbers_sound.Statement.{statement}

@@ -1,4 +1,3 @@
--- `joined` meets its contract.
 use mathlib.Core.Path.{refl}
 use borrow.Author.Needs.{needs}
 use Rattle.plant_file.proofs.bytes.joined.Statement.{statement}

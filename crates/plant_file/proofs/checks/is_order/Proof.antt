@@ -1,4 +1,3 @@
--- `is_order` meets its contract: the laws of Filled.
 use Rattle.plant_file.proofs.Filled.{order-front-long, order-tested}
 use borrow.Author.Needs.{needs}
 use Rattle.plant_file.proofs.checks.is_order.Statement.{statement}

@@ -1,4 +1,3 @@
--- `joins_at` meets its contract.
 use mathlib.Core.Path.{sym, _∙_}
 use Rattle.packing.specs.Plant.{linked}
 use borrow.Author.Needs.{needs}

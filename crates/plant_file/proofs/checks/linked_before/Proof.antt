@@ -1,8 +1,7 @@
--- `linked_before` meets its contract: the laws of Before.
 use borrow.Author.Needs.{needs}
 use Prim.Native.Nat.{_*_, _-_}
 use Rattle.sound.proofs.Lookup.{Looked}
-use Rattle.plant_file.proofs.Before.{earlier, before-start, before-found, before-turn, before-end}
+use Rattle.plant_file.proofs.LinkedBefore.{earlier, before-start, before-found, before-turn, before-end}
 use Rattle.plant_file.proofs.checks.linked_before.Statement.{statement}
 use Rattle.plant_file.proofs.checks.linked_before.Tie as tie
 

@@ -1,9 +1,9 @@
--- `of_link` meets its contract: each return rewrites by the tests that led there.
+-- Each return rewrites by the tests that led there.
 use mathlib.Core.Path.{sym, ap, _∙_}
 use borrow.Author.Tests.{lt-leb, le-leb, eq-eqb, ne-eqb}
 use Rattle.plant_file.specs.PlantFile.{endsRefusal}
 use Rattle.plant_file.specs.Pre.{stepRefusal}
-use Rattle.plant_file.proofs.Checked.{step-refusal}
+use Rattle.plant_file.proofs.LinkChecks.{step-refusal}
 use borrow.Author.Needs.{needs}
 use Rattle.plant_file.proofs.checks.of_link.Statement.{statement}
 use Rattle.plant_file.proofs.checks.of_link.Tie as tie

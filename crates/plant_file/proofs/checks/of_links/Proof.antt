@@ -1,8 +1,7 @@
--- `of_links` meets its contract: the laws of Checked.
 use borrow.Author.Needs.{needs}
 use Prim.Native.Nat.{_-_}
 use native.Mathlib.Omega.{arith}
-use Rattle.plant_file.proofs.Checked.{Checked, checked-start, checked-refused, checked-turn, checked-end}
+use Rattle.plant_file.proofs.LinkChecks.{Checked, checked-start, checked-refused, checked-turn, checked-end}
 use Rattle.plant_file.proofs.checks.of_links.Statement.{statement}
 use Rattle.plant_file.proofs.checks.of_links.Tie as tie
 

@@ -1,4 +1,4 @@
--- `of_sizes` meets its contract: each return rewrites by the tests that led there.
+-- Each return rewrites by the tests that led there.
 use borrow.Author.Tests.{lt-ltb, le-ltb, eq-eqb, ne-eqb}
 use Rattle.plant_file.specs.Pre.{sizesRefusal}
 use borrow.Author.Needs.{needs}

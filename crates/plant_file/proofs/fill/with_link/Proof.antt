@@ -1,4 +1,3 @@
--- `with_link` meets its contract.
 use mathlib.Core.Path.{sym, _∙_}
 use borrow.Author.Needs.{needs}
 use Rattle.plant_file.proofs.fill.with_link.Statement.{statement}

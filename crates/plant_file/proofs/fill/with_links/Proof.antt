@@ -1,10 +1,10 @@
--- `with_links` meets its contract: packing's laws of lists, two entries a turn.
+-- Packing's laws of lists, two entries a turn.
 use native.Mathlib.Omega.{arith}
 use borrow.Author.Needs.{needs}
 use Prim.Native.Nat.{_*_, _-_}
 use Rattle.packing.proofs.Lists.{Listed, list-start, list-end}
 use Rattle.plant_file.specs.PlantFile.{fileM, fileLinks}
-use Rattle.plant_file.proofs.Steps.{linkNumber}
+use Rattle.plant_file.proofs.LinksByIndex.{linkNumber}
 use Rattle.plant_file.proofs.Filled.{links-turn}
 use Rattle.plant_file.proofs.fill.with_links.Statement.{statement}
 use Rattle.plant_file.proofs.fill.with_links.Tie as tie

@@ -1,10 +1,9 @@
--- `with_order` meets its contract: packing's laws of lists.
 use native.Mathlib.Omega.{arith}
 use borrow.Author.Needs.{needs}
 use Prim.Native.Nat.{_-_}
 use Rattle.packing.proofs.Lists.{Listed, list-start, list-turn, list-end}
 use Rattle.plant_file.specs.PlantFile.{fileN, fileOrder}
-use Rattle.plant_file.proofs.Steps.{orderNumber}
+use Rattle.plant_file.proofs.LinksByIndex.{orderNumber}
 use Rattle.plant_file.proofs.Filled.{order-entry}
 use Rattle.plant_file.proofs.fill.with_order.Statement.{statement}
 use Rattle.plant_file.proofs.fill.with_order.Tie as tie

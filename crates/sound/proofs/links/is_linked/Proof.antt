@@ -1,4 +1,3 @@
--- `is_linked` meets its contract: the laws of Lookup.
 use borrow.Author.Needs.{needs}
 use Prim.Native.Nat.{_-_}
 use lib.ListN.{length}

@@ -1,4 +1,4 @@
--- `ends_sound` meets its contract: each return rewrites by the tests that led there.
+-- Each return rewrites by the tests that led there.
 use borrow.Author.Tests.{eq-eqb, ne-eqb, lt-ltb, le-ltb}
 use Rattle.sound.proofs.marks.ends_sound.Statement.{statement}
 use Rattle.sound.proofs.marks.ends_sound.Tie as tie

@@ -1,43 +1,21 @@
--- `tally` meets its contract.
-use mathlib.Core.Path.{sym}
-use lib.Seq.{set-out}
 use borrow.Author.Needs.{needs}
 use Rattle.sound.proofs.marks.tally.Statement.{statement}
 use Rattle.sound.proofs.marks.tally.Tie as tie
 
-mul-counts : tie.Need-mul-counts
-mul-counts c = search needs
+entry-requires : tie.Need-entry-requires
+entry-requires c κs = search needs
 
-slice-read-counts : tie.Need-slice-read-counts
-slice-read-counts c = search needs
+add-put : tie.Need-add-put
+add-put c = search needs
 
-add-counts : tie.Need-add-counts
-add-counts c = search needs
-
-mul-counts-2 : tie.Need-mul-counts-2
-mul-counts-2 c = search needs
-
-slice-write-counts : tie.Need-slice-write-counts
-slice-write-counts c = search needs
+put-requires : tie.Need-put-requires
+put-requires c κs = search needs
 
 same-length : tie.Need-same-length
 same-length c = search needs
 
 returns : tie.Need-returns
-returns c = search needs
-
-returns-2 : tie.Need-returns-2
-returns-2 c = sym (set-out _ _ _ (c .if1 .left))
+returns c = let written = c .before .before in rw (← written .before .entry .ensures) (written .put .ensures)
 
 pub tally-spec : {M : Type 1} → statement M
-tally-spec =
-    tie.close
-    (tie.spec
-    mul-counts
-    slice-read-counts
-    add-counts
-    mul-counts-2
-    slice-write-counts
-    same-length
-    returns
-    returns-2)
+tally-spec = tie.close (tie.spec entry-requires add-put put-requires same-length returns)

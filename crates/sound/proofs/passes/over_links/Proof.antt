@@ -1,19 +1,18 @@
--- `over_links` meets its contract: the laws of Walk.
 use borrow.Author.Needs.{needs}
 use Prim.Native.Nat.{_-_}
 use lib.ListN.{length}
-use Rattle.sound.proofs.Walk.{Walked, walk-start, walk-turn, walk-end}
+use Rattle.sound.proofs.LinkPass.{LinksUpTo, links-start, links-turn, links-end}
 use Rattle.sound.proofs.passes.over_links.Statement.{statement}
 use Rattle.sound.proofs.passes.over_links.Tie as tie
 
 abbrev Inv-loop : tie.InvT-loop
-Inv-loop n links holders marks₀ ok₀ i₀ marks ok i = Walked n links holders marks₀ marks ok i
+Inv-loop n links holders marks₀ ok₀ i₀ marks ok i = LinksUpTo n links holders marks₀ marks ok i
 
 abbrev μ-loop : tie.MeasureT-loop
 μ-loop n links holders marks₀ ok₀ i₀ marks ok i = length links - i
 
 loop-holds : tie.Need-loop-holds Inv-loop μ-loop
-loop-holds c = walk-start _ _ _ _ (c .before .before .before .pre)
+loop-holds c = links-start _ _ _ _ (c .before .before .before .pre)
 
 add-loop : tie.Need-add-loop Inv-loop μ-loop
 add-loop c = search needs
@@ -55,13 +54,13 @@ loop-again : tie.Need-loop-again Inv-loop μ-loop
 loop-again c = let n2 = c .before .before .before .before in
     let n1 = n2 .before .before .before .before in
     let turn = n1 .before .before .before .before in
-    walk-turn _ _ _ _ (turn .before .loop .inv) (turn .loop-test .taken) (n1 .note .ensures) (n2 .note2 .ensures) (c .before .ends-sound .ensures) (c .both .ensures)
+    links-turn _ _ _ _ (turn .before .loop .inv) (turn .loop-test .taken) (n1 .note .ensures) (n2 .note2 .ensures) (c .before .ends-sound .ensures) (c .both .ensures)
 
 same-length : tie.Need-same-length Inv-loop μ-loop
 same-length c = search needs
 
 returns : tie.Need-returns Inv-loop μ-loop
-returns c = walk-end _ _ _ _ (c .before .loop .inv) (c .loop-test .left)
+returns c = links-end _ _ _ _ (c .before .loop .inv) (c .loop-test .left)
 
 pub over-links-spec : {M : Type 1} → statement M
 over-links-spec =

@@ -1,8 +1,7 @@
--- `link_at` meets its contract: the laws of Steps.
-use Rattle.plant_file.proofs.Steps.{step-here, step-past}
+use Rattle.plant_file.proofs.LinksByIndex.{step-here, step-past}
 use borrow.Author.Needs.{needs}
-use Rattle.plant_file.proofs.walk.link_at.Statement.{statement}
-use Rattle.plant_file.proofs.walk.link_at.Tie as tie
+use Rattle.plant_file.proofs.reader.link_at.Statement.{statement}
+use Rattle.plant_file.proofs.reader.link_at.Tie as tie
 
 link-count-requires : tie.Need-link-count-requires
 link-count-requires c κs = search needs

@@ -1,4 +1,4 @@
--- `link_of` meets its contract: a walk of its MIR, by hand. A `Reader` that one call returns is held in a local and passed to the next. All that the proof knows of `new` and of `next` is that each meets its contract.
+-- `link_of` by its MIR, step by step, by hand. A `Reader` that one call returns is held in a local and passed to the next. All that the proof knows of `new` and of `next` is that each meets its contract.
 -- The machine value that `new` returns is stored and passed on as it is. In a local of a body MIR erases the lifetime of the struct's type, so the value is shown to have the type at `erased`: what the struct owns does not say the lifetime's name.
 use mathlib.Core.Path.{_≡_, refl, ap, _∙_}
 use Prim.Native.Nat.{ℕ, _<_, _^_}
@@ -37,25 +37,25 @@ use denote.Triple.Table.{entered, cited}
 use denote.Triple.Walked.{says, Stays, stay-none, stay-none-slice, walkOf, goes-none, goes-none-slice, Walks, ends-at, walked, walk-meets}
 use denote.Exit.{yes}
 use denote.Triple.Clauses.{ensured, lasts}
-use Rattle.plant_file.specs.Walk.{linkAt}
-use Rattle.plant_file.specs.declared.walk.Reader.{Reader}
-use Rattle.plant_file.specs.declared.walk.Step.{Step}
-use Rattle.plant_file.proofs.walk.Reader as T
-use Rattle.plant_file.proofs.walk.Reader.Laws as T′
-use Rattle.plant_file.proofs.walk.Step as S
-use Rattle.plant_file.proofs.walk.Step.Laws as S′
-use Rattle.plant_file.proofs.walk.new as new
-use Rattle.plant_file.proofs.walk.new.Symbol as new-def
-use Rattle.plant_file.proofs.walk.new.Symbol.{name as #plant-file·walk·new}
-use Rattle.plant_file.proofs.walk.new.Met as new-thm
-use Rattle.plant_file.proofs.walk.next as next
-use Rattle.plant_file.proofs.walk.next.Symbol as next-def
-use Rattle.plant_file.proofs.walk.next.Symbol.{name as #plant-file·walk·next}
-use Rattle.plant_file.proofs.walk.next.Met as next-thm
-use Rattle.plant_file.proofs.walk.link_of.Key.{name as #plant-file·walk·link-of}
-use Rattle.plant_file.proofs.walk.link_of as link-of
-use Rattle.plant_file.proofs.walk.link_of.Statement as stated
-use Rattle.plant_file.proofs.walk.link_of.Code as code
+use Rattle.plant_file.specs.Reader.{linkAt}
+use Rattle.plant_file.specs.declared.reader.Reader.{Reader}
+use Rattle.plant_file.specs.declared.reader.Step.{Step}
+use Rattle.plant_file.proofs.reader.Reader as T
+use Rattle.plant_file.proofs.reader.Reader.Laws as T′
+use Rattle.plant_file.proofs.reader.Step as S
+use Rattle.plant_file.proofs.reader.Step.Laws as S′
+use Rattle.plant_file.proofs.reader.new as new
+use Rattle.plant_file.proofs.reader.new.Symbol as new-def
+use Rattle.plant_file.proofs.reader.new.Symbol.{name as #plant-file·reader·new}
+use Rattle.plant_file.proofs.reader.new.Met as new-thm
+use Rattle.plant_file.proofs.reader.next as next
+use Rattle.plant_file.proofs.reader.next.Symbol as next-def
+use Rattle.plant_file.proofs.reader.next.Symbol.{name as #plant-file·reader·next}
+use Rattle.plant_file.proofs.reader.next.Met as next-thm
+use Rattle.plant_file.proofs.reader.link_of.Key.{name as #plant-file·reader·link-of}
+use Rattle.plant_file.proofs.reader.link_of as link-of
+use Rattle.plant_file.proofs.reader.link_of.Statement as stated
+use Rattle.plant_file.proofs.reader.link_of.Code as code
 
 -- the struct's type, over the signature's lifetimes
 abbrev B : Lfts 1 → RattleType
@@ -123,9 +123,9 @@ module _ {M : Type 1} (𝓤 : URA M) (H : Heap 𝓤) (A : Atoms 𝓤) (W : Given
       suffices ! _ (ends-at 𝓤 H A link-of.ended stayed (link-of.clauses 𝓤 H A mem run) W (((κ, tt), (q, tt), tt, (s, (n, tt)), at), tt) u t (tt, (tt, tt)) (tt, (tt, tt))) $ says ! e $
       move ! (1 ∷ []) $ frame ! $ nothing ! $ owned ! usize (Is usize) (uint-makes 𝓤 H A W w64) n _ (refl, ok) $ fjoin ! $ move ! (2 ∷ 0 ∷ []) $ fjoin ! $ frame ! $ done !
 
-  module _ (C : Calls 𝓤 H) (Λ : Loops 𝓤 H) (fm : FmC 𝓤 H (W .laws) C) (known-new : Triple 𝓤 (C #plant-file·walk·new) (New 𝓤 H A mem run)) (known-next : Triple 𝓤 (C #plant-file·walk·next) (Next 𝓤 H A mem run)) where
-    walk : Is (ShrSlice (named 0) κ u8) s (v ∷ []) → ent 𝓤 (onEntry 𝓤 H A link-of.signature (κ, tt) (q, tt) (s, (n, tt)) at) (WpFn 𝓤 H C Λ code.function (v ∷ vint w64 n ∷ []) Post)
-    walk p =
+  module _ (C : Calls 𝓤 H) (Λ : Loops 𝓤 H) (fm : FmC 𝓤 H (W .laws) C) (known-new : Triple 𝓤 (C #plant-file·reader·new) (New 𝓤 H A mem run)) (known-next : Triple 𝓤 (C #plant-file·reader·next) (Next 𝓤 H A mem run)) where
+    body : Is (ShrSlice (named 0) κ u8) s (v ∷ []) → ent 𝓤 (onEntry 𝓤 H A link-of.signature (κ, tt) (q, tt) (s, (n, tt)) at) (WpFn 𝓤 H C Λ code.function (v ∷ vint w64 n ∷ []) Post)
+    body p =
         qed W (raw (onEntry 𝓤 H A link-of.signature (κ, tt) (q, tt) (s, (n, tt)) at) ∷ []) ∵ enter ! C Λ code.function (v ∷ vint w64 n ∷ []) _ $
         alloc1 ! (λ l₀. alloc1 ! (λ l₁. alloc1 ! (λ l₂. alloc1 ! (λ l₃. alloc0 ! $ params1 ! $ pass1 ! (init ! 4 refl (shr-slice-lawful 𝓤 H A W (named 0) κ u8 .typed s (v ∷ []) p .0)) $ pass1 ! (init ! 2 refl (tt, record { fits = ok })) $ pass0 ! $
         move ! (8 ∷ []) $ use1 W (raw (New 𝓤 H A mem run .pre to-new) ⊛ ‵ Own) goes-new $ split ! $
@@ -146,13 +146,13 @@ module _ {M : Type 1} (𝓤 : URA M) (H : Heap 𝓤) (A : Atoms 𝓤) (W : Given
         by ! (exits t u′ (e′ ∙ (ap (λ (x : RefT (List ℕ)). linkAt (now x) (r .at)) (e .0) ∙ ap (linkAt (now s)) (e .1))))))))))))))))
 
 module _ {M : Type 1} (𝓤 : URA M) (H : Heap 𝓤) (A : Atoms 𝓤) (W : Given 𝓤 H A) (mem : Memory → SProp 𝓤) (run : Routine → Fun 𝓤) where
-  link-of-walks : (C : Calls 𝓤 H) (Λ : Loops 𝓤 H) → FmC 𝓤 H (W .laws) C → Triple 𝓤 (C #plant-file·walk·new) (New 𝓤 H A mem run) → Triple 𝓤 (C #plant-file·walk·next) (Next 𝓤 H A mem run)
+  link-of-walks : (C : Calls 𝓤 H) (Λ : Loops 𝓤 H) → FmC 𝓤 H (W .laws) C → Triple 𝓤 (C #plant-file·reader·new) (New 𝓤 H A mem run) → Triple 𝓤 (C #plant-file·reader·next) (Next 𝓤 H A mem run)
       → Walks 𝓤 H A link-of.ended stayed (WpFn 𝓤 H C Λ code.function) (link-of.clauses 𝓤 H A mem run)
   link-of-walks C Λ fm known-new known-next = walked 𝓤 H A link-of.ended stayed (link-of.clauses 𝓤 H A mem run) (WpFn 𝓤 H C Λ code.function) (λ κs. (slice-vals, (uint-vals w64, tt))) (λ κs. (shr-slice-tells (named 0) (κs .0) u8, (uint-tells w64, tt)))
-      (λ κs qs bounds a g are. via 𝓤 _ (fst∗ 𝓤 _ (emp 𝓤)) (walk 𝓤 H A W mem run (κs .0) (qs .0) (a .0) (a .1 .0) (are .1 .0 .1) C Λ fm known-new known-next (are .0)))
+      (λ κs qs bounds a g are. via 𝓤 _ (fst∗ 𝓤 _ (emp 𝓤)) (body 𝓤 H A W mem run (κs .0) (qs .0) (a .0) (a .1 .0) (are .1 .0 .1) C Λ fm known-new known-next (are .0)))
 
 link-of-meets : {M : Type 1} (𝓤 : URA M) (H : Heap 𝓤) (A : Atoms 𝓤) (W : Given 𝓤 H A) (mem : Memory → SProp 𝓤) (run : Routine → Fun 𝓤) (𝓣 : Tables 𝓤 H)
-    → Triple 𝓤 (𝓣 .C #plant-file·walk·new) (New 𝓤 H A mem run) → Triple 𝓤 (𝓣 .C #plant-file·walk·next) (Next 𝓤 H A mem run)
+    → Triple 𝓤 (𝓣 .C #plant-file·reader·new) (New 𝓤 H A mem run) → Triple 𝓤 (𝓣 .C #plant-file·reader·next) (Next 𝓤 H A mem run)
     → Meets 𝓤 H A link-of.signature (WpFn 𝓤 H (𝓣 .C) (𝓣 .Λ) code.function) (link-of.spec 𝓤 H A mem run)
 link-of-meets 𝓤 H A W mem run 𝓣 known-new known-next = walk-meets 𝓤 H A link-of.ended stayed W (goes-none-slice 𝓤 H A W 1 (0 ∷ []) tt (plain (λ _. u8)) yes, (goes-none 𝓤 H A W 1 (λ _. usize) yes (λ κs x f. refl), tt)) (link-of.clauses 𝓤 H A mem run) (WpFn 𝓤 H (𝓣 .C) (𝓣 .Λ) code.function) (WpFn-mono 𝓤 H (W .laws) 𝓣 code.function)
     (link-of-walks 𝓤 H A W mem run (𝓣 .C) (𝓣 .Λ) (fmOf 𝓤 H (W .laws) 𝓣) known-new known-next)
@@ -161,7 +161,7 @@ pub link-of-spec : {M : Type 1} → stated.statement M
 unfolding code.routine tablesOf
 link-of-spec 𝓤 H 𝓜 𝓖 𝓡 =
     entered 𝓤 H (tripleOf 𝓤 H (𝓖 .A) link-of.signature (link-of.spec 𝓤 H (𝓖 .A) (𝓜 .mem) (𝓡 .run)))
-    (tables 𝓤 H 𝓜 𝓡 code.env .C) (tables 𝓤 H 𝓜 𝓡 code.env .Λ) #plant-file·walk·link-of code.function (code.unfolded 𝓤 H 𝓜 𝓡)
+    (tables 𝓤 H 𝓜 𝓡 code.env .C) (tables 𝓤 H 𝓜 𝓡 code.env .Λ) #plant-file·reader·link-of code.function (code.unfolded 𝓤 H 𝓜 𝓡)
     (link-of-meets 𝓤 H (𝓖 .A) (givenOf 𝓤 H 𝓜 𝓖) (𝓜 .mem) (𝓡 .run) (tablesOf 𝓤 H 𝓜 (tables 𝓤 H 𝓜 𝓡 code.env))
-    (cited 𝓤 H (New 𝓤 H (𝓖 .A) (𝓜 .mem) (𝓡 .run)) 𝓜 𝓡 code.env #plant-file·walk·new new-def.routine code.calls-plant-file·walk·new (new-thm.met 𝓤 H 𝓜 𝓖 𝓡))
-    (cited 𝓤 H (Next 𝓤 H (𝓖 .A) (𝓜 .mem) (𝓡 .run)) 𝓜 𝓡 code.env #plant-file·walk·next next-def.routine code.calls-plant-file·walk·next (next-thm.met 𝓤 H 𝓜 𝓖 𝓡)))
+    (cited 𝓤 H (New 𝓤 H (𝓖 .A) (𝓜 .mem) (𝓡 .run)) 𝓜 𝓡 code.env #plant-file·reader·new new-def.routine code.calls-plant-file·reader·new (new-thm.met 𝓤 H 𝓜 𝓖 𝓡))
+    (cited 𝓤 H (Next 𝓤 H (𝓖 .A) (𝓜 .mem) (𝓡 .run)) 𝓜 𝓡 code.env #plant-file·reader·next next-def.routine code.calls-plant-file·reader·next (next-thm.met 𝓤 H 𝓜 𝓖 𝓡)))

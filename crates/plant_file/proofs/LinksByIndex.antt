@@ -7,9 +7,9 @@ use lib.ListN.{length}
 use borrow.Author.Tests.{lt-ltb, le-ltb}
 use Rattle.packing.specs.Plant.{at}
 use Rattle.packing.proofs.Lists.{listOf-length, listOf-at}
-use Rattle.plant_file.specs.declared.walk.Step.the-variants.{Link, End}
+use Rattle.plant_file.specs.declared.reader.Step.the-variants.{Link, End}
 use Rattle.plant_file.specs.PlantFile.{number, fileN, fileM, fileLinks, fileOrder}
-use Rattle.plant_file.specs.Walk.{linkAt}
+use Rattle.plant_file.specs.Reader.{linkAt}
 
 -- the numbers of the links, and those of the order, as the file has them
 abbrev pub linkNumber : List ℕ → ℕ → ℕ

@@ -1,7 +1,7 @@
-// Links are walked by a reader that keeps the file together with the index of its next link (01, "The plant file and the listing").
+// 01, "The plant file and the listing": "a reader that keeps the file together with the index of its next link".
 use crate::bytes::number_at;
 ghost use mathlib.Core.Path.{_≡_};
-ghost use Rattle.plant_file.specs.Walk.{linkAt};
+ghost use Rattle.plant_file.specs.Reader.{linkAt};
 
 // The file, and the index of its next link.
 pub struct Reader<'a> {
@@ -39,7 +39,7 @@ pub fn next<'a>(r: Reader<'a>) -> Step
     link_at(r.src, r.at)
 }
 
-// The link at an index, by a reader. All that walk the links call this.
+// The link at an index, by a reader. All that go through the links call this.
 pub fn link_of(file: &[u8], i: usize) -> Step
     ensures { λ r. ⌜ r ≡ linkAt (now (file .entry)) i ⌝ }
 {

@@ -3,8 +3,8 @@ use Prim.Native.Nat.{ℕ, _+_, _*_}
 use mathlib.Core.Bool.{Bool, true, false}
 use mathlib.Core.List.{List}
 use lib.Dec.{ltb}
-use Rattle.plant_file.specs.declared.walk.Step.{Step}
-use Rattle.plant_file.specs.declared.walk.Step.the-variants.{Link, End}
+use Rattle.plant_file.specs.declared.reader.Step.{Step}
+use Rattle.plant_file.specs.declared.reader.Step.the-variants.{Link, End}
 use Rattle.plant_file.specs.PlantFile.{number, fileM}
 
 abbrev pub pickStep : Bool → Step → Step → Step

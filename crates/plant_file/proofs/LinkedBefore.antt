@@ -10,9 +10,9 @@ use lib.Seq.{getD-take, length-take-le}
 use Rattle.packing.specs.Plant.{at, joins, linked}
 use Rattle.sound.proofs.Lookup.{Looked, looked-start, looked-found, looked-turn, looked-end}
 use Rattle.plant_file.specs.PlantFile.{fileM, fileLinks}
-use Rattle.plant_file.specs.Walk.{linkAt}
+use Rattle.plant_file.specs.Reader.{linkAt}
 use Rattle.plant_file.specs.Pre.{endsOf}
-use Rattle.plant_file.proofs.Steps.{links-long, step-at}
+use Rattle.plant_file.proofs.LinksByIndex.{links-long, step-at}
 
 -- one link as a list
 linked-one : (x y a b : ℕ) → linked (x ∷ y ∷ []) a b ≡ joins x y a b

@@ -9,15 +9,15 @@ use lib.ListN.{length, take, drop}
 use lib.Seq.{take-suc}
 use Rattle.packing.specs.Plant.{at}
 use Rattle.packing.proofs.Flat.{pair-at, pair-end}
-use Rattle.plant_file.specs.declared.walk.Step.{Step}
-use Rattle.plant_file.specs.declared.walk.Step.the-variants.{Link}
+use Rattle.plant_file.specs.declared.reader.Step.{Step}
+use Rattle.plant_file.specs.declared.reader.Step.the-variants.{Link}
 use Rattle.plant_file.specs.PlantFile.{fileN, fileM, fileLinks, endsRefusal, linksRefusal}
 use Rattle.packing.specs.Refusals.{firstOf}
-use Rattle.plant_file.specs.Walk.{linkAt}
+use Rattle.packing.proofs.Refusals.{first-refused, first-passed}
+use Rattle.plant_file.specs.Reader.{linkAt}
 use Rattle.plant_file.specs.Pre.{stepRefusal}
-use Rattle.plant_file.proofs.Steps.{links-long, step-at}
-use Rattle.plant_file.proofs.Before.{earlier}
-use Rattle.plant_file.proofs.Parts.{first-refused, first-passed}
+use Rattle.plant_file.proofs.LinksByIndex.{links-long, step-at}
+use Rattle.plant_file.proofs.LinkedBefore.{earlier}
 
 -- two numbers more of a list
 take-pair : (l : List ℕ) (k : ℕ) → k + 1 < length l → take k l ++ (at l k ∷ at l (k + 1) ∷ []) ≡ take (k + 2) l

@@ -1,0 +1,49 @@
+-- What load gives, and what order writes.
+use Prim.Native.Nat.{ℕ, _*_, _<_, _≤_}
+use mathlib.Core.Path.{_≡_, sym, _∙_}
+use mathlib.Core.Bool.{Bool, true, false, _||_}
+use mathlib.Core.List.{List}
+use native.Mathlib.Omega.{arith}
+use lib.Dec.{ltb, leb}
+use lib.ListN.{length}
+use borrow.Author.Tests.{ltb-false, lt-leb, le-leb}
+use Rattle.packing.specs.Lists.{written}
+use Rattle.packing.proofs.Tests.{or-false-l, or-false-r}
+use Rattle.packing.proofs.Refusals.{refused, accepted}
+use Rattle.plant_file.specs.PlantFile.{fileN, fileM, fileLinks, fileOrder, fileRefusal, fileThenShort}
+use Rattle.plant_file.specs.Load.{loadRefusal, loadLinks, loadOrder, orderWritten}
+use Rattle.plant_file.proofs.Refusing.{then-none}
+
+-- the answer by the numbers that the code reads
+pub load-number : (file : List ℕ) (ls os : ℕ) {m n e : ℕ} {short : Bool} → m ≡ fileM file → n ≡ fileN file → short ≡ (ltb ls (2 * m) || ltb os n) → e ≡ fileThenShort file short
+    → e ≡ loadRefusal file ls os
+unfolding loadRefusal
+load-number file ls os f g h i = i ∙ rw (h, f, g)
+
+-- no refusal of load: the file is accepted, and the lists are long enough
+pub load-places : (file : List ℕ) (ls os : ℕ) {e : ℕ} → e ≡ loadRefusal file ls os → e ≡ 0 → (fileRefusal file ≡ 0) × (2 * fileM file ≤ ls) × (fileN file ≤ os)
+unfolding loadRefusal
+load-places file ls os f z =
+    let a = then-none file (ltb ls (2 * fileM file) || ltb os (fileN file)) (sym f ∙ z) in
+    (a .0, ltb-false ls _ (or-false-l _ _ (a .1)), ltb-false os _ (or-false-r (ltb ls (2 * fileM file)) _ (a .1)))
+
+module _ (file links order : List ℕ) {e : ℕ} (of : e ≡ loadRefusal file (length links) (length order)) where
+  pub load-refused : (e ≡ 0 → ⊥) → (e ≡ loadRefusal file (length links) (length order)) × ((links ≡ loadLinks file links order) × (order ≡ loadOrder file links order))
+  unfolding loadLinks loadOrder
+  load-refused z = (of, (refused _ _ of z, refused _ _ of z))
+
+  pub load-accepted : {links' order' : List ℕ} → e ≡ 0 → links' ≡ written (2 * fileM file) (fileLinks file) links → order' ≡ written (fileN file) (fileOrder file) order
+      → (0 ≡ loadRefusal file (length links) (length order)) × ((links' ≡ loadLinks file links order) × (order' ≡ loadOrder file links order))
+  unfolding loadLinks loadOrder
+  load-accepted z p q = (sym z ∙ of, (accepted _ _ of z p, accepted _ _ of z q))
+
+-- the order alone: nothing where there are fewer than n places, else its n numbers
+module _ (file out : List ℕ) where
+  pub order-left : {n : ℕ} → n ≡ fileN file → length out < n → (false ≡ leb (fileN file) (length out)) × (out ≡ orderWritten file out)
+  unfolding orderWritten
+  order-left {n} e l = let short : leb (fileN file) (length out) ≡ false = lt-leb (fileN file) (length out) (omega arith) in (sym short, rw short)
+
+  pub order-done : {n : ℕ} {new : List ℕ} → n ≡ fileN file → n ≤ length out → new ≡ written (fileN file) (fileOrder file) out
+      → (true ≡ leb (fileN file) (length out)) × (new ≡ orderWritten file out)
+  unfolding orderWritten
+  order-done {n} e l h = let long : leb (fileN file) (length out) ≡ true = le-leb (fileN file) (length out) (omega arith) in (sym long, rw long h)

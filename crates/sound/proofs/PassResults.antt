@@ -1,0 +1,84 @@
+-- The results of the passes, put together, are the clauses of soundness.
+use Prim.Native.Nat.{ℕ, _*_, _<_, _≤_}
+use mathlib.Core.Path.{_≡_, sym, ap, _∙_}
+use mathlib.Core.Bool.{Bool, true, false, not, _&&_, _||_, and-true}
+use mathlib.Core.List.{List}
+use native.Mathlib.Omega.{arith}
+use lib.Dec.{eqb, ltb, leb}
+use lib.ListN.{length, replicate, getD-replicate}
+use borrow.Author.Tests.{lt-ltb, not-true, not-false}
+use Rattle.packing.specs.Count.{count, all}
+use Rattle.packing.specs.Plant.{NONE, at, common, firstLinks, linked}
+use Rattle.packing.specs.Holders.{holds}
+use Rattle.packing.proofs.Tests.{tests, all-ext, all-intro, or-l, iff-test}
+use Rattle.sound.specs.Sound.{numbersSound, listsLong, endsSound, onceEach, holdersLinked, holdersWithin, onlyPlacedHeld, isSound}
+use Rattle.sound.proofs.Meaning.{numbers-mean, lists-mean}
+use Rattle.sound.specs.Marks.{Tally, LinksPassed, HoldersPassed, OrderPassed}
+
+module _ (n : ℕ) where
+  pub order-results : (k : ℕ) (os hs counts : List ℕ) {placed once r : Bool} → n ≤ length counts → OrderPassed n k os hs counts placed
+      → once ≡ all n (λ v. eqb (at counts v) 1) → r ≡ (once && placed) → r ≡ (onceEach n os && onlyPlacedHeld n k os hs)
+  unfolding Tally onceEach
+  order-results k os hs counts long passed e f =
+      f ∙ rw (passed .placed, e) (ap (λ (b : Bool). b && onlyPlacedHeld n k os hs)
+      (all-ext n (λ v. eqb (at counts v) 1) (λ v. eqb (count n (λ i. eqb (at os i) v)) 1) (λ v l. ap (λ (c : ℕ). eqb c 1) (passed .counted v (omega arith)))))
+
+  pub holders-results : (limits ls hs marks loads : List ℕ) {ends tied within r₁ r : Bool} → n ≤ length marks → n ≤ length loads
+      → LinksPassed n ls hs marks ends → HoldersPassed n hs marks loads tied → within ≡ all n (λ v. leb (at loads v) (at limits v)) → r₁ ≡ (ends && tied) → r ≡ (r₁ && within)
+      → r ≡ (endsSound n ls && holdersLinked n ls hs && holdersWithin n (at limits) hs)
+  unfolding Tally holdersLinked holdersWithin holds
+  holders-results limits ls hs marks loads {ends} {tied} {within} places counts links holders e f g =
+      g ∙ rw (f, links .ends, tied-is, within-is)
+    where
+      tied-is : tied ≡ all n (λ v. eqb (at hs v) NONE || linked ls v (at hs v))
+      tied-is =
+          holders .linked-or-none ∙ all-ext n (λ v. eqb (at hs v) NONE || eqb (at marks v) 1) (λ v. eqb (at hs v) NONE || linked ls v (at hs v))
+          (λ v l. ap (λ (b : Bool). eqb (at hs v) NONE || b) (links .marked v (omega arith)))
+
+      within-is : within ≡ all n (λ u. leb (count n (λ v. eqb (at hs v) u)) (at limits u))
+      within-is =
+          e ∙ all-ext n (λ v. leb (at loads v) (at limits v)) (λ u. leb (count n (λ v. eqb (at hs v) u)) (at limits u))
+          (λ v l. ap (λ (c : ℕ). leb c (at limits v)) (holders .loaded v (omega arith)))
+
+-- the loads are compared with the limits of the gateways below n only
+pub within-below : (n : ℕ) (limit limit' : ℕ → ℕ) (hs : List ℕ) → ((u : ℕ) → u < n → limit u ≡ limit' u) → holdersWithin n limit hs ≡ holdersWithin n limit' hs
+unfolding holdersWithin
+within-below n limit limit' hs same =
+    all-ext n (λ u. leb (holds n (at hs) u) (limit u)) (λ u. leb (holds n (at hs) u) (limit' u)) (λ u l. ap (λ (t : ℕ). leb (holds n (at hs) u) t) (same u l))
+
+-- .. so a list with T for each gateway stands for the common limit T
+pub within-common : (n t : ℕ) (limits hs : List ℕ) → n ≤ 1024 → limits ≡ replicate 1024 t → holdersWithin n (at limits) hs ≡ holdersWithin n (common t) hs
+unfolding common
+within-common n t limits hs few e = within-below n (at limits) (λ u. t) hs (λ u l. rw e (getD-replicate 1024 u t 0 (omega arith)))
+
+-- what the first two answers say where soundness is asked further
+pub numbers-few : (n t m k : ℕ) {b : Bool} → b ≡ numbersSound n t m k → not b ≡ false → n ≤ 1024
+numbers-few n t m k {b} e f = numbers-mean n t m k (sym e ∙ not-false b f) .0
+
+pub links-lent : (n m : ℕ) (ls os hs : List ℕ) {b : Bool} → b ≡ listsLong n m ls os hs → not b ≡ false → 2 * m ≤ length ls
+links-lent n m ls os hs {b} e f = lists-mean n m ls os hs (sym e ∙ not-false b f) .0
+
+module _ (n t m k : ℕ) (ls os hs : List ℕ) where
+  pub unsound-numbers : {b : Bool} → b ≡ numbersSound n t m k → not b ≡ true → false ≡ isSound n t m k ls os hs
+  unfolding isSound
+  unsound-numbers {b} e f = rw (sym e ∙ not-true b f)
+
+  pub unsound-lists : {b b' : Bool} → b ≡ numbersSound n t m k → not b ≡ false → b' ≡ listsLong n m ls os hs → not b' ≡ true → false ≡ isSound n t m k ls os hs
+  unfolding isSound
+  unsound-lists {b} {b'} e f g h = rw (sym e ∙ not-false b f, sym g ∙ not-true b' h)
+
+  pub all-results : (limits : List ℕ) {b b' o h r : Bool} → limits ≡ replicate 1024 t → b ≡ numbersSound n t m k → not b ≡ false → b' ≡ listsLong n m ls os hs → not b' ≡ false → o ≡ (onceEach n os && onlyPlacedHeld n k os hs)
+      → h ≡ (endsSound n (firstLinks m ls) && holdersLinked n (firstLinks m ls) hs && holdersWithin n (at limits) hs) → r ≡ (o && h) → r ≡ isSound n t m k ls os hs
+  unfolding isSound
+  all-results limits {b} {b'} c e f g i j q r =
+      r ∙ rw (j, q, within-common n t limits hs (numbers-few n t m k e f) c, sym e ∙ not-false b f, sym g ∙ not-false b' i)
+      (shuffle (endsSound n (firstLinks m ls)) (onceEach n os) (holdersLinked n (firstLinks m ls) hs) (holdersWithin n (common t) hs) (onlyPlacedHeld n k os hs))
+    where
+      shuffle : (a b c d p : Bool) → ((b && p) && (a && c && d)) ≡ (a && b && c && d && p)
+      shuffle a b c d p = iff-test ((b && p) && (a && c && d)) (a && b && c && d && p) (λ e. search tests depth 8) (λ e. search tests depth 8)
+
+-- with all n placed, only the order itself is asked
+pub order-only : (n : ℕ) (os hs : List ℕ) {r : Bool} → r ≡ (onceEach n os && onlyPlacedHeld n n os hs) → r ≡ onceEach n os
+unfolding onlyPlacedHeld
+order-only n os hs e =
+    e ∙ rw (all-intro n (λ i. ltb i n || eqb (at hs (at os i)) NONE) (λ i l. or-l (ltb i n) (eqb (at hs (at os i)) NONE) (lt-ltb i n l))) (and-true (onceEach n os))
