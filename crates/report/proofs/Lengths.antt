@@ -16,7 +16,7 @@ use Rattle.packing.specs.Grouping.{follows, membersOf, isAlone, covered}
 use Rattle.packing.proofs.Tests.{by-bool}
 use Rattle.packing.proofs.Sums.{sum-ext, sum-mono, sum-zero, sum-add, sum-swap, sum-single, count-bound}
 use Rattle.report.specs.Text.{digits, spaced, field, line, coveredCount, lineOne, leadLine, leadLines, aloneLine, chokeLine, listing, refusedLine}
-use Rattle.report.specs.Pre.{Room}
+use Rattle.report.specs.Pre.{Near}
 use Rattle.report.proofs.Digits.{spaced-append, digits-short, digits-short-four}
 
 -- a number listed, with its space
@@ -179,8 +179,8 @@ listing-length most n t leaders choke few narrow =
     picked false k h = omega arith
 
 -- of 16 bits, as the code has n
-pub listing-far : (n t : ℕ) (leaders choke : List ℕ) → n < 65536 → Room 0 (listing n t leaders choke)
-listing-far n t leaders choke few = record { fits = omega (arith, listing-length 6 n t leaders choke (omega arith) (λ v l. width-five v)) }
+pub listing-near : (n t : ℕ) (leaders choke : List ℕ) → n < 65536 → Near 0 (listing n t leaders choke)
+listing-near n t leaders choke few = record { by = omega (arith, listing-length 6 n t leaders choke (omega arith) (λ v l. width-five v)) }
 
 -- of a plant, whose n is at most 1,024
 pub listing-short : (n t : ℕ) (leaders choke : List ℕ) → n ≤ 1024 → length (listing n t leaders choke) ≤ 16437
@@ -190,5 +190,5 @@ pub refused-length : (e : ℕ) → length (refusedLine e) ≤ 14
 unfolding refusedLine
 refused-length e = omega (arith, line-length (114 ∷ 101 ∷ 102 ∷ 117 ∷ 115 ∷ 101 ∷ 100 ∷ []) (e ∷ []), one-length e, width-five e)
 
-pub refused-far : (e : ℕ) → Room 0 (refusedLine e)
-refused-far e = record { fits = omega (arith, refused-length e) }
+pub refused-near : (e : ℕ) → Near 0 (refusedLine e)
+refused-near e = record { by = omega (arith, refused-length e) }
