@@ -12,7 +12,7 @@ use Rattle.packing.specs.Plant.{at}
 use Rattle.packing.specs.Grouping.{membersOf, isAlone}
 use Rattle.packing.proofs.Sums.{count-all, count-bound, count-split}
 use Rattle.report.specs.declared.listed.Which.{Which}
-use Rattle.report.specs.Text.{spaced, field, line, coveredCount, lineOne, leadLine, leadLines}
+use Rattle.report.specs.Text.{wordGateways, wordLimit, wordCovered, wordLead, wordMembers, spaced, field, line, coveredCount, lineOne, leadLine, leadLines}
 use Rattle.report.specs.Pre.{Near, Put, isListed}
 use Rattle.report.proofs.Puts.{Growing, Grown, put-is, near-is, grown-turn, grown-near}
 use Rattle.report.proofs.Digits.{listed-grows}
@@ -51,13 +51,13 @@ module _ (n : ℕ) (leaders : List ℕ) (u : ℕ) {x : ℕ} (e : x ≡ at leader
   unfolding leadLine
   lead-none h = rw (← e, ne-eqb x u h)
 
-  pub lead-is : x ≡ u → field (108 ∷ 101 ∷ 97 ∷ 100 ∷ []) u ++ line (58 ∷ []) (membersOf n (at leaders) u) ≡ leadLine n leaders u
+  pub lead-is : x ≡ u → field wordLead u ++ line wordMembers (membersOf n (at leaders) u) ≡ leadLine n leaders u
   unfolding leadLine
   lead-is h = rw (← e, eq-eqb x u h)
 
 -- line one, with the number covered as it was counted
 pub one-is : (n t : ℕ) (leaders : List ℕ) {c : ℕ} → c ≡ coveredCount n leaders
-    → field (103 ∷ 97 ∷ 116 ∷ 101 ∷ 119 ∷ 97 ∷ 121 ∷ 115 ∷ []) n ++ field (32 ∷ 108 ∷ 105 ∷ 109 ∷ 105 ∷ 116 ∷ []) t ++ (field (32 ∷ 99 ∷ 111 ∷ 118 ∷ 101 ∷ 114 ∷ 101 ∷ 100 ∷ []) c ++ (10 ∷ []))
+    → field wordGateways n ++ field wordLimit t ++ (field wordCovered c ++ (10 ∷ []))
     ≡ lineOne n t leaders
 unfolding lineOne field line
 one-is n t leaders e = rw e
