@@ -21,10 +21,11 @@ use Rattle.report.proofs.Digits.{listed-grows}
 pub listed-as : {w x : Which} (leaders choke : List ℕ) (v : ℕ) {b : Bool} → w ≡ x → b ≡ isListed x leaders choke v → b ≡ isListed w leaders choke v
 listed-as leaders choke v e f = rw e f
 
--- all but those alone are covered
-pub alone-few : (n : ℕ) (leaders : List ℕ) {k : ℕ} → k ≡ count n (isAlone (at leaders)) → k ≤ n
-alone-few n leaders e = omega (arith, count-bound n (isAlone (at leaders)))
+-- a count is at most n
+pub counted-few : (n : ℕ) (p : ℕ → Bool) {k : ℕ} → k ≡ count n p → k ≤ n
+counted-few n p e = omega (arith, count-bound n p)
 
+-- all but those alone are covered
 pub covered-rest : (n : ℕ) (leaders : List ℕ) {k : ℕ} → k ≡ count n (isAlone (at leaders)) → n - k ≡ coveredCount n leaders
 unfolding coveredCount
 covered-rest n leaders e = omega (arith, count-split n (λ v. true) (isAlone (at leaders)), count-all n (λ v. true) (λ v h. refl))
