@@ -11,12 +11,12 @@ use lib.ListN.{length, length-append}
 use borrow.Author.Tests.{eqb-true, eq-eqb, ne-eqb, ltb-true, ltb-false}
 use Rattle.packing.specs.Count.{pick, sum}
 use Rattle.packing.specs.Lists.{listWhere}
-use Rattle.packing.specs.Plant.{NONE, at}
+use Rattle.packing.specs.Plant.{NONE, GATEWAYS, at}
 use Rattle.packing.specs.Grouping.{follows, membersOf, isAlone, covered}
 use Rattle.packing.proofs.Tests.{by-bool}
 use Rattle.packing.proofs.Sums.{sum-ext, sum-mono, sum-zero, sum-add, sum-swap, sum-single, count-bound}
-use Rattle.report.specs.Text.{digits, spaced, field, line, coveredCount, lineOne, leadLine, leadLines, aloneLine, chokeLine, listing, refusedLine}
-use Rattle.report.specs.Pre.{Room}
+use Rattle.report.specs.Text.{wordGateways, wordLimit, wordCovered, wordLead, wordMembers, wordAlone, wordChoke, wordRefused, digits, spaced, field, line, coveredCount, lineOne, leadLine, leadLines, aloneLine, chokeLine, listing, refusedLine}
+use Rattle.report.specs.Pre.{Near}
 use Rattle.report.proofs.Digits.{spaced-append, digits-short, digits-short-four}
 
 -- a number listed, with its space
@@ -66,9 +66,9 @@ lead-length n leaders u =
     by-bool (eqb (at leaders u) u)
     (λ e. rw e (omega (
       arith,
-      length-append (field (108 ∷ 101 ∷ 97 ∷ 100 ∷ []) u) (line (58 ∷ []) (membersOf n (at leaders) u)),
-      field-length (108 ∷ 101 ∷ 97 ∷ 100 ∷ []) u,
-      line-length (58 ∷ []) (membersOf n (at leaders) u),
+      length-append (field wordLead u) (line wordMembers (membersOf n (at leaders) u)),
+      field-length wordLead u,
+      line-length wordMembers (membersOf n (at leaders) u),
       spaced-length n (follows (at leaders) u),
     )))
     (λ e. rw e (omega arith))
@@ -99,7 +99,7 @@ module _ (n a v k : ℕ) where
   member-never l = sum-zero n (λ u. pick (eqb a u && not (eqb v u)) k) (λ u h. rw (ne-eqb a u (omega arith)))
 
   -- it leads, or is a member, or is alone: at most 6 and its number
-  once : v < n → n ≤ 65535 → pick (eqb a v) (6 + k) + asMember + pick (eqb a NONE) k ≤ 6 + k
+  once : v < n → n ≤ NONE → pick (eqb a v) (6 + k) + asMember + pick (eqb a NONE) k ≤ 6 + k
   once l few =
       by-bool (eqb a v)
       (λ e. let same : a ≡ v = eqb-true a v e in
@@ -120,7 +120,7 @@ module _ (n a v k : ℕ) where
       apart (inr x) = omega (arith, member-never x)
 
 -- the leaders' lines and the alone
-groups-length : (n : ℕ) (leaders : List ℕ) → n ≤ 65535 → length (leadLines n n leaders) + length (spaced (listWhere n (isAlone (at leaders)))) ≤ sum n (λ v. 6 + width v)
+groups-length : (n : ℕ) (leaders : List ℕ) → n ≤ NONE → length (leadLines n n leaders) + length (spaced (listWhere n (isAlone (at leaders)))) ≤ sum n (λ v. 6 + width v)
 unfolding membersWidth asMember
 groups-length n leaders few =
     omega (
@@ -145,16 +145,16 @@ unfolding lineOne
 one-line-length n t leaders =
     omega (
       arith,
-      length-append (field (103 ∷ 97 ∷ 116 ∷ 101 ∷ 119 ∷ 97 ∷ 121 ∷ 115 ∷ []) n) (field (32 ∷ 108 ∷ 105 ∷ 109 ∷ 105 ∷ 116 ∷ []) t),
-      length-append (field (103 ∷ 97 ∷ 116 ∷ 101 ∷ 119 ∷ 97 ∷ 121 ∷ 115 ∷ []) n ++ field (32 ∷ 108 ∷ 105 ∷ 109 ∷ 105 ∷ 116 ∷ []) t) (line (32 ∷ 99 ∷ 111 ∷ 118 ∷ 101 ∷ 114 ∷ 101 ∷ 100 ∷ []) (coveredCount n leaders ∷ [])),
-      field-length (103 ∷ 97 ∷ 116 ∷ 101 ∷ 119 ∷ 97 ∷ 121 ∷ 115 ∷ []) n,
-      field-length (32 ∷ 108 ∷ 105 ∷ 109 ∷ 105 ∷ 116 ∷ []) t,
-      line-length (32 ∷ 99 ∷ 111 ∷ 118 ∷ 101 ∷ 114 ∷ 101 ∷ 100 ∷ []) (coveredCount n leaders ∷ []),
+      length-append (field wordGateways n) (field wordLimit t),
+      length-append (field wordGateways n ++ field wordLimit t) (line wordCovered (coveredCount n leaders ∷ [])),
+      field-length wordGateways n,
+      field-length wordLimit t,
+      line-length wordCovered (coveredCount n leaders ∷ []),
       one-length (coveredCount n leaders),
     )
 
 -- with numbers of at most so many bytes, the space counted
-listing-length : (most n t : ℕ) (leaders choke : List ℕ) → n ≤ 65535 → ((v : ℕ) → v ≤ n → width v ≤ most) → length (listing n t leaders choke) ≤ 43 + 2 * most + (6 + most) * n + most * n
+listing-length : (most n t : ℕ) (leaders choke : List ℕ) → n ≤ NONE → ((v : ℕ) → v ≤ n → width v ≤ most) → length (listing n t leaders choke) ≤ 43 + 2 * most + (6 + most) * n + most * n
 unfolding listing aloneLine chokeLine coveredCount
 listing-length most n t leaders choke few narrow =
     omega (
@@ -163,8 +163,8 @@ listing-length most n t leaders choke few narrow =
       length-append (lineOne n t leaders ++ leadLines n n leaders) (aloneLine n leaders),
       length-append (lineOne n t leaders ++ leadLines n n leaders ++ aloneLine n leaders) (chokeLine n choke),
       one-line-length n t leaders,
-      line-length (97 ∷ 108 ∷ 111 ∷ 110 ∷ 101 ∷ 58 ∷ []) (listWhere n (isAlone (at leaders))),
-      line-length (99 ∷ 104 ∷ 111 ∷ 107 ∷ 101 ∷ 58 ∷ []) (listWhere n (λ v. eqb (at choke v) 1)),
+      line-length wordAlone (listWhere n (isAlone (at leaders))),
+      line-length wordChoke (listWhere n (λ v. eqb (at choke v) 1)),
       groups-length n leaders few,
       spaced-length n (λ v. eqb (at choke v) 1),
       sum-most n (6 + most) (λ v. 6 + width v) (λ v l. omega (arith, narrow v (omega arith))),
@@ -179,16 +179,16 @@ listing-length most n t leaders choke few narrow =
     picked false k h = omega arith
 
 -- of 16 bits, as the code has n
-pub listing-far : (n t : ℕ) (leaders choke : List ℕ) → n < 65536 → Room 0 (listing n t leaders choke)
-listing-far n t leaders choke few = record { fits = omega (arith, listing-length 6 n t leaders choke (omega arith) (λ v l. width-five v)) }
+pub listing-near : (n t : ℕ) (leaders choke : List ℕ) → n < 65536 → Near 0 (listing n t leaders choke)
+listing-near n t leaders choke few = record { by = omega (arith, listing-length 6 n t leaders choke (omega arith) (λ v l. width-five v)) }
 
 -- of a plant, whose n is at most 1,024
-pub listing-short : (n t : ℕ) (leaders choke : List ℕ) → n ≤ 1024 → length (listing n t leaders choke) ≤ 16437
+pub listing-short : (n t : ℕ) (leaders choke : List ℕ) → n ≤ GATEWAYS → length (listing n t leaders choke) ≤ 16437
 listing-short n t leaders choke few = omega (arith, listing-length 5 n t leaders choke (omega arith) (λ v l. width-four v (omega arith)))
 
 pub refused-length : (e : ℕ) → length (refusedLine e) ≤ 14
 unfolding refusedLine
-refused-length e = omega (arith, line-length (114 ∷ 101 ∷ 102 ∷ 117 ∷ 115 ∷ 101 ∷ 100 ∷ []) (e ∷ []), one-length e, width-five e)
+refused-length e = omega (arith, line-length wordRefused (e ∷ []), one-length e, width-five e)
 
-pub refused-far : (e : ℕ) → Room 0 (refusedLine e)
-refused-far e = record { fits = omega (arith, refused-length e) }
+pub refused-near : (e : ℕ) → Near 0 (refusedLine e)
+refused-near e = record { by = omega (arith, refused-length e) }

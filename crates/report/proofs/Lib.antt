@@ -2,6 +2,5 @@
 pub mod Examples
 pub mod Puts
 pub mod Digits
-pub mod Entries
-pub mod Composed
+pub mod LineParts
 pub mod Lengths

@@ -7,7 +7,7 @@ use native.Mathlib.Omega.{arith}
 use lib.ListN.{length, getD, take, length-append}
 use lib.Seq.{sets, set-out, length-sets, take-suc}
 use Rattle.packing.proofs.Lists.{sets-append}
-use Rattle.report.specs.Pre.{Room, Put}
+use Rattle.report.specs.Pre.{Near, Put}
 
 pub put-none : (l : List ℕ) (place : ℕ) → Put [] l place l place
 put-none l place = record { end = omega arith; list = refl }
@@ -33,15 +33,15 @@ put-kept {a = a} {l = l} {p = p} f = ap length (f .list) ∙ length-sets l p a
 pub put-whole : {a l l' : List ℕ} {q : ℕ} → Put a l 0 l' q → (q ≡ length a) × (l' ≡ sets l 0 a)
 put-whole f = (omega arith, f .list)
 
-pub room-is : {a b : List ℕ} {p : ℕ} → a ≡ b → Room p b → Room p a
-room-is e h = rw e h
+pub near-is : {a b : List ℕ} {p : ℕ} → a ≡ b → Near p b → Near p a
+near-is e h = rw e h
 
--- room for two texts: so for the first, and then for the second
-pub room-first : (a b : List ℕ) {p : ℕ} → Room p (a ++ b) → Room p a
-room-first a b h = record { fits = omega (arith, length-append a b) }
+-- of two texts that end by FAR, the first does, and then the second
+pub near-first : (a b : List ℕ) {p : ℕ} → Near p (a ++ b) → Near p a
+near-first a b h = record { by = omega (arith, length-append a b) }
 
-pub room-next : {a : List ℕ} (b : List ℕ) {l l' : List ℕ} {p q : ℕ} → Put a l p l' q → Room p (a ++ b) → Room q b
-room-next {a} b f h = record { fits = omega (arith, length-append a b) }
+pub near-next : {a : List ℕ} (b : List ℕ) {l l' : List ℕ} {p q : ℕ} → Put a l p l' q → Near p (a ++ b) → Near q b
+near-next {a} b f h = record { by = omega (arith, length-append a b) }
 
 -- a text of n parts, which grows by one part at each i
 pub record Growing (n : ℕ) (text part : ℕ → List ℕ) : Type 0 where
@@ -76,9 +76,9 @@ module _ {n : ℕ} {text part : ℕ → List ℕ} (g : Growing n text part) wher
       whole h = omega arith
   no-longer (suc d) i e = omega (arith, longer i (omega arith), no-longer d (i + 1) (omega arith))
 
-  -- room for the whole text is room for the next part
-  pub grown-room : {l l' : List ℕ} {p q i : ℕ} → Grown n text l p l' q i → i < n → Room p (text n) → Room q (part i)
-  grown-room {i = i} f h room = record { fits = omega (arith, f .put .end, longer i h, no-longer (n - (i + 1)) (i + 1) (omega arith)) }
+  -- where the whole text ends by FAR, the next part does
+  pub grown-near : {l l' : List ℕ} {p q i : ℕ} → Grown n text l p l' q i → i < n → Near p (text n) → Near q (part i)
+  grown-near {i = i} f h whole = record { by = omega (arith, f .put .end, longer i h, no-longer (n - (i + 1)) (i + 1) (omega arith)) }
 
 pub bytes-grow : (text : List ℕ) → Growing (length text) (λ i. take i text) (λ i. getD text i 0 ∷ [])
 bytes-grow text = record { start = refl; more = λ i h. rw add-one (take-suc text i 0 h) }

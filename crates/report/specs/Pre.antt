@@ -8,16 +8,16 @@ use lib.ListN.{length}
 use lib.Seq.{sets}
 use Rattle.packing.specs.Plant.{at}
 use Rattle.packing.specs.Grouping.{follows, isAlone}
-use Rattle.report.specs.declared.lists.Which.{Which}
-use Rattle.report.specs.declared.lists.Which.the-variants.{Members, Alone, Choke}
+use Rattle.report.specs.declared.listed.Which.{Which}
+use Rattle.report.specs.declared.listed.Which.the-variants.{Members, Alone, Choke}
 
--- No listing is longer: at most 18 bytes for each of 65,535 gateways, and 55 (proofs/Lengths: listing-far).
+-- No listing is longer: at most 18 bytes for each of 65,535 gateways, and 55 (proofs/Lengths: listing-near).
 abbrev pub FAR : ℕ
 FAR = 1179685
 
--- the text from a place on ends by then, so the code can count its places
-pub record Room (place : ℕ) (text : List ℕ) : Type 0 where
-  pub fits : place + length text ≤ FAR
+-- the text from a place on ends by FAR, so the code can count its places
+pub record Near (place : ℕ) (text : List ℕ) : Type 0 where
+  pub by : place + length text ≤ FAR
 
 -- the text stands in the list from a place on, as far as the list goes, and next is the place after it
 pub record Put (text before : List ℕ) (place : ℕ) (after : List ℕ) (next : ℕ) : Type 0 where

@@ -29,6 +29,39 @@ field word x = word ++ spaced (x ∷ [])
 unfoldable pub line : List ℕ → List ℕ → List ℕ
 line word numbers = word ++ spaced numbers ++ (10 ∷ [])
 
+-- the words of the lines as bytes, with the space before those that stand after a number
+-- gateways
+abbrev pub wordGateways : List ℕ
+wordGateways = 103 ∷ 97 ∷ 116 ∷ 101 ∷ 119 ∷ 97 ∷ 121 ∷ 115 ∷ []
+
+-- limit
+abbrev pub wordLimit : List ℕ
+wordLimit = 32 ∷ 108 ∷ 105 ∷ 109 ∷ 105 ∷ 116 ∷ []
+
+-- covered
+abbrev pub wordCovered : List ℕ
+wordCovered = 32 ∷ 99 ∷ 111 ∷ 118 ∷ 101 ∷ 114 ∷ 101 ∷ 100 ∷ []
+
+-- lead
+abbrev pub wordLead : List ℕ
+wordLead = 108 ∷ 101 ∷ 97 ∷ 100 ∷ []
+
+-- :
+abbrev pub wordMembers : List ℕ
+wordMembers = 58 ∷ []
+
+-- alone:
+abbrev pub wordAlone : List ℕ
+wordAlone = 97 ∷ 108 ∷ 111 ∷ 110 ∷ 101 ∷ 58 ∷ []
+
+-- choke:
+abbrev pub wordChoke : List ℕ
+wordChoke = 99 ∷ 104 ∷ 111 ∷ 107 ∷ 101 ∷ 58 ∷ []
+
+-- refused
+abbrev pub wordRefused : List ℕ
+wordRefused = 114 ∷ 101 ∷ 102 ∷ 117 ∷ 115 ∷ 101 ∷ 100 ∷ []
+
 -- "covered": counted from the leader list
 unfoldable pub coveredCount : ℕ → List ℕ → ℕ
 coveredCount n leaders = count n (covered (at leaders))
@@ -36,13 +69,13 @@ coveredCount n leaders = count n (covered (at leaders))
 -- "Line one: n, T, number covered."  gateways N limit T covered C
 unfoldable pub lineOne : ℕ → ℕ → List ℕ → List ℕ
 lineOne n t leaders =
-    field (103 ∷ 97 ∷ 116 ∷ 101 ∷ 119 ∷ 97 ∷ 121 ∷ 115 ∷ []) n
-    ++ field (32 ∷ 108 ∷ 105 ∷ 109 ∷ 105 ∷ 116 ∷ []) t
-    ++ line (32 ∷ 99 ∷ 111 ∷ 118 ∷ 101 ∷ 114 ∷ 101 ∷ 100 ∷ []) (coveredCount n leaders ∷ [])
+    field wordGateways n
+    ++ field wordLimit t
+    ++ line wordCovered (coveredCount n leaders ∷ [])
 
 -- a line for u, if u leads:  lead U: members
 unfoldable pub leadLine : ℕ → List ℕ → ℕ → List ℕ
-leadLine n leaders u = cond (eqb (at leaders u) u) (field (108 ∷ 101 ∷ 97 ∷ 100 ∷ []) u ++ line (58 ∷ []) (membersOf n (at leaders) u)) []
+leadLine n leaders u = cond (eqb (at leaders u) u) (field wordLead u ++ line wordMembers (membersOf n (at leaders) u)) []
 
 -- "a line a group by ascending leader, members ascending": the lines of the leaders below i
 unfoldable pub leadLines : ℕ → ℕ → List ℕ → List ℕ
@@ -51,11 +84,11 @@ leadLines (suc i) n leaders = leadLines i n leaders ++ leadLine n leaders i
 
 -- "then the alone":  alone: numbers
 unfoldable pub aloneLine : ℕ → List ℕ → List ℕ
-aloneLine n leaders = line (97 ∷ 108 ∷ 111 ∷ 110 ∷ 101 ∷ 58 ∷ []) (listWhere n (isAlone (at leaders)))
+aloneLine n leaders = line wordAlone (listWhere n (isAlone (at leaders)))
 
 -- "then the choke set":  choke: numbers
 unfoldable pub chokeLine : ℕ → List ℕ → List ℕ
-chokeLine n choke = line (99 ∷ 104 ∷ 111 ∷ 107 ∷ 101 ∷ 58 ∷ []) (listWhere n (λ v. eqb (at choke v) 1))
+chokeLine n choke = line wordChoke (listWhere n (λ v. eqb (at choke v) 1))
 
 -- the listing
 unfoldable pub listing : ℕ → ℕ → List ℕ → List ℕ → List ℕ
@@ -63,4 +96,4 @@ listing n t leaders choke = lineOne n t leaders ++ leadLines n n leaders ++ alon
 
 -- A refused file: "the one line "refused", a space and the number"
 unfoldable pub refusedLine : ℕ → List ℕ
-refusedLine e = line (114 ∷ 101 ∷ 102 ∷ 117 ∷ 115 ∷ 101 ∷ 100 ∷ []) (e ∷ [])
+refusedLine e = line wordRefused (e ∷ [])

@@ -1,9 +1,9 @@
 // The listing's text (01, "The plant file and the listing").
 mod lines;
-mod lists;
+mod listed;
 mod put;
 
-use crate::lists::Which;
+use crate::listed::Which;
 ghost use mathlib.Core.Path.{_≡_};
 ghost use lib.ListN.{length};
 ghost use lib.Seq.{sets};

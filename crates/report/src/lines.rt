@@ -1,12 +1,11 @@
 // The listing's lines, each written as in put.
-use crate::lists::Which;
-use crate::lists::covered;
-use crate::lists::is_leader;
-use crate::lists::is_listed;
+use crate::listed::Which;
+use crate::listed::covered;
+use crate::listed::is_listed;
 use crate::put;
 ghost use Rattle.packing.specs.Lists.{listWhere};
 ghost use Rattle.report.specs.Text as text;
-ghost use Rattle.report.specs.Pre.{Room, Put, isListed};
+ghost use Rattle.report.specs.Pre.{Near, Put, isListed};
 
 // The numbers that a line lists.
 fn numbers(
@@ -17,7 +16,7 @@ fn numbers(
     out: &mut [u8],
     place: usize,
 ) -> usize
-    requires { ⌜ Room place (text.spaced (listWhere n (isListed which (now leaders) (now choke)))) ⌝ }
+    requires { ⌜ Near place (text.spaced (listWhere n (isListed which (now leaders) (now choke)))) ⌝ }
     ensures { λ r. ⌜ Put (text.spaced (listWhere n (isListed which (now (leaders .entry)) (now (choke .entry))))) (now (out .entry)) place (now (out .exit)) r ⌝ }
 {
     let mut next = place;
@@ -39,7 +38,7 @@ pub(crate) fn line(
     out: &mut [u8],
     place: usize,
 ) -> usize
-    requires { ⌜ Room place (text.line (now word) (listWhere n (isListed which (now leaders) (now choke)))) ⌝ }
+    requires { ⌜ Near place (text.line (now word) (listWhere n (isListed which (now leaders) (now choke)))) ⌝ }
     ensures { λ r. ⌜ Put (text.line (now (word .entry)) (listWhere n (isListed which (now (leaders .entry)) (now (choke .entry))))) (now (out .entry)) place (now (out .exit)) r ⌝ }
 {
     let mut next = put::text(word, out, place);
@@ -49,7 +48,7 @@ pub(crate) fn line(
 
 // gateways N limit T covered C
 pub(crate) fn one(n: u16, t: u8, leaders: &[u16], out: &mut [u8], place: usize) -> usize
-    requires { ⌜ Room place (text.lineOne n t (now leaders)) ⌝ }
+    requires { ⌜ Near place (text.lineOne n t (now leaders)) ⌝ }
     ensures { λ r. ⌜ Put (text.lineOne n t (now (leaders .entry))) (now (out .entry)) place (now (out .exit)) r ⌝ }
 {
     let mut next = put::field(b"gateways", n, out, place);
@@ -60,10 +59,10 @@ pub(crate) fn one(n: u16, t: u8, leaders: &[u16], out: &mut [u8], place: usize) 
 
 // lead U: members, if u leads
 fn lead(n: u16, leaders: &[u16], choke: &[u8], u: u16, out: &mut [u8], place: usize) -> usize
-    requires { ⌜ Room place (text.leadLine n (now leaders) u) ⌝ }
+    requires { ⌜ Near place (text.leadLine n (now leaders) u) ⌝ }
     ensures { λ r. ⌜ Put (text.leadLine n (now (leaders .entry)) u) (now (out .entry)) place (now (out .exit)) r ⌝ }
 {
-    if !is_leader(leaders, u) {
+    if lists::entry(leaders, u) != u {
         return place;
     }
     let next = put::field(b"lead", u, out, place);
@@ -72,7 +71,7 @@ fn lead(n: u16, leaders: &[u16], choke: &[u8], u: u16, out: &mut [u8], place: us
 
 // a line a group
 pub(crate) fn leads(n: u16, leaders: &[u16], choke: &[u8], out: &mut [u8], place: usize) -> usize
-    requires { ⌜ Room place (text.leadLines n n (now leaders)) ⌝ }
+    requires { ⌜ Near place (text.leadLines n n (now leaders)) ⌝ }
     ensures { λ r. ⌜ Put (text.leadLines n n (now (leaders .entry))) (now (out .entry)) place (now (out .exit)) r ⌝ }
 {
     let mut next = place;

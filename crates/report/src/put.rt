@@ -3,10 +3,10 @@ ghost use Prim.Native.Nat.{_+_, _%_};
 ghost use mathlib.Core.Bool.{cond};
 ghost use mathlib.Core.List.{[], _∷_};
 ghost use Rattle.report.specs.Text.{digits, spaced, field};
-ghost use Rattle.report.specs.Pre.{Room, Put};
+ghost use Rattle.report.specs.Pre.{Near, Put};
 
 pub(crate) fn byte(b: u8, out: &mut [u8], place: usize) -> usize
-    requires { ⌜ Room place (b ∷ []) ⌝ }
+    requires { ⌜ Near place (b ∷ []) ⌝ }
     ensures { λ r. ⌜ Put (b ∷ []) (now (out .entry)) place (now (out .exit)) r ⌝ }
 {
     if out.len() <= place {
@@ -17,7 +17,7 @@ pub(crate) fn byte(b: u8, out: &mut [u8], place: usize) -> usize
 }
 
 pub(crate) fn text(text: &[u8], out: &mut [u8], place: usize) -> usize
-    requires { ⌜ Room place (now text) ⌝ }
+    requires { ⌜ Near place (now text) ⌝ }
     ensures { λ r. ⌜ Put (now (text .entry)) (now (out .entry)) place (now (out .exit)) r ⌝ }
 {
     let mut next = place;
@@ -30,7 +30,7 @@ pub(crate) fn text(text: &[u8], out: &mut [u8], place: usize) -> usize
 }
 
 fn last_digit(x: u16, out: &mut [u8], place: usize) -> usize
-    requires { ⌜ Room place ((48 + x % 10) ∷ []) ⌝ }
+    requires { ⌜ Near place ((48 + x % 10) ∷ []) ⌝ }
     ensures { λ r. ⌜ Put ((48 + x % 10) ∷ []) (now (out .entry)) place (now (out .exit)) r ⌝ }
 {
     byte(b'0' + (x % 10) as u8, out, place)
@@ -38,7 +38,7 @@ fn last_digit(x: u16, out: &mut [u8], place: usize) -> usize
 
 // A number in decimal: the digits of its tens, then the last.
 fn number(x: u16, out: &mut [u8], place: usize) -> usize
-    requires { ⌜ Room place (digits x) ⌝ }
+    requires { ⌜ Near place (digits x) ⌝ }
     ensures { λ r. ⌜ Put (digits x) (now (out .entry)) place (now (out .exit)) r ⌝ }
 {
     if x < 10 {
@@ -50,7 +50,7 @@ fn number(x: u16, out: &mut [u8], place: usize) -> usize
 
 // A number listed: with one space before it.
 fn listed(x: u16, out: &mut [u8], place: usize) -> usize
-    requires { ⌜ Room place (spaced (x ∷ [])) ⌝ }
+    requires { ⌜ Near place (spaced (x ∷ [])) ⌝ }
     ensures { λ r. ⌜ Put (spaced (x ∷ [])) (now (out .entry)) place (now (out .exit)) r ⌝ }
 {
     let next = byte(b' ', out, place);
@@ -59,7 +59,7 @@ fn listed(x: u16, out: &mut [u8], place: usize) -> usize
 
 // A number listed if it is wanted.
 pub(crate) fn listed_if(wanted: bool, x: u16, out: &mut [u8], place: usize) -> usize
-    requires { ⌜ Room place (spaced (cond wanted (x ∷ []) [])) ⌝ }
+    requires { ⌜ Near place (spaced (cond wanted (x ∷ []) [])) ⌝ }
     ensures { λ r. ⌜ Put (spaced (cond wanted (x ∷ []) [])) (now (out .entry)) place (now (out .exit)) r ⌝ }
 {
     if wanted {
@@ -70,7 +70,7 @@ pub(crate) fn listed_if(wanted: bool, x: u16, out: &mut [u8], place: usize) -> u
 
 // A word, and a number listed after it.
 pub(crate) fn field(word: &[u8], x: u16, out: &mut [u8], place: usize) -> usize
-    requires { ⌜ Room place (field (now word) x) ⌝ }
+    requires { ⌜ Near place (field (now word) x) ⌝ }
     ensures { λ r. ⌜ Put (field (now (word .entry)) x) (now (out .entry)) place (now (out .exit)) r ⌝ }
 {
     let next = text(word, out, place);

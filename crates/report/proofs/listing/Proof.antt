@@ -1,21 +1,21 @@
--- `listing` meets its contract: its lines put one after the other.
+-- The four lines put one after the other; listing-near bounds the whole.
 use borrow.Author.Needs.{needs}
 use Rattle.report.specs.Text as text
-use Rattle.report.proofs.Puts.{put-then, put-whole, room-first, room-next}
-use Rattle.report.proofs.Lengths.{listing-far}
+use Rattle.report.proofs.Puts.{put-then, put-whole, near-first, near-next}
+use Rattle.report.proofs.Lengths.{listing-near}
 use Rattle.report.proofs.listing.Statement.{statement}
 use Rattle.report.proofs.listing.Tie as tie
 
 one-requires : tie.Need-one-requires
 unfolding text.listing
 one-requires c κs = let start = c .before .before .before .before in
-    room-first _ _ (room-first _ _ (room-first _ _ (listing-far _ _ _ (start .args .choke .now) (start .fits .n .fits))))
+    near-first _ _ (near-first _ _ (near-first _ _ (listing-near _ _ _ (start .args .choke .now) (start .fits .n .fits))))
 
 leads-requires : tie.Need-leads-requires
 unfolding text.listing
 leads-requires c κs = let first = c .before .before .before in
     let start = first .before .before .before .before .before in
-    room-next _ (first .one .ensures) (room-first _ _ (room-first _ _ (listing-far _ _ _ (start .args .choke .now) (start .fits .n .fits))))
+    near-next _ (first .one .ensures) (near-first _ _ (near-first _ _ (listing-near _ _ _ (start .args .choke .now) (start .fits .n .fits))))
 
 slice-aggregate-line : tie.Need-slice-aggregate-line
 slice-aggregate-line c = search needs
@@ -25,7 +25,7 @@ unfolding text.listing text.aloneLine
 line-requires c κs = let second = c .before .before .before .before in
     let first = second .before .before .before .before in
     let start = first .before .before .before .before .before in
-    room-next _ (put-then (first .one .ensures) (second .leads .ensures)) (room-first _ _ (listing-far _ _ _ (start .args .choke .now) (start .fits .n .fits)))
+    near-next _ (put-then (first .one .ensures) (second .leads .ensures)) (near-first _ _ (listing-near _ _ _ (start .args .choke .now) (start .fits .n .fits)))
 
 slice-aggregate-line-2 : tie.Need-slice-aggregate-line-2
 slice-aggregate-line-2 c = search needs
@@ -36,7 +36,7 @@ line-requires-2 c κs = let third = c .before .before .before .before in
     let second = third .before .before .before .before .before in
     let first = second .before .before .before .before in
     let start = first .before .before .before .before .before in
-    room-next _ (put-then (put-then (first .one .ensures) (second .leads .ensures)) (third .line .ensures)) (listing-far _ _ _ (start .args .choke .now) (start .fits .n .fits))
+    near-next _ (put-then (put-then (first .one .ensures) (second .leads .ensures)) (third .line .ensures)) (listing-near _ _ _ (start .args .choke .now) (start .fits .n .fits))
 
 same-length : tie.Need-same-length
 same-length c = search needs

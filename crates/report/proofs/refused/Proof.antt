@@ -1,8 +1,7 @@
--- `refused` meets its contract: its parts put one after the other.
 use borrow.Author.Needs.{needs}
 use Rattle.report.specs.Text.{field, line, refusedLine}
-use Rattle.report.proofs.Puts.{put-then, put-whole, room-first, room-next}
-use Rattle.report.proofs.Lengths.{refused-far}
+use Rattle.report.proofs.Puts.{put-then, put-whole, near-first, near-next}
+use Rattle.report.proofs.Lengths.{refused-near}
 use Rattle.report.proofs.refused.Statement.{statement}
 use Rattle.report.proofs.refused.Tie as tie
 
@@ -11,11 +10,11 @@ slice-aggregate-field c = search needs
 
 field-requires : tie.Need-field-requires
 unfolding field line refusedLine
-field-requires c κs = room-first _ _ (refused-far _)
+field-requires c κs = near-first _ _ (refused-near _)
 
 byte-requires : tie.Need-byte-requires
 unfolding field line refusedLine
-byte-requires c κs = room-next _ (c .before .before .before .field .ensures) (refused-far _)
+byte-requires c κs = near-next _ (c .before .before .before .field .ensures) (refused-near _)
 
 same-length : tie.Need-same-length
 same-length c = search needs

@@ -1,23 +1,22 @@
--- `lead` meets its contract: its parts put one after the other.
 use borrow.Author.Needs.{needs}
 use Rattle.packing.specs.Grouping.{membersOf}
-use Rattle.report.proofs.Puts.{put-none, put-is, put-then, room-is, room-first, room-next}
-use Rattle.report.proofs.Composed.{lead-none, lead-is}
+use Rattle.report.proofs.Puts.{put-none, put-is, put-then, near-is, near-first, near-next}
+use Rattle.report.proofs.LineParts.{lead-none, lead-is}
 use Rattle.report.proofs.lines.lead.Statement.{statement}
 use Rattle.report.proofs.lines.lead.Tie as tie
 
-is-leader-requires : tie.Need-is-leader-requires
-is-leader-requires c κs = search needs
+entry-requires : tie.Need-entry-requires
+entry-requires c κs = search needs
 
 returns : tie.Need-returns
-returns c = put-is (lead-none _ _ _ (c .before .is-leader .ensures) (c .if1 .taken)) (put-none _ _)
+returns c = put-is (lead-none _ _ _ (c .before .entry .ensures) (c .if1 .taken)) (put-none _ _)
 
 slice-aggregate-field : tie.Need-slice-aggregate-field
 slice-aggregate-field c = search needs
 
 field-requires : tie.Need-field-requires
 field-requires c κs = let test = c .before .before in
-    room-first _ _ (room-is (lead-is _ _ _ (test .before .is-leader .ensures) (test .if1 .left)) (test .before .before .before .before .before .pre))
+    near-first _ _ (near-is (lead-is _ _ _ (test .before .entry .ensures) (test .if1 .left)) (test .before .before .before .before .before .pre))
 
 slice-aggregate-line : tie.Need-slice-aggregate-line
 slice-aggregate-line c = search needs
@@ -26,7 +25,7 @@ line-requires : tie.Need-line-requires
 unfolding membersOf
 line-requires c κs = let first = c .before .before .before .before in
     let test = first .before .before .before in
-    room-next _ (first .field .ensures) (room-is (lead-is _ _ _ (test .before .is-leader .ensures) (test .if1 .left)) (test .before .before .before .before .before .pre))
+    near-next _ (first .field .ensures) (near-is (lead-is _ _ _ (test .before .entry .ensures) (test .if1 .left)) (test .before .before .before .before .before .pre))
 
 same-length : tie.Need-same-length
 same-length c = search needs
@@ -36,13 +35,13 @@ unfolding membersOf
 returns-2 c = let second = c .before .before in
     let first = second .before .before .before .before .before in
     let test = first .before .before .before in
-    put-is (lead-is _ _ _ (test .before .is-leader .ensures) (test .if1 .left)) (put-then (first .field .ensures) (second .line .ensures))
+    put-is (lead-is _ _ _ (test .before .entry .ensures) (test .if1 .left)) (put-then (first .field .ensures) (second .line .ensures))
 
 pub lead-spec : {M : Type 1} → statement M
 lead-spec =
     tie.close
     (tie.spec
-    is-leader-requires
+    entry-requires
     returns
     slice-aggregate-field
     field-requires

@@ -1,9 +1,9 @@
--- `leads` meets its contract: the laws of Puts and Composed.
+-- The lines of the leaders grow by a line a turn.
 use borrow.Author.Needs.{needs}
 use Prim.Native.Nat.{_-_}
 use Rattle.report.specs.Text.{leadLines}
-use Rattle.report.proofs.Puts.{put-kept, Grown, grown-start, grown-turn, grown-end, grown-room}
-use Rattle.report.proofs.Composed.{leads-grow}
+use Rattle.report.proofs.Puts.{put-kept, Grown, grown-start, grown-turn, grown-end, grown-near}
+use Rattle.report.proofs.LineParts.{leads-grow}
 use Rattle.report.proofs.lines.leads.Statement.{statement}
 use Rattle.report.proofs.lines.leads.Tie as tie
 
@@ -18,7 +18,7 @@ loop-holds c = grown-start (leads-grow _ _) _ _
 
 lead-requires : tie.Need-lead-requires Inv-loop μ-loop
 lead-requires c κs = let turn = c .before in
-    grown-room (leads-grow _ _) (turn .before .loop .inv) (turn .loop-test .taken) (turn .before .before .before .before .before .pre)
+    grown-near (leads-grow _ _) (turn .before .loop .inv) (turn .loop-test .taken) (turn .before .before .before .before .before .pre)
 
 add-u : tie.Need-add-u Inv-loop μ-loop
 add-u c = search needs

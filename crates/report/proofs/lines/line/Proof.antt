@@ -1,24 +1,23 @@
--- `line` meets its contract: its parts put one after the other.
 use borrow.Author.Needs.{needs}
 use Rattle.report.specs.Text as text
-use Rattle.report.proofs.Puts.{put-then, room-first, room-next}
+use Rattle.report.proofs.Puts.{put-then, near-first, near-next}
 use Rattle.report.proofs.lines.line.Statement.{statement}
 use Rattle.report.proofs.lines.line.Tie as tie
 
 text-requires : tie.Need-text-requires
 unfolding text.line
-text-requires c κs = room-first _ _ (room-first _ _ (c .before .before .before .before .before .pre))
+text-requires c κs = near-first _ _ (near-first _ _ (c .before .before .before .before .before .pre))
 
 numbers-requires : tie.Need-numbers-requires
 unfolding text.line
 numbers-requires c κs = let first = c .before .before .before in
-    room-next _ (first .text .ensures) (room-first _ _ (first .before .before .before .before .before .before .pre))
+    near-next _ (first .text .ensures) (near-first _ _ (first .before .before .before .before .before .before .pre))
 
 byte-requires : tie.Need-byte-requires
 unfolding text.line
 byte-requires c κs = let second = c .before .before .before in
     let first = second .before .before .before .before in
-    room-next _ (put-then (first .text .ensures) (second .numbers .ensures)) (first .before .before .before .before .before .before .pre)
+    near-next _ (put-then (first .text .ensures) (second .numbers .ensures)) (first .before .before .before .before .before .before .pre)
 
 same-length : tie.Need-same-length
 same-length c = search needs

@@ -1,4 +1,4 @@
--- `numbers` meets its contract: the laws of Puts and Composed.
+-- The numbers listed grow by one, or by none, a turn.
 use borrow.Author.Needs.{needs}
 use Prim.Native.Nat.{_-_}
 use Rattle.packing.specs.Lists.{listWhere}
@@ -6,7 +6,7 @@ use Rattle.report.specs.Text.{spaced}
 use Rattle.report.specs.Pre.{isListed}
 use Rattle.report.proofs.Puts.{put-kept, Grown, grown-start, grown-end}
 use Rattle.report.proofs.Digits.{listed-grows}
-use Rattle.report.proofs.Composed.{numbers-turn, numbers-room}
+use Rattle.report.proofs.LineParts.{numbers-turn, numbers-near}
 use Rattle.report.proofs.lines.numbers.Statement.{statement}
 use Rattle.report.proofs.lines.numbers.Tie as tie
 
@@ -24,7 +24,7 @@ is-listed-requires c κs = search needs
 
 listed-if-requires : tie.Need-listed-if-requires Inv-loop μ-loop
 listed-if-requires c κs = let turn = c .before .before in
-    numbers-room _ _ (turn .before .loop .inv) (turn .loop-test .taken) (c .before .is-listed .ensures) (turn .before .before .before .before .before .pre)
+    numbers-near _ _ (turn .before .loop .inv) (turn .loop-test .taken) (c .before .is-listed .ensures) (turn .before .before .before .before .before .pre)
 
 add-v : tie.Need-add-v Inv-loop μ-loop
 add-v c = search needs

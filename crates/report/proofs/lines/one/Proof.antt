@@ -1,8 +1,8 @@
--- `one` meets its contract: its parts put one after the other.
+-- Its parts put one after the other, with the number covered as it was counted.
 use borrow.Author.Needs.{needs}
 use Rattle.report.specs.Text.{lineOne}
-use Rattle.report.proofs.Puts.{put-is, put-then, room-is, room-first, room-next}
-use Rattle.report.proofs.Composed.{one-is}
+use Rattle.report.proofs.Puts.{put-is, put-then, near-is, near-first, near-next}
+use Rattle.report.proofs.LineParts.{one-is}
 use Rattle.report.proofs.lines.one.Statement.{statement}
 use Rattle.report.proofs.lines.one.Tie as tie
 
@@ -11,7 +11,7 @@ slice-aggregate-field c = search needs
 
 field-requires : tie.Need-field-requires
 unfolding lineOne
-field-requires c κs = room-first _ _ (room-first _ _ (c .before .before .before .before .pre))
+field-requires c κs = near-first _ _ (near-first _ _ (c .before .before .before .before .pre))
 
 slice-aggregate-field-2 : tie.Need-slice-aggregate-field-2
 slice-aggregate-field-2 c = search needs
@@ -19,7 +19,7 @@ slice-aggregate-field-2 c = search needs
 field-requires-2 : tie.Need-field-requires-2
 unfolding lineOne
 field-requires-2 c κs = let first = c .before .before .before .before in
-    room-next _ (first .field .ensures) (room-first _ _ (first .before .before .before .before .before .pre))
+    near-next _ (first .field .ensures) (near-first _ _ (first .before .before .before .before .before .pre))
 
 slice-aggregate-field-3 : tie.Need-slice-aggregate-field-3
 slice-aggregate-field-3 c = search needs
@@ -30,13 +30,13 @@ covered-requires c κs = search needs
 field-requires-3 : tie.Need-field-requires-3
 field-requires-3 c κs = let second = c .before .before .before .before .before in
     let first = second .before .before .before .before .before in
-    room-first _ _ (room-next _ (put-then (first .field .ensures) (second .field2 .ensures)) (room-is (one-is _ _ _ (c .before .covered .ensures)) (first .before .before .before .before .before .pre)))
+    near-first _ _ (near-next _ (put-then (first .field .ensures) (second .field2 .ensures)) (near-is (one-is _ _ _ (c .before .covered .ensures)) (first .before .before .before .before .before .pre)))
 
 byte-requires : tie.Need-byte-requires
 byte-requires c κs = let third = c .before .before .before in
     let second = third .before .before .before .before .before .before in
     let first = second .before .before .before .before .before in
-    room-next _ (third .field3 .ensures) (room-next _ (put-then (first .field .ensures) (second .field2 .ensures)) (room-is (one-is _ _ _ (third .before .before .covered .ensures)) (first .before .before .before .before .before .pre)))
+    near-next _ (third .field3 .ensures) (near-next _ (put-then (first .field .ensures) (second .field2 .ensures)) (near-is (one-is _ _ _ (third .before .before .covered .ensures)) (first .before .before .before .before .before .pre)))
 
 same-length : tie.Need-same-length
 same-length c = search needs

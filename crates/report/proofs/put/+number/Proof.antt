@@ -1,11 +1,11 @@
--- `number`, which calls itself, meets its contract: the laws of Digits. The number falls.
+-- The digits of the tens, then the last. The number falls.
 use Prim.Native.Nat.{ℕ, _<_}
 use borrow.Fn.Kinds.{In}
 use borrow.Fn.PlainCycle.{Measures, is, falls, and}
 use native.Mathlib.Omega.{arith}
 use borrow.Author.Needs.{needs}
 use Rattle.report.proofs.Digits.{digits-last, digits-more}
-use Rattle.report.proofs.Puts.{put-is, put-then, room-is, room-first, room-next}
+use Rattle.report.proofs.Puts.{put-is, put-then, near-is, near-first, near-next}
 use Rattle.report.proofs.put.number.Reads as number
 use Rattle.report.proofs.put.number.Kinds as number-kinds
 use Rattle.report.proofs.put.+number.Lts-number as number-lts
@@ -28,7 +28,7 @@ number-last-digit-requires : (t : ℕ) → number-lts.Need-last-digit-requires (
   number-below t,
   number.Post,
 ) (number-at t) number.Post
-number-last-digit-requires t c κs = room-is (digits-last _ (c .before .if1 .taken)) (c .before .before .before .pre .1)
+number-last-digit-requires t c κs = near-is (digits-last _ (c .before .if1 .taken)) (c .before .before .before .pre .1)
 
 number-same-length : (t : ℕ) → number-lts.Need-same-length (
   last-digit-reads.Asked,
@@ -52,7 +52,7 @@ number-number-requires : (t : ℕ) → number-lts.Need-number-requires (
   number-below t,
   number.Post,
 ) (number-at t) number.Post
-number-number-requires t c κs = (omega (arith, c .before .before .before .pre .0, c .before .if1 .left), room-first _ _ (room-is (digits-more _ (c .before .if1 .left) (c .before .before .before .fits .x .fits)) (c .before .before .before .pre .1)))
+number-number-requires t c κs = (omega (arith, c .before .before .before .pre .0, c .before .if1 .left), near-first _ _ (near-is (digits-more _ (c .before .if1 .left) (c .before .before .before .fits .x .fits)) (c .before .before .before .pre .1)))
 
 number-last-digit-requires-2 : (t : ℕ) → number-lts.Need-last-digit-requires-2 (
   last-digit-reads.Asked,
@@ -61,7 +61,7 @@ number-last-digit-requires-2 : (t : ℕ) → number-lts.Need-last-digit-requires
   number.Post,
 ) (number-at t) number.Post
 number-last-digit-requires-2 t c κs = let start = c .before .before .before .before .before .before .before in
-    room-next _ (c .before .before .before .number .ensures) (room-is (digits-more _ (c .before .before .before .before .before .if1 .left) (start .fits .x .fits)) (start .pre .1))
+    near-next _ (c .before .before .before .number .ensures) (near-is (digits-more _ (c .before .before .before .before .before .if1 .left) (start .fits .x .fits)) (start .pre .1))
 
 number-same-length-2 : (t : ℕ) → number-lts.Need-same-length-2 (
   last-digit-reads.Asked,

@@ -1,4 +1,3 @@
--- `byte` meets its contract.
 use Rattle.report.proofs.Puts.{put-past}
 use borrow.Author.Needs.{needs}
 use Rattle.report.proofs.put.byte.Statement.{statement}

@@ -1,18 +1,17 @@
--- `field` meets its contract.
 use borrow.Author.Needs.{needs}
 use Rattle.report.specs.Text.{field}
-use Rattle.report.proofs.Puts.{put-then, room-first, room-next}
+use Rattle.report.proofs.Puts.{put-then, near-first, near-next}
 use Rattle.report.proofs.put.field.Statement.{statement}
 use Rattle.report.proofs.put.field.Tie as tie
 
 text-requires : tie.Need-text-requires
 unfolding field
-text-requires c κs = room-first _ _ (c .before .before .before .pre)
+text-requires c κs = near-first _ _ (c .before .before .before .pre)
 
 listed-requires : tie.Need-listed-requires
 unfolding field
 listed-requires c κs = let first = c .before .before .before in
-    room-next _ (first .text .ensures) (first .before .before .before .before .pre)
+    near-next _ (first .text .ensures) (first .before .before .before .before .pre)
 
 same-length : tie.Need-same-length
 same-length c = search needs

@@ -1,16 +1,15 @@
--- `listed` meets its contract.
-use Rattle.report.proofs.Puts.{put-is, put-then, room-is, room-first, room-next}
+use Rattle.report.proofs.Puts.{put-is, put-then, near-is, near-first, near-next}
 use Rattle.report.proofs.Digits.{spaced-one}
 use borrow.Author.Needs.{needs}
 use Rattle.report.proofs.put.listed.Statement.{statement}
 use Rattle.report.proofs.put.listed.Tie as tie
 
 byte-requires : tie.Need-byte-requires
-byte-requires c κs = room-first _ _ (room-is (spaced-one _) (c .before .before .pre))
+byte-requires c κs = near-first _ _ (near-is (spaced-one _) (c .before .before .pre))
 
 number-requires : tie.Need-number-requires
 number-requires c κs = let first = c .before .before .before in
-    room-next _ (first .byte .ensures) (room-is (spaced-one _) (first .before .before .before .pre))
+    near-next _ (first .byte .ensures) (near-is (spaced-one _) (first .before .before .before .pre))
 
 same-length : tie.Need-same-length
 same-length c = search needs

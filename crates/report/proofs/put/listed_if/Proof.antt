@@ -1,12 +1,11 @@
--- `listed_if` meets its contract.
-use Rattle.report.proofs.Puts.{put-none, put-is, room-is}
+use Rattle.report.proofs.Puts.{put-none, put-is, near-is}
 use Rattle.report.proofs.Digits.{spaced-wanted, spaced-unwanted}
 use borrow.Author.Needs.{needs}
 use Rattle.report.proofs.put.listed_if.Statement.{statement}
 use Rattle.report.proofs.put.listed_if.Tie as tie
 
 listed-requires : tie.Need-listed-requires
-listed-requires c κs = search (needs, room-is, spaced-wanted)
+listed-requires c κs = search (needs, near-is, spaced-wanted)
 
 same-length : tie.Need-same-length
 same-length c = search needs

@@ -1,9 +1,9 @@
--- `text` meets its contract: the laws of Puts.
+-- A text is its bytes, one a turn.
 use borrow.Author.Needs.{needs}
 use Prim.Native.Nat.{_-_}
 use lib.ListN.{length, take}
 use lib.Seq.{take-length}
-use Rattle.report.proofs.Puts.{put-is, put-kept, room-is, Grown, bytes-grow, grown-start, grown-turn, grown-end, grown-room}
+use Rattle.report.proofs.Puts.{put-is, put-kept, near-is, Grown, bytes-grow, grown-start, grown-turn, grown-end, grown-near}
 use Rattle.report.proofs.put.text.Statement.{statement}
 use Rattle.report.proofs.put.text.Tie as tie
 
@@ -21,7 +21,7 @@ shared-slice-read-byte c = search needs
 
 byte-requires : tie.Need-byte-requires Inv-loop μ-loop
 byte-requires c κs = let turn = c .before .before in
-    grown-room (bytes-grow _) (turn .before .loop .inv) (turn .loop-test .taken) (room-is (take-length _) (turn .before .before .before .before .pre))
+    grown-near (bytes-grow _) (turn .before .loop .inv) (turn .loop-test .taken) (near-is (take-length _) (turn .before .before .before .before .pre))
 
 add-i : tie.Need-add-i Inv-loop μ-loop
 add-i c = search needs

@@ -1,0 +1,16 @@
+use borrow.Author.Needs.{needs}
+use Rattle.report.proofs.LineParts.{counted-few, covered-rest}
+use Rattle.report.proofs.listed.covered.Statement.{statement}
+use Rattle.report.proofs.listed.covered.Tie as tie
+
+count-of-requires : tie.Need-count-of-requires
+count-of-requires c κs = search needs
+
+sub-result : tie.Need-sub-result
+sub-result c = counted-few _ _ (c .count-of .ensures)
+
+returns : tie.Need-returns
+returns c = covered-rest _ _ (c .count-of .ensures)
+
+pub covered-spec : {M : Type 1} → statement M
+covered-spec = tie.close (tie.spec count-of-requires sub-result returns)
