@@ -1,19 +1,20 @@
 -- What a sound record has for the calls that place its next gateway and read it.
-use Prim.Native.Nat.{ℕ, _≤_}
+use Prim.Native.Nat.{ℕ, _<_, _≤_}
 use mathlib.Core.Path.{_≡_, sym, _∙_}
 use mathlib.Core.Bool.{Bool, false, not}
 use mathlib.Core.List.{List}
 use native.Mathlib.Omega.{arith}
-use lib.ListN.{length}
+use lib.ListN.{length, replicate}
 use borrow.Author.Tests.{le-ltb, not-false}
 use Rattle.packing.specs.Lists.{listOf, written}
-use Rattle.packing.specs.Plant.{NONE, at, common}
-use Rattle.packing.specs.Holders.{held}
+use Rattle.packing.specs.Plant.{GATEWAYS, HIGHEST, NONE, at, common}
+use Rattle.packing.specs.Holders.{held, holds}
 use Rattle.packing.proofs.Fitted.{fitted-written}
 use Rattle.search.specs.Search.{placedHolders, holdersAfter}
 use Rattle.search.specs.ChokeSet.{chokeByte, chokeWritten}
 use Rattle.search.specs.Pre.{Placeable}
-use Rattle.search.proofs.Tested.{holders-placed}
+use Rattle.search.proofs.Tested.{chokeable-holds, choke-written}
+use Rattle.search.proofs.Limits.{placed-common}
 use Rattle.sound.specs.Sound.{isSound}
 use Rattle.sound.proofs.Meaning.{Sound, sound-means}
 use Rattle.stars.specs.Stars.{leaderList, leadersWritten}
@@ -28,27 +29,34 @@ pub checked : (n t m k : ℕ) (ls os hs : List ℕ) {v : Bool} → v ≡ isSound
 checked n t m k ls os hs {v} e f = sound-means n t m k ls os hs (sym e ∙ not-false v f)
 
 -- one with no holder is not held
-pub none-unheld : (n : ℕ) (hs : List ℕ) (v : ℕ) → n ≤ 1024 → at hs v ≡ NONE → held n (at hs) v ≡ false
+pub none-unheld : (n : ℕ) (hs : List ℕ) (v : ℕ) → n ≤ GATEWAYS → at hs v ≡ NONE → held n (at hs) v ≡ false
 none-unheld n hs v few e = le-ltb (at hs v) n (omega arith)
 
 module _ (s : State) (sound : SoundState s) where
+  -- nobody holds more than the highest limit, so a search may be made with its holders
+  few-held : (u : ℕ) → u < s .small .n → holds (s .small .n) (at (s .holders)) u ≤ HIGHEST
+  unfolding common
+  few-held u l = omega (arith, sound .feasible .within u l, sound .high)
+
   -- the next gateway of one that is not fully placed may be placed, ..
   pub next-placeable : (s .small .k ≡ s .small .n → ⊥) → Placeable (s .small .n) (s .holders) (at (s .order) (s .small .k))
   next-placeable more =
       record {
         few = sound .few;
         holders = sound .holders-long;
+        within = few-held;
         inside = sound .order .below (s .small .k) (omega (arith, sound .placed));
         free = none-unheld (s .small .n) (s .holders) (at (s .order) (s .small .k)) (sound .few) (sound .free (s .small .k) (omega arith) (omega (arith, sound .placed)));
       }
 
-  -- .. and so it is
-  pub next-placed : {hs' : List ℕ} → (s .small .k ≡ s .small .n → ⊥) → hs' ≡ holdersAfter (s .small .n) (common (s .small .t)) (linksOf s) (s .holders) (at (s .order) (s .small .k))
+  -- .. and so it is, with a list of T for each gateway
+  pub next-placed : (limits : List ℕ) {hs' : List ℕ} → (s .small .k ≡ s .small .n → ⊥) → limits ≡ replicate GATEWAYS (s .small .t)
+      → hs' ≡ holdersAfter (s .small .n) (at limits) (linksOf s) (s .holders) (at (s .order) (s .small .k))
       → hs' ≡ placedHolders (s .small .n) (limitOf s) (linksOf s) (s .holders) (at (s .order) (s .small .k))
   unfolding limitOf
-  next-placed more e = e ∙ holders-placed (common (s .small .t)) (linksOf s) (next-placeable more)
+  next-placed limits more is e = e ∙ rw is (placed-common (s .small .t) (linksOf s) (next-placeable more))
 
-  -- the leader list and the choke bytes fit where there is a place for each, and so they are written
+  -- the leader list and the choke bytes are written where there is a place for each
   pub leaders-placed : (leaders : List ℕ) {leaders' : List ℕ} → s .small .n ≤ length leaders → leaders' ≡ leadersWritten (s .small .n) (s .holders) leaders
       → leaders' ≡ written (s .small .n) (listOf (s .small .n) (leaderList (s .small .n) (s .holders))) leaders
   unfolding leadersWritten
@@ -56,5 +64,5 @@ module _ (s : State) (sound : SoundState s) where
 
   pub choke-placed : (choke : List ℕ) {choke' : List ℕ} → s .small .n ≤ length choke → choke' ≡ chokeWritten (s .small .n) (linksOf s) (s .holders) choke
       → choke' ≡ written (s .small .n) (listOf (s .small .n) (chokeByte (s .small .n) (linksOf s) (s .holders))) choke
-  unfolding chokeWritten
-  choke-placed choke room e = e ∙ fitted-written (chokeByte (s .small .n) (linksOf s) (s .holders)) (record { few = sound .few; entries = sound .holders-long; places = room })
+  choke-placed choke room e =
+      e ∙ choke-written (s .small .n) (linksOf s) (s .holders) choke (chokeable-holds choke (record { few = sound .few; holders = sound .holders-long; within = few-held }) room)

@@ -16,8 +16,8 @@ use Rattle.packing.specs.Choke.{stranded}
 use Rattle.packing.proofs.Tests.{and-l, and-r}
 use Rattle.sound.specs.Sound.{numbersSound, listsLong, endsSound, onceEach, holdersLinked, holdersWithin, onlyPlacedHeld, isSound}
 use Rattle.search.specs.Search.{heldBy, look, visit, turn, turns, walk, shift, settled, placedHolders}
-use Rattle.stars.specs.Stars.{holder, back, onCycle, nextOnCycle, leadsIn, leadsInTrees, begins, cut, leads, leaderOf, pairLeader, partner, ruleFive, leaderList}
-use Rattle.search.specs.ChokeSet.{withoutHolder, chokeWalk, seenIn, inChoke, chokeByte}
+use Rattle.stars.specs.Stars.{holder, back, onCycle, nextOnCycle, leadsIn, leadsInTrees, begins, cut, leads, leaderOf, pairLeader, partner, ruleFive, leaderListBy, leaderList}
+use Rattle.search.specs.ChokeSet.{withoutHolder, chokeWalk, seenIn, walkSaw, inChoke, chokeByte}
 use Rattle.packing.specs.Orders.{upTo, repeatsOrOutside}
 use Rattle.planner.specs.Refusals.{openRefusal, linkConditions, orderConditions, placeConditions, readConditions}
 use Rattle.planner.specs.State.{limitOf, soundState}
@@ -28,7 +28,7 @@ use Rattle.planner.specs.Claims.{chokeRead}
 
 -- the whole table, computed
 pub table-holds : rowsHold table ≡ true
-unfolding sum count sumOver all any listOf listWhere common firstLinks linked neighbours memberCount heldCount stranded numbersSound listsLong endsSound onceEach holdersLinked holdersWithin onlyPlacedHeld isSound heldBy look visit turn turns walk shift settled placedHolders firstWith holder back onCycle nextOnCycle leadsIn leadsInTrees begins cut leads leaderOf pairLeader partner ruleFive leaderList withoutHolder chokeWalk seenIn inChoke chokeByte upTo written repeatsOrOutside openRefusal linkConditions orderConditions placeConditions readConditions limitOf soundState opened openCall conditions callRefusal changed call readLeaders readChoke run linkCalls placeCalls plantCalls after leadersOf chokeOf sameList rowHolds empty one two path star starBack star4 listed ring table rowsHold
+unfolding sum count sumOver all any listOf listWhere common firstLinks linked neighbours memberCount heldCount stranded numbersSound listsLong endsSound onceEach holdersLinked holdersWithin onlyPlacedHeld isSound heldBy look visit turn turns walk shift settled placedHolders firstWith holder back onCycle nextOnCycle leadsIn leadsInTrees begins cut leads leaderOf pairLeader partner ruleFive leaderListBy leaderList withoutHolder chokeWalk seenIn walkSaw inChoke chokeByte upTo written repeatsOrOutside openRefusal linkConditions orderConditions placeConditions readConditions limitOf soundState opened openCall conditions callRefusal changed call readLeaders readChoke run linkCalls placeCalls plantCalls after leadersOf chokeOf sameList rowHolds empty one two path star starBack star4 listed ring table rowsHold
 table-holds = refl
 
 same-list : (l r : List ℕ) → sameList l r ≡ true → l ≡ r

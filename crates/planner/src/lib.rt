@@ -129,8 +129,9 @@ impl Small {
             };
         }
         let end = 2 * (m as usize);
+        let limits = lists::marks::bytes(t);
         // The answer is true: the next of a sound record may be placed.
-        search::place(n, t, order[k as usize], &links[..end], holders);
+        search::place(n, order[k as usize], &limits, &links[..end], holders);
         Answer {
             refusal: 0,
             small: Small { n, t, m, k: k + 1 },

@@ -15,6 +15,12 @@ use Rattle.sound.specs.Sound.{numbersSound, listsLong, endsSound, onceEa
 use Rattle.sound.proofs.Meaning.{numbers-mean, lists-mean}
 use Rattle.sound.specs.Marks.{Tally, LinksPassed, HoldersPassed, OrderPassed}
 
+-- loads that were counted are what each holds
+pub loads-are : (n : ℕ) (limit : ℕ → ℕ) (hs loads : List ℕ) → n ≤ length loads → Tally hs n loads → all n (λ v. leb (at loads v) (limit v)) ≡ holdersWithin n limit hs
+unfolding Tally holdersWithin holds
+loads-are n limit hs loads places t =
+    all-ext n (λ v. leb (at loads v) (limit v)) (λ u. leb (count n (λ v. eqb (at hs v) u)) (limit u)) (λ v l. ap (λ (c : ℕ). leb c (limit v)) (t v (omega arith)))
+
 module _ (n : ℕ) where
   pub order-results : (k : ℕ) (os hs counts : List ℕ) {placed once r : Bool} → n ≤ length counts → OrderPassed n k os hs counts placed
       → once ≡ all n (λ v. eqb (at counts v) 1) → r ≡ (once && placed) → r ≡ (onceEach n os && onlyPlacedHeld n k os hs)
@@ -26,7 +32,7 @@ module _ (n : ℕ) where
   pub holders-results : (limits ls hs marks loads : List ℕ) {ends tied within r₁ r : Bool} → n ≤ length marks → n ≤ length loads
       → LinksPassed n ls hs marks ends → HoldersPassed n hs marks loads tied → within ≡ all n (λ v. leb (at loads v) (at limits v)) → r₁ ≡ (ends && tied) → r ≡ (r₁ && within)
       → r ≡ (endsSound n ls && holdersLinked n ls hs && holdersWithin n (at limits) hs)
-  unfolding Tally holdersLinked holdersWithin holds
+  unfolding holdersLinked
   holders-results limits ls hs marks loads {ends} {tied} {within} places counts links holders e f g =
       g ∙ rw (f, links .ends, tied-is, within-is)
     where
@@ -35,10 +41,8 @@ module _ (n : ℕ) where
           holders .linked-or-none ∙ all-ext n (λ v. eqb (at hs v) NONE || eqb (at marks v) 1) (λ v. eqb (at hs v) NONE || linked ls v (at hs v))
           (λ v l. ap (λ (b : Bool). eqb (at hs v) NONE || b) (links .marked v (omega arith)))
 
-      within-is : within ≡ all n (λ u. leb (count n (λ v. eqb (at hs v) u)) (at limits u))
-      within-is =
-          e ∙ all-ext n (λ v. leb (at loads v) (at limits v)) (λ u. leb (count n (λ v. eqb (at hs v) u)) (at limits u))
-          (λ v l. ap (λ (c : ℕ). leb c (at limits v)) (holders .loaded v (omega arith)))
+      within-is : within ≡ holdersWithin n (at limits) hs
+      within-is = e ∙ loads-are n (at limits) hs loads counts (holders .loaded)
 
 -- the loads are compared with the limits of the gateways below n only
 pub within-below : (n : ℕ) (limit limit' : ℕ → ℕ) (hs : List ℕ) → ((u : ℕ) → u < n → limit u ≡ limit' u) → holdersWithin n limit hs ≡ holdersWithin n limit' hs

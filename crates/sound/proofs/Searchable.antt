@@ -1,19 +1,19 @@
 -- Holders that a search may be made with: what the test says and takes, and the counts that it is made of.
 use Prim.Native.Nat.{ℕ, _<_, _≤_}
-use mathlib.Core.Path.{_≡_, ap, _∙_}
-use mathlib.Core.Bool.{Bool, true, _&&_}
+use mathlib.Core.Path.{_≡_, _∙_}
+use mathlib.Core.Bool.{Bool, true}
 use mathlib.Core.List.{List}
-use native.Mathlib.Omega.{arith}
 use lib.Dec.{leb}
-use lib.ListN.{length, getD}
+use lib.ListN.{length, replicate}
 use borrow.Author.Tests.{leb-true, le-leb}
 use Rattle.packing.specs.Count.{all}
 use Rattle.packing.specs.Plant.{GATEWAYS, HIGHEST, at, common}
 use Rattle.packing.specs.Holders.{holds}
-use Rattle.packing.proofs.Tests.{tests, all-ext, all-intro, all-elim}
+use Rattle.packing.proofs.Tests.{tests, all-intro, all-elim}
 use Rattle.sound.specs.Sound.{holdersWithin}
 use Rattle.sound.specs.Marks.{Tally}
 use Rattle.sound.specs.Searchable.{searchable}
+use Rattle.sound.proofs.PassResults.{loads-are, within-common}
 
 pub record Searchable (n : ℕ) (hs : List ℕ) : Type 0 where
   pub few : n ≤ GATEWAYS
@@ -36,10 +36,8 @@ pub searchable-holds : {n : ℕ} {hs : List ℕ} → Searchable n hs → searcha
 unfolding searchable
 searchable-holds {n} {hs} s = rw (le-leb n GATEWAYS (s .few), le-leb n (length hs) (s .holders)) (within-holds n hs (s .within))
 
--- the counts of what each holds, each at most the highest limit
-pub within-counted : (n : ℕ) (hs loads : List ℕ) {r : Bool} → n ≤ length loads → Tally hs n loads → r ≡ all n (λ v. leb 0 (getD loads v 0) && leb (getD loads v 0) HIGHEST)
+-- what the counts of what each holds say, compared with a list of the highest limit
+pub within-counted : (n : ℕ) (hs loads limits : List ℕ) {r : Bool} → n ≤ GATEWAYS → n ≤ length loads → Tally hs n loads → limits ≡ replicate GATEWAYS HIGHEST → r ≡ all n (λ v. leb (at loads v) (at limits v))
     → r ≡ holdersWithin n (common HIGHEST) hs
-unfolding Tally holdersWithin common holds
-within-counted n hs loads room t e =
-    e ∙ all-ext n (λ v. leb 0 (getD loads v 0) && leb (getD loads v 0) HIGHEST) (λ u. leb (holds n (at hs) u) HIGHEST)
-    (λ v l. rw (le-leb 0 (getD loads v 0) (omega arith)) (ap (λ (c : ℕ). leb c HIGHEST) (t v (omega arith))))
+within-counted n hs loads limits few room t is e =
+    e ∙ loads-are n (at limits) hs loads room t ∙ within-common n HIGHEST limits hs few is

@@ -1,6 +1,6 @@
 // Whether a search may be made with a list of holders.
 use crate::marks::tally;
-use crate::passes::counts_between;
+use crate::passes::loads_within;
 ghost use mathlib.Core.Path.{_≡_};
 ghost use Prim.Native.Nat.{_≤_};
 ghost use lib.ListN.{replicate};
@@ -28,7 +28,8 @@ fn is_within(n: u16, holders: &[u16]) -> bool
 {
     let mut loads = lists::marks::zeros();
     count_held(n, holders, &mut loads);
-    counts_between(n as usize, 0, lists::HIGHEST as u16, &loads)
+    let limits = lists::marks::bytes(lists::HIGHEST);
+    loads_within(n, &limits, &loads)
 }
 
 // Any number, and a list of any length and contents.

@@ -3,7 +3,7 @@ use Prim.Native.Nat.{_-_}
 use mathlib.Core.Path.{refl}
 use mathlib.Core.Bool.{true}
 use native.Mathlib.Omega.{arith}
-use Rattle.sound.proofs.Tallies.{zeros, Counted, counted-start, counted-turn, counted-small, counted-end}
+use Rattle.sound.proofs.Tallies.{all-zero, Counted, counted-start, counted-turn, counted-small, counted-end}
 use Rattle.sound.proofs.held.count_held.Statement.{statement}
 use Rattle.sound.proofs.held.count_held.Tie as tie
 
@@ -14,7 +14,7 @@ abbrev μ-loop : tie.MeasureT-loop
 μ-loop n holders loads₀ v₀ loads v = n - v
 
 loop-holds : tie.Need-loop-holds Inv-loop μ-loop
-loop-holds c = counted-start _ _ _ _ (rw (c .before .before .pre .1) (zeros 1024))
+loop-holds c = counted-start _ _ _ _ (all-zero (c .before .before .pre .1))
 
 entry-requires : tie.Need-entry-requires Inv-loop μ-loop
 entry-requires c κs = search needs
@@ -31,7 +31,7 @@ loop-less c = search needs
 loop-again : tie.Need-loop-again Inv-loop μ-loop
 loop-again c = let done = c .before .before in
     let turn = done .before .before .before in
-    counted-turn _ _ _ _ (turn .before .loop .inv) (turn .loop-test .taken) refl refl (rw (done .before .entry .ensures) at (done .tally .ensures))
+    counted-turn _ _ _ _ (turn .before .loop .inv) (turn .loop-test .taken) (done .before .entry .ensures) refl refl (done .tally .ensures)
 
 same-length : tie.Need-same-length Inv-loop μ-loop
 same-length c = search needs

@@ -13,17 +13,21 @@ slice-aggregate-count-held c = search needs
 count-held-requires : tie.Need-count-held-requires
 count-held-requires c κs = search needs
 
-cast-counts-between : tie.Need-cast-counts-between
-cast-counts-between c = search needs
+bytes-requires : tie.Need-bytes-requires
+bytes-requires c κs = search needs
 
-slice-aggregate-counts-between : tie.Need-slice-aggregate-counts-between
-slice-aggregate-counts-between c = search needs
+slice-aggregate-loads-within : tie.Need-slice-aggregate-loads-within
+slice-aggregate-loads-within c = search needs
 
-counts-between-requires : tie.Need-counts-between-requires
-counts-between-requires c κs = search needs
+slice-aggregate-loads-within-2 : tie.Need-slice-aggregate-loads-within-2
+slice-aggregate-loads-within-2 c = search needs
+
+loads-within-requires : tie.Need-loads-within-requires
+loads-within-requires c κs = search needs
 
 returns : tie.Need-returns
-returns c = within-counted _ _ _ (omega arith) (c .before .before .before .count-held .ensures) (c .counts-between .ensures)
+returns c = let limits = c .before .before .before in
+    within-counted _ _ _ _ (limits .before .before .before .before .before .before .pre) (omega arith) (limits .before .before .count-held .ensures) (limits .bytes .ensures) (c .loads-within .ensures)
 
 pub is-within-spec : {M : Type 1} → statement M
 is-within-spec =
@@ -32,7 +36,8 @@ is-within-spec =
     zeros-requires
     slice-aggregate-count-held
     count-held-requires
-    cast-counts-between
-    slice-aggregate-counts-between
-    counts-between-requires
+    bytes-requires
+    slice-aggregate-loads-within
+    slice-aggregate-loads-within-2
+    loads-within-requires
     returns)
