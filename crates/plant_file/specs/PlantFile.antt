@@ -14,6 +14,7 @@ use Rattle.packing.specs.Refusals.{refuse, firstOf}
 unfoldable pub number : List ℕ → ℕ → ℕ
 number file i = at file i + 256 * at file (i + 1)
 
+-- "16-bit n, 8-bit T, 16-bit m"
 unfoldable pub fileN : List ℕ → ℕ
 fileN file = number file 5
 

@@ -7,6 +7,7 @@ use Rattle.plant_file.specs.declared.reader.Step.{Step}
 use Rattle.plant_file.specs.declared.reader.Step.the-variants.{Link, End}
 use Rattle.plant_file.specs.PlantFile.{number, fileM}
 
+-- one of two steps, by a test
 abbrev pub pickStep : Bool → Step → Step → Step
 pickStep true a b = a
 pickStep false a b = b

@@ -21,14 +21,17 @@ noted hs marks v u = cond (eqb (at hs v) u) (set marks v 1) marks
 unfoldable pub Tally : List ℕ → ℕ → List ℕ → Type 0
 Tally l n counts = (v : ℕ) → v < length counts → at counts v ≡ count n (λ i. eqb (at l i) v)
 
+-- the pass over the links answers for their ends, and marks the gateways that are linked to their holders
 pub record LinksPassed (n : ℕ) (ls hs marks : List ℕ) (r : Bool) : Type 0 where
   pub ends : r ≡ endsSound n ls
   pub marked : (v : ℕ) → v < length marks → eqb (at marks v) 1 ≡ linked ls v (at hs v)
 
+-- the pass over the holders answers whether each is none or marked, and counts what each gateway holds
 pub record HoldersPassed (n : ℕ) (hs marks loads : List ℕ) (r : Bool) : Type 0 where
   pub linked-or-none : r ≡ all n (λ v. eqb (at hs v) NONE || eqb (at marks v) 1)
   pub loaded : Tally hs n loads
 
+-- the pass over the order answers for those from place k on, and counts how often each gateway stands in it
 pub record OrderPassed (n k : ℕ) (os hs counts : List ℕ) (r : Bool) : Type 0 where
   pub placed : r ≡ onlyPlacedHeld n k os hs
   pub counted : Tally os n counts
