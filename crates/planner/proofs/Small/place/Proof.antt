@@ -35,6 +35,9 @@ cast-end c = search needs
 mul-end : tie.Need-mul-end
 mul-end c = search needs
 
+bytes-requires : tie.Need-bytes-requires
+bytes-requires c κs = search needs
+
 cast-place : tie.Need-cast-place
 cast-place c = search needs
 
@@ -42,18 +45,21 @@ mul-place : tie.Need-mul-place
 mul-place c = search needs
 
 shared-slice-read-place : tie.Need-shared-slice-read-place
-shared-slice-read-place c = let test = c .before in
+shared-slice-read-place c = let test = c .before .before in
     let sound = checked _ _ _ _ _ _ _ (test .before .before .is-sound .ensures) (test .before .if1 .left) in omega (arith, sound .placed, sound .order-long, test .if2 .left)
 
 slice-aggregate-place : tie.Need-slice-aggregate-place
-slice-aggregate-place c = let test = c .before .before in
+slice-aggregate-place c = search needs
+
+slice-aggregate-place-2 : tie.Need-slice-aggregate-place-2
+slice-aggregate-place-2 c = let test = c .before .before .before .before in
     sym (length-take-le _ _ (checked _ _ _ _ _ _ _ (test .before .before .is-sound .ensures) (test .before .if1 .left) .links-long))
 
 place-requires : tie.Need-place-requires
 place-requires c κs = search needs
 
-add-t17 : tie.Need-add-t17
-add-t17 c = let test = c .before .before .before .before .before .before in
+add-t19 : tie.Need-add-t19
+add-t19 c = let test = c .before .before .before .before .before .before .before .before in
     let sound = checked _ _ _ _ _ _ _ (test .before .before .is-sound .ensures) (test .before .if1 .left) in omega (arith, sound .placed, sound .few, test .if2 .left)
 
 same-length-3 : tie.Need-same-length-3
@@ -61,10 +67,10 @@ same-length-3 c = search needs
 
 returns-3 : tie.Need-returns-3
 unfolding callRefusal conditions soundState changed firstLinks
-returns-3 c = let test = c .before .before .before .before .before .before in
+returns-3 c = let test = c .before .before .before .before .before .before .before .before in
     let sound = checked _ _ _ _ _ _ _ (test .before .before .is-sound .ensures) (test .before .if1 .left) in
     list-accepted _ _ (λ (s : State). s .holders) (sound-number (test .before .before .is-sound .ensures) (not-false _ (test .before .if1 .left)) (place-next _ _ (test .if2 .left))) refl
-    (next-placed _ sound (test .if2 .left) (c .before .before .place .ensures .1))
+    (next-placed _ sound _ (test .if2 .left) (c .before .before .before .before .before .before .before .bytes .ensures) (c .before .before .place .ensures .1))
 
 pub place-spec : {M : Type 1} → statement M
 place-spec =
@@ -77,11 +83,13 @@ place-spec =
     returns-2
     cast-end
     mul-end
+    bytes-requires
     cast-place
     mul-place
     shared-slice-read-place
     slice-aggregate-place
+    slice-aggregate-place-2
     place-requires
-    add-t17
+    add-t19
     same-length-3
     returns-3)
