@@ -75,12 +75,17 @@ module _ (file : List ℕ) (z : fileRefusal file ≡ 0) {n : ℕ} (is : n ≡ fi
   pub order-room : n ≤ length l
   order-room = rw (written-order, is) (written-room (fileN file) (fileOrder file) lent (order-long file))
 
+  -- .. and the first n are the file's order
+  front-is : take n l ≡ fileOrder file
+  front-is = rw (written-order, is) (written-front (fileN file) (fileOrder file) lent (order-long file))
+
+  pub order-front : n ≡ length (take n l)
+  order-front = sym (ap length front-is ∙ order-long file ∙ sym is)
+
   pub ordered : (s : Small) (ls os hs : List ℕ) {os' : List ℕ} {r : Answer}
       → r ≡ answerOf (call (stateOf s ls os hs) (order (take n l))) → os' ≡ call (stateOf s ls os hs) (order (take n l)) .state .order
       → stateOf (r .small) ls os' hs ≡ call (stateOf s ls os hs) (order (fileOrder file)) .state
-  ordered s ls os hs g h =
-      let front : take n l ≡ fileOrder file = rw (written-order, is) (written-front (fileN file) (fileOrder file) lent (order-long file)) in
-      rw (g, h, front) (order-state (stateOf s ls os hs) (fileOrder file))
+  ordered s ls os hs g h = rw (g, h, front-is) (order-state (stateOf s ls os hs) (fileOrder file))
 
 -- i placings are made
 pub record Places (n : ℕ) (first now : State) (i : ℕ) : Type 0 where

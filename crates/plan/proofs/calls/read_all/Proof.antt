@@ -3,14 +3,14 @@ use borrow.Author.Needs.{needs}
 use Rattle.plan.proofs.calls.read_all.Statement.{statement}
 use Rattle.plan.proofs.calls.read_all.Tie as tie
 
-links-requires : tie.Need-links-requires
-links-requires c κs = search needs
+ends-requires : tie.Need-ends-requires
+ends-requires c κs = search needs
 
-numbers-requires : tie.Need-numbers-requires
-numbers-requires c κs = search needs
+zeros-requires : tie.Need-zeros-requires
+zeros-requires c κs = search needs
 
-numbers-requires-2 : tie.Need-numbers-requires-2
-numbers-requires-2 c κs = search needs
+zeros-requires-2 : tie.Need-zeros-requires-2
+zeros-requires-2 c κs = search needs
 
 slice-aggregate-make : tie.Need-slice-aggregate-make
 slice-aggregate-make c = search needs
@@ -43,15 +43,15 @@ same-length-2 : tie.Need-same-length-2
 same-length-2 c = search needs
 
 returns : tie.Need-returns
-returns c = all-read _ _ _ _ _ (c .before .before .before .before .before .before .before .before .before .before .before .before .before .before .before .before .before .before .before .links .ensures) (c .before .before .before .before .before .before .before .before .before .before .before .before .before .before .before .before .before .before .numbers .ensures) (c .before .before .before .before .before .before .before .before .before .before .before .before .before .before .before .before .before .numbers2 .ensures) (c .before .before .before .before .before .before .before .before .before .before .before .before .before .make .ensures) _ _ (c .before .before .before .before .read .ensures .1 .0) (c .before .before .before .before .read .ensures .1 .1)
+returns c = all-read _ _ _ _ _ (c .before .before .before .before .before .before .before .before .before .before .before .before .before .before .before .before .before .before .before .ends .ensures) (c .before .before .before .before .before .before .before .before .before .before .before .before .before .before .before .before .before .before .zeros .ensures) (c .before .before .before .before .before .before .before .before .before .before .before .before .before .before .before .before .before .zeros2 .ensures) (c .before .before .before .before .before .before .before .before .before .before .before .before .before .make .ensures) _ _ (c .before .before .before .before .read .ensures .1 .0) (c .before .before .before .before .read .ensures .1 .1)
 
 pub read-all-spec : {M : Type 1} → statement M
 read-all-spec =
     tie.close
     (tie.spec
-    links-requires
-    numbers-requires
-    numbers-requires-2
+    ends-requires
+    zeros-requires
+    zeros-requires-2
     slice-aggregate-make
     slice-aggregate-make-2
     slice-aggregate-make-3

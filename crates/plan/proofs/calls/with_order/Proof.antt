@@ -1,5 +1,4 @@
-use Rattle.plan.proofs.CallsInTurn.{fits-order, order-room, ordered}
-use Rattle.plant_file.proofs.Filled.{order-front-long}
+use Rattle.plan.proofs.CallsInTurn.{order-room, order-front, ordered}
 use borrow.Author.Needs.{needs}
 use Rattle.plan.proofs.calls.with_order.Statement.{statement}
 use Rattle.plan.proofs.calls.with_order.Tie as tie
@@ -10,29 +9,29 @@ gateways-requires c κs = search needs
 cast-n : tie.Need-cast-n
 cast-n c = search needs
 
-numbers-requires : tie.Need-numbers-requires
-numbers-requires c κs = search needs
-
-slice-aggregate-with-numbers : tie.Need-slice-aggregate-with-numbers
-slice-aggregate-with-numbers c = search needs
-
-with-numbers-requires : tie.Need-with-numbers-requires
-with-numbers-requires c κs = fits-order _ (c .before .before .before .before .before .before .before .pre) (c .before .numbers .ensures)
-
-array-share-prefix-numbers : tie.Need-array-share-prefix-numbers
-array-share-prefix-numbers c = order-room _ _ (c .before .before .before .before .before .gateways .ensures) (c .before .before .with-numbers .ensures)
+zeros-requires : tie.Need-zeros-requires
+zeros-requires c κs = search needs
 
 slice-aggregate-order : tie.Need-slice-aggregate-order
-slice-aggregate-order c = order-front-long _ _ (c .before .before .before .before .before .before .gateways .ensures) (c .before .before .before .with-numbers .ensures)
+slice-aggregate-order c = search needs
 
 order-requires : tie.Need-order-requires
 order-requires c κs = search needs
+
+array-share-prefix-numbers : tie.Need-array-share-prefix-numbers
+array-share-prefix-numbers c = order-room _ (c .before .before .before .before .before .before .before .before .before .before .pre) (c .before .before .before .before .before .gateways .ensures) (c .before .before .before .before .zeros .ensures) (c .before .before .order .ensures .1)
+
+slice-aggregate-order-2 : tie.Need-slice-aggregate-order-2
+slice-aggregate-order-2 c = order-front _ (c .before .before .before .before .before .before .before .before .before .before .before .pre) (c .before .before .before .before .before .before .gateways .ensures) (c .before .before .before .before .before .zeros .ensures) (c .before .before .before .order .ensures .1)
+
+order-requires-2 : tie.Need-order-requires-2
+order-requires-2 c κs = search needs
 
 same-length : tie.Need-same-length
 same-length c = search needs
 
 returns : tie.Need-returns
-returns c = ordered _ _ _ _ _ _ (c .before .before .before .before .before .before .before .before .before .before .gateways .ensures) (c .before .before .before .before .before .before .before .with-numbers .ensures) (c .before .before .before .order .ensures .0) (c .before .before .before .order .ensures .1)
+returns c = ordered _ (c .before .before .before .before .before .before .before .before .before .before .before .before .before .before .before .pre) (c .before .before .before .before .before .before .before .before .before .before .gateways .ensures) (c .before .before .before .before .before .before .before .before .before .zeros .ensures) (c .before .before .before .before .before .before .before .order .ensures .1) _ _ _ _ (c .before .before .before .order2 .ensures .0) (c .before .before .before .order2 .ensures .1)
 
 pub with-order-spec : {M : Type 1} → statement M
 with-order-spec =
@@ -40,11 +39,11 @@ with-order-spec =
     (tie.spec
     gateways-requires
     cast-n
-    numbers-requires
-    slice-aggregate-with-numbers
-    with-numbers-requires
-    array-share-prefix-numbers
+    zeros-requires
     slice-aggregate-order
     order-requires
+    array-share-prefix-numbers
+    slice-aggregate-order-2
+    order-requires-2
     same-length
     returns)

@@ -1,0 +1,23 @@
+use Rattle.plan.proofs.Refusing.{plan-number}
+use borrow.Author.Needs.{needs}
+use Rattle.plan.proofs.refusal_of.Statement.{statement}
+use Rattle.plan.proofs.refusal_of.Tie as tie
+
+gateways-requires : tie.Need-gateways-requires
+gateways-requires c κs = search needs
+
+cast-n : tie.Need-cast-n
+cast-n c = search needs
+
+either-requires : tie.Need-either-requires
+either-requires c κs = search needs
+
+refusal-then-requires : tie.Need-refusal-then-requires
+refusal-then-requires c κs = search needs
+
+returns : tie.Need-returns
+returns c = plan-number _ _ _ (c .before .before .gateways .ensures) (c .before .either .ensures) (c .refusal-then .ensures)
+
+pub refusal-of-spec : {M : Type 1} → statement M
+refusal-of-spec =
+    tie.close (tie.spec gateways-requires cast-n either-requires refusal-then-requires returns)
