@@ -1,20 +1,20 @@
 // The largest plant: 1,024 gateways, 8,192 links, each made by a call of link, placed to the end and read.
 use crate::lines;
-use crate::lists;
+use crate::parts;
 use planner::Answer;
 use planner::Small;
 
 // The i-th link of 8,192: each gateway to the eight after it.
 fn linked(s: Small, links: &mut [u16], order: &[u16], holders: &[u16], i: u16) -> Answer {
-    let a = i % 1024;
-    let b = (a + i / 1024 + 1) % 1024;
+    let a = i % lists::GATEWAYS;
+    let b = (a + i / lists::GATEWAYS + 1) % lists::GATEWAYS;
     s.link(links, order, holders, a, b)
 }
 
 fn fill(s: Small, links: &mut [u16], order: &[u16], holders: &[u16]) -> Small {
     let mut now = s;
     let mut i: u16 = 0;
-    while i < 8192 {
+    while i < lists::LINKS {
         let r = linked(now, links, order, holders, i);
         now = r.small;
         i += 1;
@@ -25,7 +25,7 @@ fn fill(s: Small, links: &mut [u16], order: &[u16], holders: &[u16]) -> Small {
 fn place_all(s: Small, links: &[u16], order: &[u16], holders: &mut [u16]) -> Small {
     let mut now = s;
     let mut i: u16 = 0;
-    while i < 1024 {
+    while i < lists::GATEWAYS {
         let r = now.place(links, order, holders);
         now = r.small;
         i += 1;
@@ -33,26 +33,18 @@ fn place_all(s: Small, links: &[u16], order: &[u16], holders: &mut [u16]) -> Sma
     now
 }
 
-// How many of a leader list's first n entries are not 65535.
-fn covered(leaders: &[u16]) -> u64 {
-    let mut count: u64 = 0;
-    let mut i: usize = 0;
-    while i < leaders.len() {
-        if leaders[i] != 65535 {
-            count += 1;
-        }
-        i += 1;
-    }
-    count
+// All but those alone.
+fn covered(leaders: &[u16]) -> u16 {
+    lists::GATEWAYS - lists::counts::count_of(lists::GATEWAYS, leaders, lists::NONE)
 }
 
 fn one_more_link(s: Small, links: &mut [u16], order: &[u16], holders: &[u16]) {
     lines::text(b"8192 links:");
     lines::small(s);
-    lines::part(links, 16382, 16386);
+    lines::four(links, 16382);
     let r = s.link(links, order, holders, 0, 512);
     lines::answer(b"\none more link", r);
-    lines::part(links, 16382, 16386);
+    lines::four(links, 16382);
     lines::end();
 }
 
@@ -65,18 +57,18 @@ fn one_more_placing(s: Small, links: &[u16], order: &[u16], holders: &mut [u16])
 }
 
 fn show_read(s: Small, links: &[u16], order: &[u16], holders: &[u16]) {
-    let mut leaders = lists::large(65535);
-    let mut choke = [9u8; 1024];
+    let mut leaders = parts::large(lists::NONE);
+    let mut choke = lists::marks::bytes(9);
     let r = s.read(links, order, holders, &mut leaders, &mut choke);
     lines::answer(b"read", r);
     lines::text(b" | covered");
-    lines::number(covered(&leaders));
-    lines::part(&leaders, 1022, 1026);
+    lines::number(covered(&leaders) as u64);
+    lines::four(&leaders, 1022);
     lines::end();
 }
 
 fn prepare(links: &mut [u16], order: &mut [u16], holders: &mut [u16]) -> Small {
-    let opened = Small::open(1024, 2, links, order, holders);
+    let opened = Small::open(lists::GATEWAYS, lists::LOWEST, links, order, holders);
     fill(opened.small, links, order, holders)
 }
 
@@ -89,8 +81,8 @@ fn whole(links: &mut [u16], order: &mut [u16], holders: &mut [u16]) {
 }
 
 pub(crate) fn run() {
-    let mut links = lists::large_links(9);
-    let mut order = lists::large(9);
-    let mut holders = lists::large(9);
+    let mut links = parts::large_links(9);
+    let mut order = parts::large(9);
+    let mut holders = parts::large(9);
     whole(&mut links, &mut order, &mut holders);
 }

@@ -1,5 +1,5 @@
 // Prints what a call gave.
-use crate::lists;
+use crate::parts;
 use planner::Answer;
 use planner::Small;
 
@@ -40,25 +40,21 @@ pub(crate) fn answer(label: &[u8], a: Answer) {
     small(s);
 }
 
-fn wide(x: u16) -> u64 {
-    x as u64
-}
-
 pub(crate) fn list(l: &[u16]) {
     bar();
     let mut i: usize = 0;
     while i < l.len() {
-        number(wide(l[i]));
+        number(parts::wide(l[i]));
         i += 1;
     }
 }
 
-// The entries from place a up to place e.
-pub(crate) fn part(l: &[u16], a: usize, e: usize) {
-    list(lists::between(l, a, e));
+// The four entries from a place on.
+pub(crate) fn four(l: &[u16], start: usize) {
+    list(parts::front(parts::rest(l, start), 4));
 }
 
-fn kept(same: bool) {
+pub(crate) fn kept(same: bool) {
     if same {
         text(b" | kept\n");
     } else {
@@ -69,16 +65,13 @@ fn kept(same: bool) {
 // A list after a call, and whether it is as it came.
 pub(crate) fn after(l: &[u16], came: &[u16]) {
     list(l);
-    kept(lists::same(l, came));
+    kept(parts::digest(l) == parts::digest(came));
 }
 
 // The same of two lists that came alike.
 pub(crate) fn after_two(a: &[u16], b: &[u16], came: &[u16]) {
     list(a);
     list(b);
-    kept(lists::same(a, came) && lists::same(b, came));
-}
-
-pub(crate) fn after_digest(l: &[u16], came: u64) {
-    kept(came == lists::digest(l));
+    let before = parts::digest(came);
+    kept(parts::digest(a) == before && parts::digest(b) == before);
 }

@@ -4,10 +4,10 @@
 mod full;
 mod lines;
 mod linking;
-mod lists;
 mod membering;
 mod opening;
 mod ordering;
+mod parts;
 mod placing;
 mod reading;
 mod script;

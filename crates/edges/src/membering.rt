@@ -1,6 +1,6 @@
 // Members: its refusals, the part handed back, and the lent list after it. The leader list of 01's listing.
 use crate::lines;
-use crate::lists;
+use crate::parts;
 use planner::members;
 
 fn show(leaders: &[u16], leader: u16, out: &mut [u16]) {
@@ -13,15 +13,15 @@ pub(crate) fn case(label: &[u8], a: &[u16]) {
     let leaders = [0u16, 1, 1, 0, 0];
     let came = [9u16; 3];
     let mut out = came;
-    let room = lists::place(a, 3);
+    let room = parts::place(a, 3);
     lines::refusal(
         label,
-        members::members_refusal(&leaders, lists::number(a, 2), room),
+        members::members_refusal(&leaders, lists::entry(a, 2), room),
     );
     show(
         &leaders,
-        lists::number(a, 2),
-        lists::front_mut(&mut out, room),
+        lists::entry(a, 2),
+        parts::front_mut(&mut out, room),
     );
     lines::after(&out, &came);
 }

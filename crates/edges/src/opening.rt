@@ -1,6 +1,6 @@
 // Open: its refusals in turn, and what it writes. Each list has two places more than the gateways need.
 use crate::lines;
-use crate::lists;
+use crate::parts;
 use planner::Small;
 
 // n, T, the order's length and the holders' length
@@ -10,11 +10,11 @@ pub(crate) fn case(label: &[u8], a: &[u16]) {
     let mut holders = came;
     let links = [7u16; 4];
     let r = Small::open(
-        lists::number(a, 2),
-        lists::byte(a, 3),
+        lists::entry(a, 2),
+        parts::byte(a, 3),
         &links,
-        lists::front_mut(&mut order, lists::place(a, 4)),
-        lists::front_mut(&mut holders, lists::place(a, 5)),
+        parts::front_mut(&mut order, parts::place(a, 4)),
+        parts::front_mut(&mut holders, parts::place(a, 5)),
     );
     lines::answer(label, r);
     lines::after_two(&order, &holders, &came);
@@ -22,19 +22,19 @@ pub(crate) fn case(label: &[u8], a: &[u16]) {
 
 // n and the length of both lists
 pub(crate) fn large(label: &[u8], a: &[u16]) {
-    let mut order = lists::large(7);
-    let mut holders = lists::large(7);
+    let mut order = parts::large(7);
+    let mut holders = parts::large(7);
     let links = [7u16; 4];
-    let len = lists::place(a, 3);
+    let len = parts::place(a, 3);
     let r = Small::open(
-        lists::number(a, 2),
-        16,
+        lists::entry(a, 2),
+        lists::HIGHEST,
         &links,
-        lists::front_mut(&mut order, len),
-        lists::front_mut(&mut holders, len),
+        parts::front_mut(&mut order, len),
+        parts::front_mut(&mut holders, len),
     );
     lines::answer(label, r);
-    lines::part(&order, 1022, 1026);
-    lines::part(&holders, 1022, 1026);
+    lines::four(&order, 1022);
+    lines::four(&holders, 1022);
     lines::end();
 }

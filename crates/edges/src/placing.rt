@@ -1,6 +1,6 @@
 // Place: its refusals, 01's listing step by step, and a placing that moves several holders.
 use crate::lines;
-use crate::lists;
+use crate::parts;
 use planner::Small;
 
 // n, T and k of 01's listing, which is fully placed but for k
@@ -10,10 +10,10 @@ pub(crate) fn case(label: &[u8], a: &[u16]) {
     let came = [2u16, 2, 1, 0, 0, 9, 9, 9];
     let mut holders = came;
     let s = Small {
-        n: lists::number(a, 2),
-        t: lists::byte(a, 3),
+        n: lists::entry(a, 2),
+        t: parts::byte(a, 3),
         m: 4,
-        k: lists::number(a, 4),
+        k: lists::entry(a, 4),
     };
     let r = s.place(&links, &order, &mut holders);
     lines::answer(label, r);
@@ -36,18 +36,18 @@ fn place_each(label: &[u8], first: Small, links: &[u16], order: &[u16], holders:
 
 // n, m, eight places of order and seven links
 pub(crate) fn steps(label: &[u8], a: &[u16]) {
-    let mut holders = [65535u16; 8];
+    let mut holders = [lists::NONE; 8];
     let s = Small {
-        n: lists::number(a, 2),
+        n: lists::entry(a, 2),
         t: 2,
-        m: lists::number(a, 3),
+        m: lists::entry(a, 3),
         k: 0,
     };
     place_each(
         label,
         s,
-        lists::between(a, 12, 26),
-        lists::between(a, 4, 12),
+        parts::rest(a, 12),
+        parts::rest(a, 4),
         &mut holders,
     );
 }

@@ -1,26 +1,20 @@
 // Read: its refusals in turn, and what it writes. The record: the path 0-1, 1-2, with the holders told; fully placed, 1 holds 0 and 2, 0 holds 1.
 use crate::lines;
-use crate::lists;
+use crate::parts;
 use planner::Small;
 
 fn front_bytes(list: &mut [u8], len: usize) -> &mut [u8] {
     if len <= list.len() {
-        return &mut list[..len];
+        return &mut list[0..len];
     }
     list
 }
 
-fn put(b: u8, i: usize, numbers: &mut [u16]) {
-    if i < numbers.len() {
-        numbers[i] = b as u16;
-    }
-}
-
-// Choke bytes as numbers, as far as both lists go.
+// Five choke bytes as numbers.
 fn widen(bytes: &[u8], numbers: &mut [u16]) {
-    let mut i: usize = 0;
-    while i < bytes.len() {
-        put(bytes[i], i, numbers);
+    let mut i: u16 = 0;
+    while i < 5 {
+        lists::put(numbers, i, lists::byte(bytes, i as usize) as u16);
         i += 1;
     }
 }
@@ -31,9 +25,9 @@ fn show(leaders: &[u16], choke: &[u8], shown: usize) {
     let mut numbers = came;
     widen(choke, &mut numbers);
     lines::after_two(
-        lists::front(leaders, shown),
-        lists::front(&numbers, shown),
-        lists::front(&came, shown),
+        parts::front(leaders, shown),
+        parts::front(&numbers, shown),
+        parts::front(&came, shown),
     );
 }
 
@@ -45,17 +39,17 @@ pub(crate) fn case(label: &[u8], a: &[u16]) {
     let mut choke = [9u8; 5];
     let s = Small {
         n: 3,
-        t: lists::byte(a, 2),
+        t: parts::byte(a, 2),
         m: 2,
-        k: lists::number(a, 3),
+        k: lists::entry(a, 3),
     };
     let r = s.read(
         &links,
         &order,
-        lists::between(a, 6, 9),
-        lists::front_mut(&mut leaders, lists::place(a, 4)),
-        front_bytes(&mut choke, lists::place(a, 5)),
+        parts::rest(a, 6),
+        parts::front_mut(&mut leaders, parts::place(a, 4)),
+        front_bytes(&mut choke, parts::place(a, 5)),
     );
     lines::answer(label, r);
-    show(&leaders, &choke, lists::place(a, 9));
+    show(&leaders, &choke, parts::place(a, 9));
 }

@@ -1,7 +1,6 @@
 // The script of cases: walked line by line, its numbers read, each call made.
 use crate::full;
 use crate::linking;
-use crate::lists;
 use crate::membering;
 use crate::opening;
 use crate::ordering;
@@ -62,7 +61,7 @@ fn read(text: &[u8], numbers: &mut [u16]) {
 
 // The first entry is of no use. The second says what is called, and the call's own numbers follow. The largest plant has labels of its own.
 fn call(label: &[u8], a: &[u16]) {
-    let which = lists::number(a, 1);
+    let which = lists::entry(a, 1);
     match which {
         1 => opening::case(label, a),
         2 => opening::large(label, a),
@@ -73,8 +72,8 @@ fn call(label: &[u8], a: &[u16]) {
         7 => reading::case(label, a),
         8 => membering::case(label, a),
         9 => soundness::case(label, a),
-        10 => soundness::gateways(label, a),
-        11 => soundness::many_links(label, a),
+        10 => soundness::large(label, lists::entry(a, 2), 0),
+        11 => soundness::large(label, 4, lists::entry(a, 2)),
         _ => full::run(),
     }
 }

@@ -1,5 +1,5 @@
 -- The parts of the listing's lines: what a line lists, the number covered, and the loops that put them.
-use Prim.Native.Nat.{ℕ, _+_, _-_, _<_, _≤_}
+use Prim.Native.Nat.{ℕ, _+_, _-_, _<_}
 use mathlib.Core.Path.{_≡_, refl, sym, ap, _∙_}
 use mathlib.Core.Bool.{Bool, true, cond}
 use mathlib.Core.List.{List, [], _∷_, _++_}
@@ -10,7 +10,7 @@ use Rattle.packing.specs.Count.{count}
 use Rattle.packing.specs.Lists.{listWhere}
 use Rattle.packing.specs.Plant.{at}
 use Rattle.packing.specs.Grouping.{membersOf, isAlone}
-use Rattle.packing.proofs.Sums.{count-all, count-bound, count-split}
+use Rattle.packing.proofs.Sums.{count-all, count-split}
 use Rattle.report.specs.declared.listed.Which.{Which}
 use Rattle.report.specs.Text.{wordGateways, wordLimit, wordCovered, wordLead, wordMembers, spaced, field, line, coveredCount, lineOne, leadLine, leadLines}
 use Rattle.report.specs.Pre.{Near, Put, isListed}
@@ -20,10 +20,6 @@ use Rattle.report.proofs.Digits.{listed-grows}
 -- a test by what a line lists
 pub listed-as : {w x : Which} (leaders choke : List ℕ) (v : ℕ) {b : Bool} → w ≡ x → b ≡ isListed x leaders choke v → b ≡ isListed w leaders choke v
 listed-as leaders choke v e f = rw e f
-
--- a count is at most n
-pub counted-few : (n : ℕ) (p : ℕ → Bool) {k : ℕ} → k ≡ count n p → k ≤ n
-counted-few n p e = omega (arith, count-bound n p)
 
 -- all but those alone are covered
 pub covered-rest : (n : ℕ) (leaders : List ℕ) {k : ℕ} → k ≡ count n (isAlone (at leaders)) → n - k ≡ coveredCount n leaders

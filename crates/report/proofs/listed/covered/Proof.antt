@@ -1,5 +1,6 @@
 use borrow.Author.Needs.{needs}
-use Rattle.report.proofs.LineParts.{counted-few, covered-rest}
+use Rattle.packing.proofs.Sums.{count-bound}
+use Rattle.report.proofs.LineParts.{covered-rest}
 use Rattle.report.proofs.listed.covered.Statement.{statement}
 use Rattle.report.proofs.listed.covered.Tie as tie
 
@@ -7,7 +8,7 @@ count-of-requires : tie.Need-count-of-requires
 count-of-requires c κs = search needs
 
 sub-result : tie.Need-sub-result
-sub-result c = counted-few _ _ (c .count-of .ensures)
+sub-result c = rw (c .count-of .ensures) (count-bound _ _)
 
 returns : tie.Need-returns
 returns c = covered-rest _ _ (c .count-of .ensures)

@@ -2,8 +2,8 @@
 use borrow.Author.Needs.{needs}
 use Prim.Native.Nat.{_≤_, _<_, _-_}
 use lib.ListN.{length}
-use Rattle.edges.proofs.lists.digest.Statement.{statement}
-use Rattle.edges.proofs.lists.digest.Tie as tie
+use Rattle.edges.proofs.parts.digest.Statement.{statement}
+use Rattle.edges.proofs.parts.digest.Tie as tie
 
 abbrev Inv-loop : tie.InvT-loop
 Inv-loop list sum₀ i₀ sum i = (i ≤ length list) × (sum < 1000003)

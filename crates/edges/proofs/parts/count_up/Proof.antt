@@ -3,8 +3,8 @@ use borrow.Author.Needs.{needs}
 use Prim.Native.Nat.{_≤_, _-_}
 use mathlib.Core.Path.{_≡_}
 use lib.ListN.{length}
-use Rattle.edges.proofs.lists.count_up.Statement.{statement}
-use Rattle.edges.proofs.lists.count_up.Tie as tie
+use Rattle.edges.proofs.parts.count_up.Statement.{statement}
+use Rattle.edges.proofs.parts.count_up.Tie as tie
 
 abbrev Inv-loop : tie.InvT-loop
 Inv-loop list₀ period i₀ list i = (i ≤ length list₀) × (length list ≡ length list₀)

@@ -1,0 +1,76 @@
+// Parts of lists, filling a list, and telling lists apart.
+ghost use Prim.Native.Nat.{_<_};
+
+pub(crate) fn wide(x: u16) -> u64
+    ensures { λ r. ⌜ r < 65536 ⌝ }
+{
+    x as u64
+}
+
+// A number that tells most lists apart: a list after a call is compared with what came by it, so that no copy is needed. The lists that are printed show the rest.
+pub(crate) fn digest(list: &[u16]) -> u64 {
+    let mut sum: u64 = 0;
+    let mut i: usize = 0;
+    while i < list.len() {
+        sum = (sum * 31 + wide(list[i])) % 1000003;
+        i += 1;
+    }
+    sum
+}
+
+// A case's number as a place and as 8 bits.
+pub(crate) fn place(a: &[u16], i: u16) -> usize {
+    lists::entry(a, i) as usize
+}
+
+pub(crate) fn byte(a: &[u16], i: u16) -> u8 {
+    (lists::entry(a, i) % 256) as u8
+}
+
+// The first len entries, or the whole list where it has fewer.
+pub(crate) fn front(list: &[u16], len: usize) -> &[u16] {
+    if len <= list.len() {
+        return &list[0..len];
+    }
+    list
+}
+
+pub(crate) fn front_mut(list: &mut [u16], len: usize) -> &mut [u16] {
+    if len <= list.len() {
+        return &mut list[0..len];
+    }
+    list
+}
+
+// The entries from a place on, or the whole list where it has no such place.
+pub(crate) fn rest(list: &[u16], start: usize) -> &[u16] {
+    if start <= list.len() {
+        return &list[start..];
+    }
+    list
+}
+
+// Large lists, each entry x.
+pub(crate) fn large(x: u16) -> [u16; 1100] {
+    [x; 1100]
+}
+
+pub(crate) fn large_links(x: u16) -> [u16; 16400] {
+    [x; 16400]
+}
+
+fn remainder(i: usize, period: usize) -> u16 {
+    if period == 0 {
+        return 0;
+    }
+    (i % period % 65536) as u16
+}
+
+// 0, 1, .. below a period, over and over: an order, or with 2 the same link each time.
+pub(crate) fn count_up(list: &mut [u16], period: usize) {
+    let mut i: usize = 0;
+    while i < list.len() {
+        list[i] = remainder(i, period);
+        i += 1;
+    }
+}
