@@ -1,6 +1,3 @@
--- Laws of a file's plan, by subject.
-pub mod Steps
-pub mod Pairs
-pub mod Numbers
-pub mod Accepted
-pub mod FilePlan
+-- Laws of the calls from C.
+pub mod LowFirst
+pub mod Groups

@@ -4,11 +4,11 @@ use mathlib.Core.Path.{_≡_, refl, ap, _∙_}
 use mathlib.Core.List.{List, [], _∷_, _++_}
 use native.Mathlib.Numerals.{add-one}
 use native.Mathlib.Omega.{arith}
-use lib.ListN.{length, getD, set, drop, length-set, length-append, drop-of-length-le}
-use lib.Seq.{sets, sets-eq, drop-cons}
+use lib.ListN.{length, getD, set, take, drop, length-set, length-append, drop-of-length-le}
+use lib.Seq.{sets, sets-eq, drop-cons, length-take-le}
 use Rattle.packing.specs.Lists.{written}
 use Rattle.packing.proofs.Lists.{sets-append}
-use Rattle.daemon.specs.Plan.{lowFirst}
+use Rattle.daemon.specs.Bytes.{lowFirst, Plannable}
 
 low-long : (l : List ℕ) → length (lowFirst l) ≡ 2 * length l
 unfolding lowFirst
@@ -64,7 +64,7 @@ module _ (bytes : List ℕ) (start : ℕ) (first : List ℕ) where
   ones-end {now} {i} k l = rw (drop-of-length-le bytes l) at (k .rest)
 
 -- both parts
-pub both-written : (n : ℕ) (numbers bytes lent : List ℕ) {mid new : List ℕ} → length numbers ≡ n → length bytes ≡ n → 3 * n ≤ length lent
+both-written : (n : ℕ) (numbers bytes lent : List ℕ) {mid new : List ℕ} → length numbers ≡ n → length bytes ≡ n → 3 * n ≤ length lent
     → mid ≡ sets lent 0 (lowFirst numbers) → new ≡ sets mid (2 * n) bytes → new ≡ written (3 * n) (lowFirst numbers ++ bytes) lent
 unfolding written
 both-written n numbers bytes lent {mid} {new} e f room g h =
@@ -79,3 +79,15 @@ both-written n numbers bytes lent {mid} {new} e f room g h =
 
     whole : 0 + length (lowFirst numbers ++ bytes) ≡ 3 * n
     whole = omega (arith, long)
+
+-- the first n of both lists, and the places for them
+module _ (n : ℕ) (leaders choke out : List ℕ) (p : Plannable n leaders choke out) where
+  pub numbers-places : 2 * length (take n leaders) ≤ length out
+  numbers-places = omega (arith, length-take-le n leaders (p .led), p .places)
+
+  pub bytes-places : {long : ℕ} → long ≡ length out → 2 * n + length (take n choke) ≤ long
+  bytes-places e = omega (arith, length-take-le n choke (p .choked), p .places)
+
+  pub plan-written : {mid new : List ℕ} → mid ≡ sets out 0 (lowFirst (take n leaders)) → new ≡ sets mid (2 * n) (take n choke) → new ≡ written (3 * n) (lowFirst (take n leaders) ++ take n choke) out
+  plan-written g h =
+      both-written n (take n leaders) (take n choke) out (length-take-le n leaders (p .led)) (length-take-le n choke (p .choked)) (p .places) g h

@@ -10,6 +10,6 @@ lowFirst (x ∷ xs) = x % 256 ∷ x / 256 ∷ lowFirst xs
 
 -- n leaders and n choke bytes, and 3n places for them
 pub record Plannable (n : ℕ) (leaders choke out : List ℕ) : Type 0 where
-  pub leaders : n ≤ length leaders
-  pub choke : n ≤ length choke
+  pub led : n ≤ length leaders
+  pub choked : n ≤ length choke
   pub places : 3 * n ≤ length out

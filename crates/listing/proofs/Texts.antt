@@ -7,13 +7,13 @@ use native.Mathlib.Omega.{arith}
 use lib.Dec.{eqb, ltb, leb}
 use lib.ListN.{length, take, replicate, length-replicate}
 use lib.Seq.{sets, length-sets, length-take-le}
-use Rattle.packing.specs.Plant.{linked}
+use Rattle.packing.specs.Plant.{GATEWAYS, LINKS, LOWEST, HIGHEST, linked}
 use Rattle.packing.specs.Orders.{repeatsOrOutside}
 use Rattle.packing.specs.Refusals.{refuse, firstOf}
-use Rattle.plant_file.specs.PlantFile.{number, fileN, fileT, fileM, fileLinks, fileOrder, beginsPLT, endsRefusal, linksRefusal, fileRefusal}
+use Rattle.plant_file.specs.PlantFile.{number, fileN, fileT, fileM, fileLinks, fileOrder, beginsPLT, endsRefusal, linksRefusal, fileRefusal, fileThenShort}
 use Rattle.plant_file.proofs.Accepted.{file-fits}
-use Rattle.daemon.specs.Plan.{planRefusal, planLeaders, planChoke}
-use Rattle.daemon.proofs.Numbers.{plan-room}
+use Rattle.plan.specs.Plan.{planRefusal, planLeaders, planChoke}
+use Rattle.plan.proofs.Refusing.{plan-places}
 use Rattle.report.specs.Text as text
 use Rattle.report.proofs.Lengths.{listing-short, refused-length}
 use Rattle.listing.specs.Listed.{textBy, fileText}
@@ -41,15 +41,15 @@ file-small file =
     refuse-small (ltb (length file) 10) (omega arith)
     (refuse-small (not (beginsPLT file)) (omega arith)
     (refuse-small (not (eqb (number file 3) 1)) (omega arith)
-    (refuse-small (ltb 1024 (fileN file)) (omega arith)
-    (refuse-small (ltb (fileT file) 2 || ltb 16 (fileT file)) (omega arith)
-    (refuse-small (ltb 8192 (fileM file)) (omega arith)
+    (refuse-small (ltb GATEWAYS (fileN file)) (omega arith)
+    (refuse-small (ltb (fileT file) LOWEST || ltb HIGHEST (fileT file)) (omega arith)
+    (refuse-small (ltb LINKS (fileM file)) (omega arith)
     (refuse-small (not (eqb (length file) (10 + 4 * fileM file + 2 * fileN file))) (omega arith)
     (first-small (linksRefusal (fileN file) [] (fileLinks file)) (links-small (fileN file) [] (fileLinks file))
     (refuse-small (repeatsOrOutside (fileN file) (fileOrder file)) (omega arith) (omega arith)))))))))
 
 pub plan-small : (file : List ℕ) (ls cs : ℕ) {e : ℕ} → e ≡ planRefusal file ls cs → e ≤ 20
-unfolding planRefusal
+unfolding planRefusal fileThenShort
 plan-small file ls cs g = rw g (first-small (fileRefusal file) (file-small file) (refuse-small (ltb ls (fileN file) || ltb cs (fileN file)) (omega arith) (omega arith)))
 
 text-refused : (e : ℕ) (listing : List ℕ) → (e ≡ 0 → ⊥) → textBy e listing ≡ text.refusedLine e
@@ -80,7 +80,7 @@ text-short file = by (planRefusal file 1024 1024) refl
   where
     by : (e : ℕ) → planRefusal file 1024 1024 ≡ e
         → length (textBy e (text.listing (fileN file) (fileT file) (planLeaders file (replicate 1024 0) (replicate 1024 0)) (planChoke file (replicate 1024 0) (replicate 1024 0)))) ≤ 16437
-    by zero g = listing-short _ _ _ _ (file-fits file (plan-room file 1024 1024 refl g .0) .few)
+    by zero g = listing-short _ _ _ _ (file-fits file (plan-places file 1024 1024 refl g .0) .few)
     by (suc e) g = omega (arith, refused-length (suc e))
 
 module _ (file out : List ℕ) {r : ℕ} {new : List ℕ} (e : out ≡ replicate 16437 0) (f : r ≡ length (fileText file)) (g : new ≡ sets out 0 (fileText file)) where

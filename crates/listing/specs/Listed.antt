@@ -3,7 +3,7 @@ use Prim.Native.Nat.{ℕ, zero, suc}
 use mathlib.Core.List.{List}
 use lib.ListN.{replicate}
 use Rattle.plant_file.specs.PlantFile.{fileN, fileT}
-use Rattle.daemon.specs.Plan.{planRefusal, planLeaders, planChoke}
+use Rattle.plan.specs.Plan.{planRefusal, planLeaders, planChoke}
 use Rattle.report.specs.Text as text
 
 -- "A refused file gives the one line "refused", a space and the number"

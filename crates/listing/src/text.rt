@@ -16,9 +16,9 @@ pub(crate) fn write(file: &[u8], out: &mut [u8]) -> usize
     ensures count { λ r. ⌜ r ≡ length (fileText (now (file .entry))) ⌝ }
     ensures out { λ _. ⌜ now (out .exit) ≡ sets (now (out .entry)) 0 (fileText (now (file .entry))) ⌝ }
 {
-    let mut leaders = daemon::lists::numbers();
-    let mut choke = daemon::lists::bytes();
-    let refusal = daemon::plan_lists(file, &mut leaders, &mut choke);
+    let mut leaders = lists::marks::zeros();
+    let mut choke = lists::marks::bytes(0);
+    let refusal = plan::plan_lists(file, &mut leaders, &mut choke);
     if refusal != 0 {
         return report::refused(refusal as u16, out);
     }

@@ -1,5 +1,5 @@
 -- The plan of an accepted file: what its calls tell, what is written, and the claim of specs/Claim.antt.
-use Prim.Native.Nat.{ℕ, _*_, _≤_}
+use Prim.Native.Nat.{ℕ, zero, suc, _≤_}
 use mathlib.Core.Path.{_≡_, refl, sym, ap, _∙_}
 use mathlib.Core.List.{List, _++_, append-nil}
 use native.Mathlib.Omega.{arith}
@@ -17,6 +17,7 @@ use Rattle.planner.proofs.Agree.{Agrees, same-number, run-agrees, open-agrees}
 use Rattle.planner.proofs.Demands.{demand-two, demand-three}
 use Rattle.plant_file.specs.PlantFile.{fileN, fileT, fileLinks, fileRefusal}
 use Rattle.plant_file.proofs.Accepted.{file-fits}
+use Rattle.plant_file.proofs.Refusing.{then-file}
 use Rattle.plan.specs.Plan.{fileCalls, fileState, planRefusal, planLeaders, planChoke, fileLeaders, fileChoke}
 use Rattle.plan.specs.Claim.{FilePlan}
 use Rattle.plan.proofs.Refusing.{plan-alone, plan-places}
@@ -82,6 +83,15 @@ module _ (file : List ℕ) (z : fileRefusal file ≡ 0) where
 
   own-room : {l : List ℕ} → l ≡ own → fileN file ≤ length l
   own-room e = rw (e, length-replicate) (file-fits file z .few)
+
+-- with lists of 1,024 entries the file's number stands alone: it is 1 or an earlier one where n is above
+pub plan-own : (file : List ℕ) {a b : List ℕ} → a ≡ own → b ≡ own → planRefusal file (length a) (length b) ≡ fileRefusal file
+unfolding planRefusal
+plan-own file {a} {b} ea eb = go (fileRefusal file) refl
+  where
+    go : (e : ℕ) → fileRefusal file ≡ e → planRefusal file (length a) (length b) ≡ fileRefusal file
+    go zero z = plan-alone file (length a) (length b) (own-room file z ea) (own-room file z eb)
+    go (suc e) z = sym (then-file file _ refl (λ q. omega arith))
 
 -- a list whose first n entries are a front
 pub record Front (n : ℕ) (front l : List ℕ) : Type 0 where

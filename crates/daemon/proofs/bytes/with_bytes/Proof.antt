@@ -1,8 +1,7 @@
--- `with_bytes` meets its contract: the laws of Pairs.
 use borrow.Author.Needs.{needs}
 use Prim.Native.Nat.{_-_}
 use lib.ListN.{length}
-use Rattle.daemon.proofs.Pairs.{Ones, ones-start, ones-turn, ones-end}
+use Rattle.daemon.proofs.LowFirst.{Ones, ones-start, ones-turn, ones-end}
 use Rattle.daemon.proofs.bytes.with_bytes.Statement.{statement}
 use Rattle.daemon.proofs.bytes.with_bytes.Tie as tie
 

@@ -1,9 +1,8 @@
--- `with_numbers` meets its contract: the laws of Pairs.
 use borrow.Author.Needs.{needs}
 use Prim.Native.Nat.{_-_}
 use mathlib.Core.Path.{refl}
 use lib.ListN.{length}
-use Rattle.daemon.proofs.Pairs.{Twos, twos-start, twos-turn, twos-room, twos-end}
+use Rattle.daemon.proofs.LowFirst.{Twos, twos-start, twos-turn, twos-room, twos-end}
 use Rattle.daemon.proofs.bytes.with_numbers.Statement.{statement}
 use Rattle.daemon.proofs.bytes.with_numbers.Tie as tie
 

@@ -1,12 +1,11 @@
--- `write` meets its contract: the laws of Texts.
 use native.Mathlib.Omega.{arith}
 use Rattle.listing.proofs.Texts.{plan-small, write-refused, write-listing}
 use borrow.Author.Needs.{needs}
 use Rattle.listing.proofs.text.write.Statement.{statement}
 use Rattle.listing.proofs.text.write.Tie as tie
 
-numbers-requires : tie.Need-numbers-requires
-numbers-requires c κs = search needs
+zeros-requires : tie.Need-zeros-requires
+zeros-requires c κs = search needs
 
 bytes-requires : tie.Need-bytes-requires
 bytes-requires c κs = search needs
@@ -30,7 +29,7 @@ same-length : tie.Need-same-length
 same-length c = search needs
 
 returns : tie.Need-returns
-returns c = write-refused _ _ (c .before .before .before .before .before .before .before .before .before .before .before .numbers .ensures) (c .before .before .before .before .before .before .before .before .before .before .bytes .ensures) (c .before .before .before .before .before .before .before .plan-lists .ensures .0) (c .before .before .before .before .if1 .taken) (c .before .before .refused .ensures .0) (c .before .before .refused .ensures .1)
+returns c = write-refused _ _ (c .before .before .before .before .before .before .before .before .before .before .before .zeros .ensures) (c .before .before .before .before .before .before .before .before .before .before .bytes .ensures) (c .before .before .before .before .before .before .before .plan-lists .ensures .0) (c .before .before .before .before .if1 .taken) (c .before .before .refused .ensures .0) (c .before .before .refused .ensures .1)
 
 gateways-requires : tie.Need-gateways-requires
 gateways-requires c κs = search needs
@@ -51,13 +50,13 @@ same-length-2 : tie.Need-same-length-2
 same-length-2 c = search needs
 
 returns-2 : tie.Need-returns-2
-returns-2 c = write-listing _ _ (c .before .before .before .before .before .before .before .before .before .before .before .before .before .before .before .numbers .ensures) (c .before .before .before .before .before .before .before .before .before .before .before .before .before .before .bytes .ensures) (c .before .before .before .before .before .before .before .before .before .before .before .plan-lists .ensures .0) (c .before .before .before .before .before .before .before .before .if1 .left) (c .before .before .before .before .before .before .before .gateways .ensures) (c .before .before .before .before .before .before .limit .ensures) (c .before .before .before .before .before .before .before .before .before .before .before .plan-lists .ensures .1 .0) (c .before .before .before .before .before .before .before .before .before .before .before .plan-lists .ensures .1 .1) (c .before .before .listing .ensures .0) (c .before .before .listing .ensures .1)
+returns-2 c = write-listing _ _ (c .before .before .before .before .before .before .before .before .before .before .before .before .before .before .before .zeros .ensures) (c .before .before .before .before .before .before .before .before .before .before .before .before .before .before .bytes .ensures) (c .before .before .before .before .before .before .before .before .before .before .before .plan-lists .ensures .0) (c .before .before .before .before .before .before .before .before .if1 .left) (c .before .before .before .before .before .before .before .gateways .ensures) (c .before .before .before .before .before .before .limit .ensures) (c .before .before .before .before .before .before .before .before .before .before .before .plan-lists .ensures .1 .0) (c .before .before .before .before .before .before .before .before .before .before .before .plan-lists .ensures .1 .1) (c .before .before .listing .ensures .0) (c .before .before .listing .ensures .1)
 
 pub write-spec : {M : Type 1} → statement M
 write-spec =
     tie.close
     (tie.spec
-    numbers-requires
+    zeros-requires
     bytes-requires
     slice-aggregate-plan-lists
     slice-aggregate-plan-lists-2

@@ -1,0 +1,61 @@
+use Rattle.daemon.proofs.Groups.{plan-refuses, plannable, plan-accepts}
+use borrow.Author.Needs.{needs}
+use Rattle.daemon.proofs.write_plan.Statement.{statement}
+use Rattle.daemon.proofs.write_plan.Tie as tie
+
+zeros-requires : tie.Need-zeros-requires
+zeros-requires c κs = search needs
+
+bytes-requires : tie.Need-bytes-requires
+bytes-requires c κs = search needs
+
+slice-aggregate-plan-lists : tie.Need-slice-aggregate-plan-lists
+slice-aggregate-plan-lists c = search needs
+
+slice-aggregate-plan-lists-2 : tie.Need-slice-aggregate-plan-lists-2
+slice-aggregate-plan-lists-2 c = search needs
+
+plan-lists-requires : tie.Need-plan-lists-requires
+plan-lists-requires c κs = search needs
+
+returns : tie.Need-returns
+returns c = plan-refuses _ (c .before .before .before .before .before .before .before .zeros .ensures) (c .before .before .before .before .before .before .bytes .ensures) (c .before .before .before .plan-lists .ensures .0) _ (c .if1 .taken)
+
+gateways-requires : tie.Need-gateways-requires
+gateways-requires c κs = search needs
+
+cast-with-plan : tie.Need-cast-with-plan
+cast-with-plan c = search needs
+
+slice-aggregate-with-plan : tie.Need-slice-aggregate-with-plan
+slice-aggregate-with-plan c = search needs
+
+slice-aggregate-with-plan-2 : tie.Need-slice-aggregate-with-plan-2
+slice-aggregate-with-plan-2 c = search needs
+
+with-plan-requires : tie.Need-with-plan-requires
+with-plan-requires c κs = plannable _ (c .before .before .before .before .before .before .before .before .before .before .before .zeros .ensures) (c .before .before .before .before .before .before .before .before .before .before .bytes .ensures) (c .before .before .before .before .before .before .before .plan-lists .ensures .0) (c .before .before .before .before .if1 .left) (c .before .before .before .gateways .ensures) (c .before .before .before .before .before .before .before .plan-lists .ensures .1 .0) (c .before .before .before .before .before .before .before .plan-lists .ensures .1 .1) _ (c .before .before .before .before .before .before .before .before .before .before .before .before .before .before .pre)
+
+same-length : tie.Need-same-length
+same-length c = search needs
+
+returns-2 : tie.Need-returns-2
+returns-2 c = plan-accepts _ (c .before .before .before .before .before .before .before .before .before .before .before .before .before .before .zeros .ensures) (c .before .before .before .before .before .before .before .before .before .before .before .before .before .bytes .ensures) (c .before .before .before .before .before .before .before .before .before .before .plan-lists .ensures .0) (c .before .before .before .before .before .before .before .if1 .left) (c .before .before .before .before .before .before .gateways .ensures) (c .before .before .before .before .before .before .before .before .before .before .plan-lists .ensures .1 .0) (c .before .before .before .before .before .before .before .before .before .before .plan-lists .ensures .1 .1) _ (c .before .before .with-plan .ensures)
+
+pub write-plan-spec : {M : Type 1} → statement M
+write-plan-spec =
+    tie.close
+    (tie.spec
+    zeros-requires
+    bytes-requires
+    slice-aggregate-plan-lists
+    slice-aggregate-plan-lists-2
+    plan-lists-requires
+    returns
+    gateways-requires
+    cast-with-plan
+    slice-aggregate-with-plan
+    slice-aggregate-with-plan-2
+    with-plan-requires
+    same-length
+    returns-2)
