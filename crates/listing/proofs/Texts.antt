@@ -11,7 +11,7 @@ use Rattle.packing.specs.Plant.{GATEWAYS, LINKS, LOWEST, HIGHEST, linked}
 use Rattle.packing.specs.Orders.{repeatsOrOutside}
 use Rattle.packing.specs.Refusals.{refuse, firstOf}
 use Rattle.plant_file.specs.PlantFile.{number, fileN, fileT, fileM, fileLinks, fileOrder, beginsPLT, endsRefusal, linksRefusal, fileRefusal, fileThenShort}
-use Rattle.plant_file.proofs.Accepted.{file-fits}
+use Rattle.plant_file.proofs.Accepted.{file-allowed}
 use Rattle.plan.specs.Plan.{planRefusal, planLeaders, planChoke}
 use Rattle.plan.proofs.Refusing.{plan-places}
 use Rattle.report.specs.Text as text
@@ -80,7 +80,7 @@ text-short file = by (planRefusal file 1024 1024) refl
   where
     by : (e : ℕ) → planRefusal file 1024 1024 ≡ e
         → length (textBy e (text.listing (fileN file) (fileT file) (planLeaders file (replicate 1024 0) (replicate 1024 0)) (planChoke file (replicate 1024 0) (replicate 1024 0)))) ≤ 16437
-    by zero g = listing-short _ _ _ _ (file-fits file (plan-places file 1024 1024 refl g .0) .few)
+    by zero g = listing-short _ _ _ _ (file-allowed file (plan-places file 1024 1024 refl g .0) .few)
     by (suc e) g = omega (arith, refused-length (suc e))
 
 module _ (file out : List ℕ) {r : ℕ} {new : List ℕ} (e : out ≡ replicate 16437 0) (f : r ≡ length (fileText file)) (g : new ≡ sets out 0 (fileText file)) where

@@ -2,6 +2,7 @@
 use Prim.Native.Nat.{ℕ, zero, suc}
 use mathlib.Core.List.{List}
 use lib.ListN.{replicate}
+use Rattle.packing.specs.Plant.{GATEWAYS}
 use Rattle.plant_file.specs.PlantFile.{fileN, fileT}
 use Rattle.plan.specs.Plan.{planRefusal, planLeaders, planChoke}
 use Rattle.report.specs.Text as text
@@ -14,5 +15,5 @@ textBy (suc e) listing = text.refusedLine (suc e)
 -- the listing of the plan, read into lists with room for every plant
 unfoldable pub fileText : List ℕ → List ℕ
 fileText file =
-    textBy (planRefusal file 1024 1024)
-    (text.listing (fileN file) (fileT file) (planLeaders file (replicate 1024 0) (replicate 1024 0)) (planChoke file (replicate 1024 0) (replicate 1024 0)))
+    textBy (planRefusal file GATEWAYS GATEWAYS)
+    (text.listing (fileN file) (fileT file) (planLeaders file (replicate GATEWAYS 0) (replicate GATEWAYS 0)) (planChoke file (replicate GATEWAYS 0) (replicate GATEWAYS 0)))

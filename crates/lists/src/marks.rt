@@ -5,32 +5,32 @@ ghost use mathlib.Core.Path.{_≡_};
 ghost use mathlib.Core.Bool.{cond};
 ghost use lib.Dec.{eqb};
 ghost use lib.ListN.{set, replicate};
-ghost use Rattle.packing.specs.Plant.{NONE, at};
+ghost use Rattle.packing.specs.Plant.{GATEWAYS, ENDS, NONE, at};
 
 // Each entry 0.
 pub fn zeros() -> [u16; PLACES]
-    ensures { λ r. ⌜ r ≡ replicate 1024 0 ⌝ }
+    ensures { λ r. ⌜ r ≡ replicate GATEWAYS 0 ⌝ }
 {
     [0u16; PLACES]
 }
 
 // Each entry 0, with two places for each link.
 pub fn ends() -> [u16; ENDS]
-    ensures { λ r. ⌜ r ≡ replicate 16384 0 ⌝ }
+    ensures { λ r. ⌜ r ≡ replicate ENDS 0 ⌝ }
 {
     [0u16; ENDS]
 }
 
 // Each entry 65535.
 pub fn nones() -> [u16; PLACES]
-    ensures { λ r. ⌜ r ≡ replicate 1024 NONE ⌝ }
+    ensures { λ r. ⌜ r ≡ replicate GATEWAYS NONE ⌝ }
 {
     [65535u16; PLACES]
 }
 
 // Each byte x.
 pub fn bytes(x: u8) -> [u8; PLACES]
-    ensures { λ r. ⌜ r ≡ replicate 1024 x ⌝ }
+    ensures { λ r. ⌜ r ≡ replicate GATEWAYS x ⌝ }
 {
     [x; PLACES]
 }

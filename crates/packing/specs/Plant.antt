@@ -17,6 +17,10 @@ GATEWAYS = 1024
 abbrev pub LINKS : ℕ
 LINKS = 8192
 
+-- two places for each link
+abbrev pub ENDS : ℕ
+ENDS = 16384
+
 abbrev pub LOWEST : ℕ
 LOWEST = 2
 

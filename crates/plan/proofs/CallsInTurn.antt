@@ -23,7 +23,7 @@ use Rattle.plant_file.specs.PlantFile.{fileN, fileT, fileM, fileLinks, fileOrde
 use Rattle.plant_file.specs.Reader.{linkAt}
 use Rattle.plant_file.specs.Load.{orderWritten}
 use Rattle.plant_file.proofs.LinksByIndex.{links-long, order-long, step-at}
-use Rattle.plant_file.proofs.Accepted.{file-fits}
+use Rattle.plant_file.proofs.Accepted.{file-allowed}
 use Rattle.plan.specs.Plan.{fileCalls, fileState}
 use Rattle.plan.specs.Pre.{linkStep}
 
@@ -70,7 +70,7 @@ module _ (file : List ℕ) (z : fileRefusal file ≡ 0) {n : ℕ} (is : n ≡ fi
   -- there is a place for each number
   written-order : l ≡ written (fileN file) (fileOrder file) lent
   unfolding orderWritten
-  written-order = taken ∙ rw (le-leb (fileN file) (length lent) (rw (blank, length-replicate) (file-fits file z .few)))
+  written-order = taken ∙ rw (le-leb (fileN file) (length lent) (rw (blank, length-replicate) (file-allowed file z .few)))
 
   pub order-room : n ≤ length l
   order-room = rw (written-order, is) (written-room (fileN file) (fileOrder file) lent (order-long file))

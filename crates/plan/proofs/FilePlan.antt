@@ -16,7 +16,7 @@ use Rattle.planner.specs.Claims.{toldBy, DemandTwo, DemandThree}
 use Rattle.planner.proofs.Agree.{Agrees, same-number, run-agrees, open-agrees}
 use Rattle.planner.proofs.Demands.{demand-two, demand-three}
 use Rattle.plant_file.specs.PlantFile.{fileN, fileT, fileLinks, fileRefusal}
-use Rattle.plant_file.proofs.Accepted.{file-fits}
+use Rattle.plant_file.proofs.Accepted.{file-allowed}
 use Rattle.plant_file.proofs.Refusing.{then-file}
 use Rattle.plan.specs.Plan.{fileCalls, fileState, planRefusal, planLeaders, planChoke, fileLeaders, fileChoke}
 use Rattle.plan.specs.Claim.{FilePlan}
@@ -36,7 +36,7 @@ own-long = rw length-replicate (omega arith)
 module _ (file : List ℕ) (z : fileRefusal file ≡ 0) where
   -- what the calls tell: the file's n, T, links and order, and all n placed
   file-told : tell (beginning (fileN file) (fileT file) (length ownLinks)) (fileCalls file) ≡ placedTold file (length ownLinks) (fileN file)
-  file-told = file-tells file (length ownLinks) z (rw length-replicate (omega (arith, file-fits file z .links-few)))
+  file-told = file-tells file (length ownLinks) z (rw length-replicate (omega (arith, file-allowed file z .links-few)))
 
   file-open : openRefusal (fileN file) (fileT file) own own ≡ 0
   file-open = open-accepted file z own own own-long own-long
@@ -82,7 +82,7 @@ module _ (file : List ℕ) (z : fileRefusal file ≡ 0) where
   choke-whole = plan-choke (replicate (fileN file) 0) (replicate (fileN file) 0) zeros zeros ∙ whole (chokeByte (fileN file) (fileLinks file) (fileState file .holders))
 
   own-room : {l : List ℕ} → l ≡ own → fileN file ≤ length l
-  own-room e = rw (e, length-replicate) (file-fits file z .few)
+  own-room e = rw (e, length-replicate) (file-allowed file z .few)
 
 -- with lists of 1,024 entries the file's number stands alone: it is 1 or an earlier one where n is above
 pub plan-own : (file : List ℕ) {a b : List ℕ} → a ≡ own → b ≡ own → planRefusal file (length a) (length b) ≡ fileRefusal file

@@ -20,7 +20,7 @@ use Rattle.plant_file.specs.PlantFile.{fileN, fileT, fileM, fileLinks, fileOrde
 use Rattle.plant_file.specs.Pre.{headerRefusal}
 use Rattle.plant_file.proofs.LinksByIndex.{links-long, order-long}
 use Rattle.plant_file.proofs.Refusing.{bodyRefusal, file-parts}
-use Rattle.plant_file.proofs.Accepted.{LinkFits, file-fits, file-link-fits}
+use Rattle.plant_file.proofs.Accepted.{LinkAllowed, file-allowed, file-link-allowed}
 use Rattle.plan.specs.Plan.{fileCalls}
 
 -- an accepted call, and those after it
@@ -38,7 +38,7 @@ module _ (file : List ℕ) (z : fileRefusal file ≡ 0) where
   pub open-accepted : (os hs : List ℕ) → GATEWAYS ≤ length os → GATEWAYS ≤ length hs → openRefusal (fileN file) (fileT file) os hs ≡ 0
   unfolding openRefusal
   open-accepted os hs p q =
-      let f = file-fits file z in
+      let f = file-allowed file z in
       rw (le-ltb GATEWAYS (fileN file) (f .few), or-none _ _ (le-ltb (fileT file) LOWEST (f .least)) (le-ltb HIGHEST (fileT file) (f .most)), or-none _ _ (le-ltb (length os) (fileN file) (omega (arith, f .few))) (le-ltb (length hs) (fileN file) (omega (arith, f .few))))
 
   in-order : repeatsOrOutside (fileN file) (fileOrder file) ≡ false
@@ -54,7 +54,7 @@ module _ (file : List ℕ) (room : ℕ) where
   abbrev pub placedTold : ℕ → Told
   placedTold k = record { n = fileN file; t = fileT file; limit = common (fileT file); room = room; links = fileLinks file; m = fileM file; order = fileOrder file; placed = k }
 
-  link-accepted : (i : ℕ) → 2 * i + 2 ≤ room → i < LINKS → LinkFits (fileN file) (take (2 * i) (fileLinks file)) (at (fileLinks file) (2 * i)) (at (fileLinks file) (2 * i + 1))
+  link-accepted : (i : ℕ) → 2 * i + 2 ≤ room → i < LINKS → LinkAllowed (fileN file) (take (2 * i) (fileLinks file)) (at (fileLinks file) (2 * i)) (at (fileLinks file) (2 * i + 1))
       → refuses (linksTold i) (link (at (fileLinks file) (2 * i)) (at (fileLinks file) (2 * i + 1))) ≡ 0
   unfolding refuses linkConditions
   link-accepted i long few f =
@@ -89,7 +89,7 @@ module _ (file : List ℕ) (room : ℕ) where
         none = drop-of-length-le (fileLinks file) {i = 2 * fileM file} (omega (arith, links-long file))
     links-tell (suc j) i rest e =
         rw (pair-at (fileLinks file) (2 * i) (omega (arith, links-long file)))
-        (tells-one (linksTold i) _ _ (link-accepted i (omega arith) (omega (arith, file-fits file z .links-few)) (file-link-fits file z i (omega arith)))
+        (tells-one (linksTold i) _ _ (link-accepted i (omega arith) (omega (arith, file-allowed file z .links-few)) (file-link-allowed file z i (omega arith)))
         ∙ rw (← one-more file i (omega arith), ← twice i) (links-tell j (i + 1) rest (omega arith)))
 
     order-accepted : refuses (linksTold (fileM file)) (order (fileOrder file)) ≡ 0

@@ -4,6 +4,7 @@ use mathlib.Core.Bool.{_||_}
 use mathlib.Core.List.{List}
 use lib.Dec.{ltb}
 use lib.ListN.{length, replicate}
+use Rattle.packing.specs.Plant.{GATEWAYS, ENDS}
 use Rattle.packing.specs.Refusals.{byNumber}
 use Rattle.planner.specs.State.{State}
 use Rattle.planner.specs.Calls.{Call, readLeaders, readChoke}
@@ -17,7 +18,7 @@ fileCalls file = plantCalls (fileLinks file) (fileOrder file) (fileN file)
 
 -- the record that they make after an open with lists that have a place for every plant
 unfoldable pub fileState : List ℕ → State
-fileState file = madeBy (fileN file) (fileT file) (replicate 16384 0) (replicate 1024 0) (replicate 1024 0) (fileCalls file)
+fileState file = madeBy (fileN file) (fileT file) (replicate ENDS 0) (replicate GATEWAYS 0) (replicate GATEWAYS 0) (fileCalls file)
 
 -- the file's number, then 10: "read needs n for leaders and n for choke bytes"
 unfoldable pub planRefusal : List ℕ → ℕ → ℕ → ℕ

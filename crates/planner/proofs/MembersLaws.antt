@@ -80,9 +80,9 @@ unfolding membersRefusal
 refusal-is leaders u room e f = f ∙ ap (λ (l : List ℕ). membersConditions l u room) (listed-front leaders e)
 
 -- no refusal: the members have a place
-members-fit : (leaders : List ℕ) (u room : ℕ) {r : ℕ} → r ≡ membersRefusal leaders u room → r ≡ 0 → length (membersOf (length (listedLeaders leaders)) (at (listedLeaders leaders)) u) ≤ room
+members-room : (leaders : List ℕ) (u room : ℕ) {r : ℕ} → r ≡ membersRefusal leaders u room → r ≡ 0 → length (membersOf (length (listedLeaders leaders)) (at (listedLeaders leaders)) u) ≤ room
 unfolding membersRefusal membersConditions
-members-fit leaders u room e z =
+members-room leaders u room e z =
     let l = listedLeaders leaders in
     let first = refuse-none (not (ltb u (length l)) || not (eqb (at l u) u) || eqb (length (membersOf (length l) (at l) u)) 0) 11 _ (omega arith) (sym e ∙ z) in
     ltb-false room (length (membersOf (length l) (at l) u)) (refuse-none (ltb room (length (membersOf (length l) (at l) u))) 10 0 (omega arith) (first .1) .0)
@@ -96,7 +96,7 @@ module _ (leaders : List ℕ) (u : ℕ) (lent : List ℕ) {r : ℕ} (e : r ≡ m
   -- an accepted one
   module _ (z : r ≡ 0) {end : ℕ} (looked : end ≡ length (listedLeaders leaders)) where
     pub write-room : (length (take end leaders) ≤ 1024) × (length (membersOf (length (take end leaders)) (at (take end leaders)) u) ≤ length lent)
-    write-room = rw (listed-front leaders looked) (listed-few leaders, members-fit leaders u (length lent) e z)
+    write-room = rw (listed-front leaders looked) (listed-few leaders, members-room leaders u (length lent) e z)
 
     pub write-accepted : {out : List ℕ} {c : ℕ}
         → (c ≡ length (membersOf (length (take end leaders)) (at (take end leaders)) u)) × (out ≡ written c (membersOf (length (take end leaders)) (at (take end leaders)) u) lent)

@@ -2,13 +2,13 @@
 ghost use mathlib.Core.Path.{_≡_};
 ghost use Prim.Native.Nat.{_≤_};
 ghost use lib.ListN.{length, replicate};
-ghost use Rattle.packing.specs.Plant.{NONE};
+ghost use Rattle.packing.specs.Plant.{GATEWAYS, NONE};
 ghost use Rattle.packing.specs.Lists.{written};
 ghost use Rattle.packing.specs.Orders.{upTo};
 
 // 0, 1, .., n - 1
 pub(crate) fn with_places(n: usize, list: &mut [u16])
-    requires { ⌜ (n ≤ 1024) × (n ≤ length (now list)) ⌝ }
+    requires { ⌜ (n ≤ GATEWAYS) × (n ≤ length (now list)) ⌝ }
     ensures { λ _. ⌜ now (list .exit) ≡ written n (upTo n) (now (list .entry)) ⌝ }
 {
     let mut i: usize = 0;

@@ -6,7 +6,7 @@ ghost use mathlib.Core.Path.{_≡_};
 ghost use Prim.Native.Nat.{_≤_};
 ghost use lib.ListN.{length};
 ghost use Rattle.packing.specs.Lists.{written};
-ghost use Rattle.packing.specs.Plant.{at};
+ghost use Rattle.packing.specs.Plant.{GATEWAYS, at};
 ghost use Rattle.packing.specs.Grouping.{membersOf};
 ghost use Rattle.planner.specs.Members.{listedLeaders, membersConditions, membersRefusal, membersPart, membersList};
 
@@ -22,7 +22,7 @@ fn looked_at(leaders: &[u16]) -> usize
 
 // The first refusal by a list whose entries all count.
 fn of_listed(list: &[u16], u: u16, room: usize) -> u32
-    requires { ⌜ length (now list) ≤ 1024 ⌝ }
+    requires { ⌜ length (now list) ≤ GATEWAYS ⌝ }
     ensures { λ r. ⌜ r ≡ membersConditions (now (list .entry)) u room ⌝ }
 {
     let at = u as usize;
@@ -44,7 +44,7 @@ fn of_listed(list: &[u16], u: u16, room: usize) -> u32
 
 // Writes the members to the front of out and returns their count.
 fn write_listed(list: &[u16], u: u16, out: &mut [u16]) -> usize
-    requires { ⌜ (length (now list) ≤ 1024) × (length (membersOf (length (now list)) (at (now list)) u) ≤ length (now out)) ⌝ }
+    requires { ⌜ (length (now list) ≤ GATEWAYS) × (length (membersOf (length (now list)) (at (now list)) u) ≤ length (now out)) ⌝ }
     ensures count { λ r. ⌜ r ≡ length (membersOf (length (now (list .entry))) (at (now (list .entry))) u) ⌝ }
     ensures out { λ r. ⌜ now (out .exit) ≡ written r (membersOf (length (now (list .entry))) (at (now (list .entry))) u) (now (out .entry)) ⌝ }
 {

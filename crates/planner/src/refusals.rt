@@ -7,7 +7,7 @@ use sound::links::is_linked;
 ghost use mathlib.Core.Path.{_≡_};
 ghost use Prim.Native.Nat.{_≤_, _*_};
 ghost use lib.ListN.{length};
-ghost use Rattle.packing.specs.Plant.{firstLinks};
+ghost use Rattle.packing.specs.Plant.{GATEWAYS, firstLinks};
 ghost use Rattle.planner.specs.Refusals.{openRefusal, linkConditions, orderConditions, readConditions};
 
 pub(crate) fn of_open(n: u16, t: u8, order: &[u16], holders: &[u16]) -> u32
@@ -63,7 +63,7 @@ pub(crate) fn of_link(n: u16, k: u16, m: u16, links: &[u16], a: u16, b: u16) -> 
 
 // After 26.
 pub(crate) fn of_order(n: u16, k: u16, numbers: &[u16]) -> u32
-    requires { ⌜ n ≤ 1024 ⌝ }
+    requires { ⌜ n ≤ GATEWAYS ⌝ }
     ensures { λ r. ⌜ r ≡ orderConditions n k (now (numbers .entry)) ⌝ }
 {
     if 0 < k {

@@ -18,7 +18,7 @@ use Rattle.plant_file.specs.PlantFile.{number, fileN, fileT, fileM, file
 use Rattle.plant_file.proofs.LinksByIndex.{links-long}
 use Rattle.plant_file.proofs.LinkChecks.{onward, onward-at}
 
-pub record FileFits (file : List ℕ) : Type 0 where
+pub record FileAllowed (file : List ℕ) : Type 0 where
   pub begins : beginsPLT file ≡ true
   pub version : number file 3 ≡ 1
   pub few : fileN file ≤ GATEWAYS
@@ -29,9 +29,9 @@ pub record FileFits (file : List ℕ) : Type 0 where
   pub links : linksRefusal (fileN file) [] (fileLinks file) ≡ 0
   pub order : IsOrder (fileN file) (at (fileOrder file))
 
-pub file-fits : (file : List ℕ) → fileRefusal file ≡ 0 → FileFits file
+pub file-allowed : (file : List ℕ) → fileRefusal file ≡ 0 → FileAllowed file
 unfolding fileRefusal
-file-fits file z =
+file-allowed file z =
     let short = refuse-none (ltb (length file) 10) 9 _ (omega arith) z in
     let begins = refuse-none (not (beginsPLT file)) 7 _ (omega arith) (short .1) in
     let version = refuse-none (not (eqb (number file 3) 1)) 8 _ (omega arith) (begins .1) in
@@ -54,15 +54,15 @@ file-fits file z =
     }
 
 -- a link a-b that is not refused after the links before it
-pub record LinkFits (n : ℕ) (before : List ℕ) (a b : ℕ) : Type 0 where
+pub record LinkAllowed (n : ℕ) (before : List ℕ) (a b : ℕ) : Type 0 where
   pub first : a < n
   pub second : b < n
   pub differ : a ≡ b → ⊥
   pub new : linked before a b ≡ false
 
-ends-fit : (n : ℕ) (before : List ℕ) (a b : ℕ) → endsRefusal n before a b ≡ 0 → LinkFits n before a b
+ends-allowed : (n : ℕ) (before : List ℕ) (a b : ℕ) → endsRefusal n before a b ≡ 0 → LinkAllowed n before a b
 unfolding endsRefusal
-ends-fit n before a b z =
+ends-allowed n before a b z =
     let outside = refuse-none (leb n a || leb n b) 3 _ (omega arith) z in
     let same = refuse-none (eqb a b) 4 _ (omega arith) (outside .1) in
     let there = refuse-none (linked before a b) 20 0 (omega arith) (same .1) in
@@ -74,19 +74,19 @@ ends-fit n before a b z =
     }
 
 -- where no link is refused, none is from link i on
-onward-fits : (n : ℕ) (l : List ℕ) → linksRefusal n [] l ≡ 0 → (i : ℕ) → 2 * i ≤ length l → onward n l i ≡ 0
-onward-fits n l z zero h = z
-onward-fits n l z (suc i) h = rw (← add-one i) (next (omega arith) (onward-fits n l z i (omega arith)))
+onward-allowed : (n : ℕ) (l : List ℕ) → linksRefusal n [] l ≡ 0 → (i : ℕ) → 2 * i ≤ length l → onward n l i ≡ 0
+onward-allowed n l z zero h = z
+onward-allowed n l z (suc i) h = rw (← add-one i) (next (omega arith) (onward-allowed n l z i (omega arith)))
   where
     next : 2 * i + 1 < length l → onward n l i ≡ 0 → onward n l (i + 1) ≡ 0
     next k e = first-none (endsRefusal n (take (2 * i) l) (at l (2 * i)) (at l (2 * i + 1))) (onward n l (i + 1)) (sym (onward-at n l i k) ∙ e) .1
 
 -- link i of a list that is not refused
-pub link-fits : (n : ℕ) (l : List ℕ) → linksRefusal n [] l ≡ 0 → (i : ℕ) → 2 * i + 1 < length l → LinkFits n (take (2 * i) l) (at l (2 * i)) (at l (2 * i + 1))
-link-fits n l z i h =
-    ends-fit n _ _ _ (first-none (endsRefusal n (take (2 * i) l) (at l (2 * i)) (at l (2 * i + 1))) _ (sym (onward-at n l i h) ∙ onward-fits n l z i (omega arith)) .0)
+pub link-allowed : (n : ℕ) (l : List ℕ) → linksRefusal n [] l ≡ 0 → (i : ℕ) → 2 * i + 1 < length l → LinkAllowed n (take (2 * i) l) (at l (2 * i)) (at l (2 * i + 1))
+link-allowed n l z i h =
+    ends-allowed n _ _ _ (first-none (endsRefusal n (take (2 * i) l) (at l (2 * i)) (at l (2 * i + 1))) _ (sym (onward-at n l i h) ∙ onward-allowed n l z i (omega arith)) .0)
 
 -- every link of an accepted file
-pub file-link-fits : (file : List ℕ) → fileRefusal file ≡ 0 → (i : ℕ) → i < fileM file
-    → LinkFits (fileN file) (take (2 * i) (fileLinks file)) (at (fileLinks file) (2 * i)) (at (fileLinks file) (2 * i + 1))
-file-link-fits file z i h = link-fits (fileN file) (fileLinks file) (file-fits file z .links) i (omega (arith, links-long file))
+pub file-link-allowed : (file : List ℕ) → fileRefusal file ≡ 0 → (i : ℕ) → i < fileM file
+    → LinkAllowed (fileN file) (take (2 * i) (fileLinks file)) (at (fileLinks file) (2 * i)) (at (fileLinks file) (2 * i + 1))
+file-link-allowed file z i h = link-allowed (fileN file) (fileLinks file) (file-allowed file z .links) i (omega (arith, links-long file))

@@ -1,4 +1,4 @@
--- `with_places` meets its contract: packing's laws of lists.
+-- A loop that writes the front of a list: packing's laws of lists.
 use borrow.Author.Needs.{needs}
 use Prim.Native.Nat.{_-_}
 use mathlib.Core.Path.{refl}

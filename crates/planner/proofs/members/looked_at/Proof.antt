@@ -1,4 +1,3 @@
--- `looked_at` meets its contract.
 use Rattle.planner.proofs.MembersLaws.{listed-all, listed-most}
 use Rattle.planner.proofs.members.looked_at.Statement.{statement}
 use Rattle.planner.proofs.members.looked_at.Tie as tie

@@ -1,4 +1,4 @@
--- `members` meets its contract: the front of what `write_members` leaves.
+-- The front of what `write_members` leaves.
 use Rattle.planner.proofs.MembersLaws.{part-is, part-long}
 use borrow.Author.Needs.{needs}
 use Rattle.planner.proofs.members.members.Statement.{statement}

@@ -1,4 +1,3 @@
--- `members_refusal` meets its contract.
 use Rattle.planner.proofs.MembersLaws.{listed-long, listed-room, refusal-is}
 use borrow.Author.Needs.{needs}
 use Rattle.planner.proofs.members.members_refusal.Statement.{statement}

@@ -1,4 +1,3 @@
--- `write_members` meets its contract.
 use Rattle.planner.proofs.MembersLaws.{listed-long, write-refused, write-room, write-accepted}
 use borrow.Author.Needs.{needs}
 use Rattle.planner.proofs.members.write_members.Statement.{statement}

@@ -1,4 +1,4 @@
--- `of_link` meets its contract: each return rewrites by the tests that led there.
+-- Each return rewrites by the tests that led there.
 use mathlib.Core.Path.{sym, _∙_}
 use borrow.Author.Tests.{lt-ltb, le-ltb, lt-leb, le-leb, eq-eqb, ne-eqb}
 use lib.Seq.{length-take-le}

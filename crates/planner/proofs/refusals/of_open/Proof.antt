@@ -1,4 +1,4 @@
--- `of_open` meets its contract: each return rewrites by the tests that led there.
+-- Each return rewrites by the tests that led there.
 use borrow.Author.Tests.{lt-ltb, le-ltb}
 use Rattle.planner.specs.Refusals.{openRefusal}
 use Rattle.planner.proofs.refusals.of_open.Statement.{statement}

@@ -1,4 +1,4 @@
--- `of_order` meets its contract: each return rewrites by the tests that led there.
+-- Each return rewrites by the tests that led there.
 use mathlib.Core.Path.{_∙_}
 use borrow.Author.Tests.{lt-ltb, le-ltb, eq-eqb, ne-eqb}
 use Rattle.planner.specs.Refusals.{orderConditions}

@@ -1,4 +1,4 @@
--- `of_read` meets its contract: each return rewrites by the tests that led there.
+-- Each return rewrites by the tests that led there.
 use borrow.Author.Tests.{lt-ltb, le-ltb}
 use Rattle.planner.specs.Refusals.{readConditions}
 use Rattle.planner.proofs.refusals.of_read.Statement.{statement}
