@@ -25,8 +25,8 @@ use Rattle.packing.proofs.Placing.{Placing, Standing, standing-placed}
 use Rattle.search.specs.Search.{placedHolders}
 use Rattle.search.proofs.Placing.{place-is, placed-range, placed-length}
 use Rattle.sound.proofs.Meaning.{joined-ends}
-use Rattle.planner.specs.State.{State, linksOf, limitOf}
-use Rattle.planner.specs.Calls.{smallOpened, opened, link, order, place, changed}
+use Rattle.planner.specs.State.{State, withSmall, withHolders, linksOf, limitOf}
+use Rattle.planner.specs.Calls.{opened, onePlaced, link, order, place, changed}
 use Rattle.planner.proofs.Next.{SoundState, none-unheld, next-placeable}
 
 -- each placed gateway without holder has a tight pair around it, with only held gateways before it in the order
@@ -165,18 +165,13 @@ module _ {s : State} (made : Made s) where
       same : (i : ℕ) → i < s .small .n → at (written (s .small .n) numbers (s .order)) i ≡ at numbers i
       same = written-at (s .small .n) numbers (s .order) long
 
-  -- the record once its next gateway is placed, with these holders
-  abbrev pub withHolders : List ℕ → State
-  withHolders hs =
-      record { small = record { n = s .small .n; t = s .small .t; m = s .small .m; k = s .small .k + 1 }; links = s .links; order = s .order; holders = hs }
-
   module _ (next : s .small .k ≡ s .small .n → ⊥) where
     below : s .small .k < s .small .n
     below = omega (arith, made .sound .placed)
 
     -- Every way of placing the next keeps it, if the list keeps its length and each of its first n entries is a gateway or 65535.
     pub made-placed : (hs : List ℕ) → Placing (s .small .n) (limitOf s) (linked (linksOf s)) (at (s .holders)) (at hs) (at (s .order) (s .small .k))
-        → length hs ≡ length (s .holders) → ((w : ℕ) → w < s .small .n → (at hs w ≡ NONE) ⊎ (at hs w < s .small .n)) → Made (withHolders hs)
+        → length hs ≡ length (s .holders) → ((w : ℕ) → w < s .small .n → (at hs w ≡ NONE) ⊎ (at hs w < s .small .n)) → Made (withHolders hs (withSmall (onePlaced (s .small)) s))
     unfolding limitOf
     made-placed hs placing same range = record { sound = sound; standing = standing }
       where
@@ -188,7 +183,7 @@ module _ {s : State} (made : Made s) where
             ⊎-elim (λ q. q) (λ q. clash (held (s .small .n) (at hs) (at (s .order) i)) (lt-ltb (at hs (at (s .order) i)) (s .small .n) q) (standing .unplaced i p l))
             (range (at (s .order) i) (made .sound .order .below i l))
 
-        sound : SoundState (withHolders hs)
+        sound : SoundState (withHolders hs (withSmall (onePlaced (s .small)) s))
         sound =
             record {
               few = made .sound .few;

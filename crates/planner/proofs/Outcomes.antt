@@ -30,7 +30,7 @@ module _ (n t : ℕ) (ls os hs : List ℕ) where
       × ((os ≡ openCall n t ls os hs .state .order) × (hs ≡ openCall n t ls os hs .state .holders))
   unfolding openCall
   open-refused g h =
-      let p = outcome-refused (opened n t ls os hs) (record { small = smallOpened 0 2; links = ls; order = os; holders = hs }) g h in
+      let p = outcome-refused (opened n t ls os hs) (stateOf (smallOpened 0 2) ls os hs) g h in
       (ap answerOf p, (ap (λ (o : Outcome). o .state .order) p, ap (λ (o : Outcome). o .state .holders) p))
 
   pub open-accepted : {e : ℕ} {os' hs' : List ℕ} → e ≡ openRefusal n t os hs → e ≡ 0 → os' ≡ written n (upTo n) os → hs' ≡ written n (replicate n NONE) hs
@@ -38,7 +38,7 @@ module _ (n t : ℕ) (ls os hs : List ℕ) where
       × ((os' ≡ openCall n t ls os hs .state .order) × (hs' ≡ openCall n t ls os hs .state .holders))
   unfolding openCall opened
   open-accepted g z a b =
-      let p = outcome-accepted (opened n t ls os hs) (record { small = smallOpened 0 2; links = ls; order = os; holders = hs }) g z in
+      let p = outcome-accepted (opened n t ls os hs) (stateOf (smallOpened 0 2) ls os hs) g z in
       (ap answerOf p, (a ∙ ap (λ (o : Outcome). o .state .order) p, b ∙ ap (λ (o : Outcome). o .state .holders) p))
 
   -- the links stay as they came
@@ -47,7 +47,7 @@ module _ (n t : ℕ) (ls os hs : List ℕ) where
   open-links = go (openRefusal n t os hs)
     where
       kept : State
-      kept = record { small = smallOpened 0 2; links = ls; order = os; holders = hs }
+      kept = stateOf (smallOpened 0 2) ls os hs
 
       go : (e : ℕ) → stateOf (byNumber e (opened n t ls os hs) kept .small) ls (byNumber e (opened n t ls os hs) kept .order) (byNumber e (opened n t ls os hs) kept .holders) ≡ byNumber e (opened n t ls os hs) kept
       go zero = refl

@@ -13,7 +13,7 @@ use Rattle.stars.specs.Stars.{leaderList}
 use Rattle.planner.specs.declared.Small.{Small}
 use Rattle.planner.specs.declared.Answer.{Answer}
 use Rattle.planner.specs.Refusals.{openRefusal, linkConditions, orderConditions, placeConditions, readConditions}
-use Rattle.planner.specs.State.{State, linksOf, limitOf, soundState}
+use Rattle.planner.specs.State.{State, stateOf, withSmall, withLinks, withOrder, withHolders, linksOf, limitOf, soundState}
 
 -- what a call gives: its number, 0 for accepted, and the record after it
 pub record Outcome : Type 0 where
@@ -33,11 +33,11 @@ abbrev pub smallOpened : ℕ → ℕ → Small
 smallOpened n t = record { n = n; t = t; m = 0; k = 0 }
 
 unfoldable pub opened : ℕ → ℕ → List ℕ → List ℕ → List ℕ → State
-opened n t ls os hs = record { small = smallOpened n t; links = ls; order = written n (upTo n) os; holders = written n (replicate n NONE) hs }
+opened n t ls os hs = stateOf (smallOpened n t) ls (written n (upTo n) os) (written n (replicate n NONE) hs)
 
 -- "a refused open, which was handed none, returns n = 0, T = 2, m = 0, k = 0"
 unfoldable pub openCall : ℕ → ℕ → List ℕ → List ℕ → List ℕ → Outcome
-openCall n t ls os hs = outcome (openRefusal n t os hs) (opened n t ls os hs) (record { small = smallOpened 0 2; links = ls; order = os; holders = hs })
+openCall n t ls os hs = outcome (openRefusal n t os hs) (opened n t ls os hs) (stateOf (smallOpened 0 2) ls os hs)
 
 -- The calls on a record, with what else each is handed: a link's two ends, the numbers of a new order, the lists lent for leaders and choke bytes.
 pub data Call : Type 0 where
@@ -57,24 +57,20 @@ conditions s (read leaders choke) = readConditions (s .small .n) (s .small .k) (
 unfoldable pub callRefusal : State → Call → ℕ
 callRefusal s c = refuse (not (soundState s)) 26 (conditions s c)
 
+-- a small part with one link or one placing more
+abbrev pub oneLink : Small → Small
+oneLink s = record { n = s .n; t = s .t; m = s .m + 1; k = s .k }
+
+abbrev pub onePlaced : Small → Small
+onePlaced s = record { n = s .n; t = s .t; m = s .m; k = s .k + 1 }
+
 -- the record after an accepted call. Link (a, b): "appended". Order (n numbers): "replaces the order".
 -- Place: "the next in the order is kept or left; k rises by one". Read changes nothing of it.
 unfoldable pub changed : State → Call → State
-changed s (link a b) =
-    record {
-      small = record { n = s .small .n; t = s .small .t; m = s .small .m + 1; k = s .small .k };
-      links = set (set (s .links) (2 * s .small .m) a) (2 * s .small .m + 1) b;
-      order = s .order;
-      holders = s .holders;
-    }
-changed s (order numbers) = record { small = s .small; links = s .links; order = written (s .small .n) numbers (s .order); holders = s .holders }
+changed s (link a b) = withLinks (set (set (s .links) (2 * s .small .m) a) (2 * s .small .m + 1) b) (withSmall (oneLink (s .small)) s)
+changed s (order numbers) = withOrder (written (s .small .n) numbers (s .order)) s
 changed s place =
-    record {
-      small = record { n = s .small .n; t = s .small .t; m = s .small .m; k = s .small .k + 1 };
-      links = s .links;
-      order = s .order;
-      holders = placedHolders (s .small .n) (limitOf s) (linksOf s) (s .holders) (at (s .order) (s .small .k));
-    }
+    withHolders (placedHolders (s .small .n) (limitOf s) (linksOf s) (s .holders) (at (s .order) (s .small .k))) (withSmall (onePlaced (s .small)) s)
 changed s (read leaders choke) = s
 
 -- a call on a record

@@ -16,6 +16,19 @@ pub record State : Type 0 where
 abbrev pub stateOf : Small → List ℕ → List ℕ → List ℕ → State
 stateOf s ls os hs = record { small = s; links = ls; order = os; holders = hs }
 
+-- .. with another small part, or another list in the place of one
+abbrev pub withSmall : Small → State → State
+withSmall small s = record { small = small; links = s .links; order = s .order; holders = s .holders }
+
+abbrev pub withLinks : List ℕ → State → State
+withLinks ls s = record { small = s .small; links = ls; order = s .order; holders = s .holders }
+
+abbrev pub withOrder : List ℕ → State → State
+withOrder os s = record { small = s .small; links = s .links; order = os; holders = s .holders }
+
+abbrev pub withHolders : List ℕ → State → State
+withHolders hs s = record { small = s .small; links = s .links; order = s .order; holders = hs }
+
 -- its links: the first m of the lent list
 abbrev pub linksOf : State → List ℕ
 linksOf s = firstLinks (s .small .m) (s .links)

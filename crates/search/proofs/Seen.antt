@@ -13,7 +13,7 @@ use Rattle.packing.specs.Plant.{NONE, GATEWAYS, at, common}
 use Rattle.search.specs.Search.{Search, seen, walk}
 use Rattle.search.specs.declared.Walked.{Walked}
 use Rattle.search.specs.declared.Walked.the-variants.{Found, RanOut}
-use Rattle.search.specs.Pre.{outcome, Is, Walkable}
+use Rattle.search.specs.Pre.{asSearch, Is, Walkable}
 use Rattle.search.specs.ChokeSet.{withoutHolder, chokeWalk, seenIn, walkSaw, inChoke, chokeByte}
 use Rattle.search.specs.ChokePre.{Queued, Workable, seenByte}
 use Rattle.packing.proofs.Lists.{listOf-ext}
@@ -32,8 +32,8 @@ unfolding seenByte
 byte-seen from v e = e
 
 -- whoever is seen in the lent list is seen in the walk that it comes from
-pub walked-seen : (r : Walked) (queue from : List ℕ) {s : Search} → outcome r queue from ≡ s → (v : ℕ) → seen from v ≡ seenIn s v
-unfolding outcome seenIn
+pub walked-seen : (r : Walked) (queue from : List ℕ) {s : Search} → asSearch r queue from ≡ s → (v : ℕ) → seen from v ≡ seenIn s v
+unfolding asSearch seenIn
 walked-seen (Found u x) queue from e v = ap (λ (t : Search). seenIn t v) e
 walked-seen (RanOut tail) queue from e v = ap (λ (t : Search). seenIn t v) e
 

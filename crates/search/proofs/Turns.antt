@@ -18,16 +18,16 @@ use Rattle.packing.proofs.Flat.{pair-at, pair-end}
 use Rattle.search.specs.Search.{Search, found, more, seen, look, visit, turns, walk, shift, settled, placedHolders}
 use Rattle.search.specs.declared.Walked.{Walked}
 use Rattle.search.specs.declared.Walked.the-variants.{Found, RanOut}
-use Rattle.search.specs.Pre.{outcome, queued, Is, Going, Ready, Joinable, Joined, Workspace, Walkable, Placeable, Settleable}
+use Rattle.search.specs.Pre.{asSearch, queued, Is, Going, Ready, Joinable, Joined, Workspace, Walkable, Placeable, Settleable}
 use Rattle.search.proofs.States.{look-seen, look-free, look-full, look-going, going-room, going-start, visit-found, visit-going, turns-found, turns-out, turns-step, placeable-startable}
 
 -- a state read from a result and the lent lists
 found-state : {u x : ℕ} {queue from : List ℕ} {s : Search} → Is (Found u x) queue from s → s ≡ found u x from
-unfolding outcome
+unfolding asSearch
 found-state i = sym (i .state)
 
 more-state : {tail : ℕ} {queue from : List ℕ} {s : Search} → Is (RanOut tail) queue from s → s ≡ more (take tail queue) from
-unfolding outcome
+unfolding asSearch
 more-state i = sym (i .state)
 
 more-within : {tail : ℕ} {queue from : List ℕ} {s : Search} → Is (RanOut tail) queue from s → tail ≤ length queue
@@ -35,11 +35,11 @@ unfolding queued
 more-within i = i .within
 
 found-is : {u x : ℕ} {queue from : List ℕ} {s : Search} → s ≡ found u x from → Is (Found u x) queue from s
-unfolding outcome queued
+unfolding asSearch queued
 found-is e = record { state = sym e; within = omega arith }
 
 more-is : {tail : ℕ} {queue from : List ℕ} {s : Search} → s ≡ more (take tail queue) from → tail ≤ length queue → Is (RanOut tail) queue from s
-unfolding outcome queued
+unfolding asSearch queued
 more-is e l = record { state = sym e; within = l }
 
 -- The three ways of a look. The lent list of marks is from' once u is marked, k is u's entry, and t is u's limit.

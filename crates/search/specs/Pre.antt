@@ -12,9 +12,9 @@ use Rattle.search.specs.declared.Walked.{Walked}
 use Rattle.search.specs.declared.Walked.the-variants.{Found, RanOut}
 
 -- the state that a result stands for: the first places of the lent queue are the queue
-unfoldable pub outcome : Walked → List ℕ → List ℕ → Search
-outcome (Found u x) queue from = found u x from
-outcome (RanOut tail) queue from = more (take tail queue) from
+unfoldable pub asSearch : Walked → List ℕ → List ℕ → Search
+asSearch (Found u x) queue from = found u x from
+asSearch (RanOut tail) queue from = more (take tail queue) from
 
 -- how many are queued, where the search goes on or the queue ran out
 unfoldable pub queued : Walked → ℕ
@@ -23,7 +23,7 @@ queued (RanOut tail) = tail
 
 -- the result and the lent lists are the state s
 pub record Is (r : Walked) (queue from : List ℕ) (s : Search) : Type 0 where
-  pub state : outcome r queue from ≡ s
+  pub state : asSearch r queue from ≡ s
   pub within : queued r ≤ length queue
 
 -- v may yet join the queue: it is held, and its holder is not seen

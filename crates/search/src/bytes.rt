@@ -10,7 +10,7 @@ ghost use Rattle.packing.specs.Plant.{NONE};
 ghost use Rattle.search.specs.ChokePre.{seenByte};
 
 // 0 for none, else 1.
-fn byte(from: u16) -> u8
+fn mark_byte(from: u16) -> u8
     ensures { λ r. ⌜ r ≡ pick (not (eqb from NONE)) 1 ⌝ }
 {
     if from == lists::NONE {
@@ -26,7 +26,7 @@ pub(crate) fn write_seen(from: &[u16], out: &mut [u8])
 {
     let mut v: usize = 0;
     while v < from.len() {
-        out[v] = byte(from[v]);
+        out[v] = mark_byte(from[v]);
         v += 1;
     }
 }
