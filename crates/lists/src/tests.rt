@@ -1,7 +1,6 @@
 // Tests put together, and a test as a number.
 ghost use mathlib.Core.Path.{_≡_};
-ghost use mathlib.Core.Bool.{not, _&&_, _||_};
-ghost use lib.Dec.{eqb};
+ghost use mathlib.Core.Bool.{_&&_, _||_};
 ghost use Rattle.packing.specs.Count.{pick};
 ghost use Rattle.packing.specs.Plant.{at};
 ghost use Rattle.packing.specs.Grouping.{follows};

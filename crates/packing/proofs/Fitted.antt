@@ -1,5 +1,5 @@
 -- A call that writes a value for each gateway where n and the lengths fit. b is the answer of its test.
-use Prim.Native.Nat.{ℕ, _≤_}
+use Prim.Native.Nat.{ℕ}
 use mathlib.Core.Path.{_≡_, sym, _∙_}
 use mathlib.Core.Bool.{Bool, true, false, not}
 use mathlib.Core.List.{List}
@@ -16,14 +16,6 @@ fits-means n read out e = record { few = search (tests, leb-true); entries = sea
 fits-holds : {n : ℕ} {read out : List ℕ} → Lent n read out → fits n (length read) (length out) ≡ true
 unfolding fits
 fits-holds {n} {read} {out} l = rw (le-leb n 1024 (l .few), le-leb n (length read) (l .entries), le-leb n (length out) (l .places))
-
--- .. of n alone
-few-means : (n read out : ℕ) → fits n read out ≡ true → n ≤ 1024
-unfolding fits
-few-means n read out e = search (tests, leb-true)
-
-pub fit-few : (n read out : ℕ) {b : Bool} → b ≡ fits n read out → not b ≡ false → n ≤ 1024
-fit-few n read out {b} e t = few-means n read out (sym e ∙ not-false b t)
 
 -- where it fits, the values are written
 pub fitted-written : {n : ℕ} {read out : List ℕ} (f : ℕ → ℕ) → Lent n read out → fitted n read f out ≡ written n (listOf n f) out

@@ -7,7 +7,6 @@ use native.Mathlib.Omega.{arith}
 use lib.ListN.{length, take, drop, replicate, length-replicate, drop-of-length-le}
 use borrow.Author.Tests.{le-leb}
 use Rattle.packing.specs.Lists.{written}
-use Rattle.packing.specs.Plant.{GATEWAYS}
 use Rattle.packing.proofs.Flat.{pair-at}
 use Rattle.packing.proofs.Lists.{written-room, written-front}
 use Rattle.planner.specs.declared.Small.{Small}

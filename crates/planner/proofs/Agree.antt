@@ -5,14 +5,14 @@ use mathlib.Core.Bool.{true}
 use mathlib.Core.List.{List, [], _∷_, _++_}
 use lib.ListN.{length, length-set}
 use Rattle.packing.specs.Orders.{upTo}
-use Rattle.packing.specs.Plant.{at, common, firstLinks}
+use Rattle.packing.specs.Plant.{at, firstLinks}
 use Rattle.packing.specs.Refusals.{byNumber}
 use Rattle.packing.proofs.Lists.{listOf-at, written-at, listed-at}
 use Rattle.sound.proofs.Meaning.{means-sound}
 use Rattle.sound.proofs.Orders.{order-right}
 use Rattle.planner.specs.declared.Small.{Small}
 use Rattle.planner.specs.Refusals.{openRefusal}
-use Rattle.planner.specs.State.{State, stateOf, linksOf, limitOf, soundState}
+use Rattle.planner.specs.State.{State, stateOf, limitOf, soundState}
 use Rattle.planner.specs.Calls.{opened, openCall, Call, link, order, place, read, conditions, callRefusal, changed, call}
 use Rattle.planner.specs.Told.{Told, beginning, refuses, accepted, tellOne, tell, toldNumbers}
 use Rattle.planner.specs.Run.{afterOpen, run, runNumbers}

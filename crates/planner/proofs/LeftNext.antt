@@ -1,11 +1,10 @@
 -- The sentence under Placing: the next gateway is left exactly if nothing covers it together with all kept before it.
-use Prim.Native.Nat.{ℕ, _+_, _<_}
-use mathlib.Core.Path.{_≡_, refl, sym, subst, _∙_}
+use Prim.Native.Nat.{ℕ, _<_}
+use mathlib.Core.Path.{_≡_, sym, subst, _∙_}
 use mathlib.Core.Logic.{_↔_, ⊎-elim}
 use mathlib.Core.Bool.{Bool, true, false}
 use mathlib.Core.List.{List}
 use native.Mathlib.Omega.{arith}
-use lib.ListN.{length}
 use Rattle.packing.specs.Plant.{at, linked}
 use Rattle.packing.specs.Grouping.{Grouping, covered}
 use Rattle.packing.specs.Holders.{held, Feasible}
@@ -15,7 +14,7 @@ use Rattle.packing.proofs.Prefixes.{blocked-holders, blocked-groupings}
 use Rattle.packing.proofs.Placing.{Left, still-held, kept-held, left-blocked}
 use Rattle.stars.specs.Stars.{leaderList}
 use Rattle.planner.specs.State.{State, linksOf, limitOf}
-use Rattle.planner.specs.Calls.{place, changed, call, callRefusal}
+use Rattle.planner.specs.Calls.{place, changed, call}
 use Rattle.planner.specs.Told.{Told, refuses}
 use Rattle.planner.specs.Claims.{toldBy, madeBy, GroupingTold, BeforePlacing, NextLeft, CoversKept, LeftExactly, LeftExactlyOf, LeftExactlyByHolders, LeftExactlyByHoldersOf}
 use Rattle.planner.proofs.Conditions.{place-next}

@@ -1,8 +1,8 @@
 -- The invariant of a record made by accepted calls, and that each accepted call keeps it.
 use Prim.Native.Nat.{ℕ, suc, _+_, _*_, _<_, _≤_}
-use mathlib.Core.Path.{_≡_, refl, sym, ap, _∙_}
+use mathlib.Core.Path.{_≡_, sym, ap, _∙_}
 use mathlib.Core.Logic.{_⊎_, inl, inr, ⊎-elim}
-use mathlib.Core.Bool.{Bool, true, false, _||_, false≢true}
+use mathlib.Core.Bool.{Bool, false, _||_, false≢true}
 use mathlib.Core.List.{List, [], _∷_, _++_, append-assoc}
 use native.Mathlib.Nat.{not-suc-le-zero}
 use native.Mathlib.Numerals.{add-one}
@@ -22,7 +22,6 @@ use Rattle.packing.proofs.Links.{linked-append}
 use Rattle.packing.proofs.Tight.{Blocked}
 use Rattle.packing.proofs.Prefixes.{IsOrder, order-place}
 use Rattle.packing.proofs.Placing.{Placing, Standing, standing-placed}
-use Rattle.search.specs.Search.{placedHolders}
 use Rattle.search.proofs.Placing.{place-is, placed-range, placed-length}
 use Rattle.sound.proofs.Meaning.{joined-ends}
 use Rattle.planner.specs.State.{State, withSmall, withHolders, linksOf, limitOf}

@@ -2,16 +2,14 @@
 use Prim.Native.Nat.{ℕ, zero, suc}
 use mathlib.Core.Path.{_≡_, refl, sym, ap, _∙_}
 use mathlib.Core.List.{List}
-use lib.ListN.{length, set, replicate}
+use lib.ListN.{length, replicate}
 use Rattle.packing.specs.Lists.{listOf, written}
 use Rattle.packing.specs.Orders.{upTo}
-use Rattle.packing.specs.Plant.{NONE, at}
+use Rattle.packing.specs.Plant.{NONE}
 use Rattle.packing.specs.Refusals.{byNumber}
 use Rattle.packing.proofs.Refusals.{refused, accepted}
-use Rattle.search.specs.Search.{placedHolders}
 use Rattle.search.specs.ChokeSet.{chokeByte}
 use Rattle.stars.specs.Stars.{leaderList}
-use Rattle.planner.specs.declared.Small.{Small}
 use Rattle.planner.specs.declared.Answer.{Answer}
 use Rattle.planner.specs.Refusals.{openRefusal}
 use Rattle.planner.specs.State.{State, stateOf, linksOf}

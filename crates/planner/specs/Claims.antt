@@ -1,5 +1,5 @@
 -- The claims of 00 and 01 about records made by calls, each as a statement. proofs/Demands.antt and proofs/LeftNext.antt prove them.
-use Prim.Native.Nat.{ℕ, _+_, _<_, _≤_}
+use Prim.Native.Nat.{ℕ, _<_, _≤_}
 use mathlib.Core.Path.{_≡_}
 use mathlib.Core.Logic.{_↔_}
 use mathlib.Core.Bool.{Bool, true, false, not}

@@ -32,9 +32,6 @@ module _ {n : ℕ} {limit limit' : ℕ → ℕ} (same : (u : ℕ) → u < n → 
   unfolding placedHolders
   placed-limits {v} p = ap (settled n v hs) (walk-limits (placeable-startable p))
 
-  pub after-limits : {v : ℕ} → Placeable n hs v → holdersAfter n limit ls hs v ≡ holdersAfter n limit' ls hs v
-  after-limits p = holders-placed limit ls p ∙ placed-limits p ∙ sym (holders-placed limit' ls p)
-
 -- a list of limits that are all t is the common limit t of every gateway
 pub same-limits : {n : ℕ} (t : ℕ) → n ≤ GATEWAYS → (u : ℕ) → u < n → at (replicate GATEWAYS t) u ≡ common t u
 unfolding common

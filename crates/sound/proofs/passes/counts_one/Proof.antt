@@ -1,5 +1,5 @@
 use Prim.Native.Nat.{ℕ, _≤_, _-_}
-use mathlib.Core.Path.{_≡_, refl, ap, _∙_}
+use mathlib.Core.Path.{_≡_, refl, ap}
 use lib.Dec.{eqb}
 use Rattle.packing.specs.Count.{all}
 use Rattle.packing.specs.Plant.{at}
