@@ -1,4 +1,4 @@
--- What a reader has to believe about star packings, in the papers' order.
+-- What a reader has to believe about lists, plants, refusals and star packings, in the papers' order.
 pub mod Count
 pub mod Lists
 pub mod Plant

@@ -25,7 +25,9 @@ same-length-4 : tie.Need-same-length-4
 same-length-4 c = search needs
 
 returns-2 : tie.Need-returns-2
-returns-2 c = plan-accepted _ _ _ (c .before .before .before .before .before .before .before .before .refusal-of .ensures) (c .before .before .before .before .before .before .before .if1 .left) (c .before .before .before .before .read-all .ensures .0) (c .before .before .before .before .read-all .ensures .1)
+returns-2 c = let read = c .before .before .before .before in
+    let test = read .before .before .before in
+    plan-accepted _ _ _ (test .before .refusal-of .ensures) (test .if1 .left) (read .read-all .ensures .0) (read .read-all .ensures .1)
 
 pub plan-lists-spec : {M : Type 1} → statement M
 plan-lists-spec =

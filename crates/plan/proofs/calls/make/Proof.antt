@@ -32,7 +32,13 @@ same-length-3 : tie.Need-same-length-3
 same-length-3 c = search needs
 
 returns : tie.Need-returns
-returns c = all-made _ _ _ _ (c .before .before .before .before .before .before .before .before .before .before .before .before .before .before .before .before .before .before .before .before .before .before .before .before .before .before .before .before .gateways .ensures) (c .before .before .before .before .before .before .before .before .before .before .before .before .before .before .before .before .before .before .before .before .before .before .before .before .before .before .before .limit .ensures) (c .before .before .before .before .before .before .before .before .before .before .before .before .before .before .before .before .before .before .before .before .before .before .before .«open» .ensures .0) (c .before .before .before .before .before .before .before .before .before .before .before .before .before .before .before .before .before .before .before .before .before .before .before .«open» .ensures .1 .0) (c .before .before .before .before .before .before .before .before .before .before .before .before .before .before .before .before .before .before .before .before .before .before .before .«open» .ensures .1 .1) (c .before .before .before .before .before .before .before .before .before .before .before .before .before .before .with-links .ensures) (c .before .before .before .before .before .before .before .before .with-order .ensures) (c .before .before .with-places .ensures)
+returns c = let places = c .before .before in
+    let order = places .before .before .before .before .before .before in
+    let links = order .before .before .before .before .before .before in
+    let opened = links .before .before .before .before .before .before .before .before .before in
+    let header = opened .before .before .before .before in
+    all-made _ _ _ _ (header .before .gateways .ensures) (header .limit .ensures) (opened .«open» .ensures .0) (opened .«open» .ensures .1 .0) (opened .«open» .ensures .1 .1)
+    (links .with-links .ensures) (order .with-order .ensures) (places .with-places .ensures)
 
 pub make-spec : {M : Type 1} → statement M
 make-spec =

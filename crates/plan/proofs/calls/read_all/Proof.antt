@@ -43,7 +43,10 @@ same-length-2 : tie.Need-same-length-2
 same-length-2 c = search needs
 
 returns : tie.Need-returns
-returns c = all-read _ _ _ _ _ (c .before .before .before .before .before .before .before .before .before .before .before .before .before .before .before .before .before .before .before .ends .ensures) (c .before .before .before .before .before .before .before .before .before .before .before .before .before .before .before .before .before .before .zeros .ensures) (c .before .before .before .before .before .before .before .before .before .before .before .before .before .before .before .before .before .zeros2 .ensures) (c .before .before .before .before .before .before .before .before .before .before .before .before .before .make .ensures) _ _ (c .before .before .before .before .read .ensures .1 .0) (c .before .before .before .before .read .ensures .1 .1)
+returns c = let read = c .before .before .before .before in
+    let made = read .before .before .before .before .before .before .before .before .before in
+    let lent = made .before .before .before .before in
+    all-read _ _ _ _ _ (lent .before .before .ends .ensures) (lent .before .zeros .ensures) (lent .zeros2 .ensures) (made .make .ensures) _ _ (read .read .ensures .1 .0) (read .read .ensures .1 .1)
 
 pub read-all-spec : {M : Type 1} → statement M
 read-all-spec =
