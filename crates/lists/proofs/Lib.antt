@@ -1,2 +1,3 @@
--- Laws of entries.
+-- Laws of entries and of tallies.
 pub mod Entries
+pub mod Tallies

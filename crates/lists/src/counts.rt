@@ -1,10 +1,14 @@
 // Counts over the first n entries of a list.
+use crate::PLACES;
 use crate::entry;
+use crate::marks::zeros;
+use crate::put;
 use crate::tests::bit;
 use crate::tests::is_member;
 ghost use mathlib.Core.Path.{_≡_};
 ghost use lib.Dec.{eqb};
 ghost use Rattle.packing.specs.Count.{count};
+ghost use Rattle.packing.specs.Lists.{tallyOf};
 ghost use Rattle.packing.specs.Plant.{at};
 ghost use Rattle.packing.specs.Grouping.{memberCount};
 
@@ -19,6 +23,21 @@ pub fn count_of(n: u16, list: &[u16], x: u16) -> u16
         v += 1;
     }
     k
+}
+
+// How often each number below 1,024 stands among them.
+pub fn tally(n: u16, list: &[u16]) -> [u16; PLACES]
+    ensures { λ r. ⌜ r ≡ tallyOf n (now (list .entry)) ⌝ }
+{
+    let mut counts = zeros();
+    let mut i: u16 = 0;
+    while i < n {
+        let x = entry(list, i);
+        let k = entry(&counts, x);
+        put(&mut counts, x, k + 1);
+        i += 1;
+    }
+    counts
 }
 
 // How many others than u have u's number as their entry.

@@ -4,7 +4,8 @@ use mathlib.Core.Bool.{Bool, false, cond, _&&_, _||_}
 use mathlib.Core.List.{List, [], _∷_, _++_}
 use lib.Dec.{eqb, leb}
 use lib.ListN.{length, drop}
-use Rattle.packing.specs.Plant.{GATEWAYS}
+use Rattle.packing.specs.Count.{count}
+use Rattle.packing.specs.Plant.{GATEWAYS, at}
 
 -- f 0, .., f (n - 1) as a list
 unfoldable pub listOf : ℕ → (ℕ → ℕ) → List ℕ
@@ -20,6 +21,10 @@ listWhere (suc n) p = listWhere n p ++ cond (p n) (n ∷ []) []
 unfoldable pub memberOf : List ℕ → ℕ → Bool
 memberOf [] y = false
 memberOf (a ∷ l) y = eqb a y || memberOf l y
+
+-- how often each number below 1,024 stands among the first n entries of a list: by holders, how many each gateway holds
+unfoldable pub tallyOf : ℕ → List ℕ → List ℕ
+tallyOf n l = listOf GATEWAYS (λ v. count n (λ i. eqb (at l i) v))
 
 -- a lent list once its first n entries are written (01: "Entries past these lengths never change")
 unfoldable pub written : ℕ → List ℕ → List ℕ → List ℕ

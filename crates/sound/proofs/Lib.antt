@@ -1,5 +1,5 @@
 -- Laws of the passes, and what a sound record means.
-pub mod Tallies
+pub mod Tests
 pub mod LinkPass
 pub mod PassResults
 pub mod Meaning

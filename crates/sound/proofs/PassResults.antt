@@ -8,41 +8,40 @@ use lib.Dec.{eqb, ltb, leb}
 use lib.ListN.{length, replicate, getD-replicate}
 use borrow.Author.Tests.{lt-ltb, not-true, not-false}
 use Rattle.packing.specs.Count.{count, all}
-use Rattle.packing.specs.Plant.{NONE, at, common, firstLinks, linked}
+use Rattle.packing.specs.Lists.{tallyOf}
+use Rattle.packing.specs.Plant.{GATEWAYS, NONE, at, common, firstLinks, linked}
 use Rattle.packing.specs.Holders.{holds}
 use Rattle.packing.proofs.Tests.{tests, all-ext, all-intro, or-l, iff-test}
+use Rattle.lists.proofs.Tallies.{tally-at}
 use Rattle.sound.specs.Sound.{numbersSound, listsLong, endsSound, onceEach, holdersLinked, holdersWithin, onlyPlacedHeld, isSound}
 use Rattle.sound.proofs.Meaning.{numbers-mean, lists-mean}
-use Rattle.sound.specs.Marks.{Tally, LinksPassed, HoldersPassed, OrderPassed}
+use Rattle.sound.specs.Marks.{LinksPassed}
 
--- loads that were counted are what each holds
-pub loads-are : (n : ℕ) (limit : ℕ → ℕ) (hs loads : List ℕ) → n ≤ length loads → Tally hs n loads → all n (λ v. leb (at loads v) (limit v)) ≡ holdersWithin n limit hs
-unfolding Tally holdersWithin holds
-loads-are n limit hs loads places t =
-    all-ext n (λ v. leb (at loads v) (limit v)) (λ u. leb (count n (λ v. eqb (at hs v) u)) (limit u)) (λ v l. ap (λ (c : ℕ). leb c (limit v)) (t v (omega arith)))
+-- the tally of the holders is what each holds
+pub loads-are : (n : ℕ) (limit : ℕ → ℕ) (hs : List ℕ) {loads : List ℕ} → n ≤ GATEWAYS → loads ≡ tallyOf n hs → all n (λ v. leb (at loads v) (limit v)) ≡ holdersWithin n limit hs
+unfolding holdersWithin holds
+loads-are n limit hs few e =
+    rw e (all-ext n (λ v. leb (at (tallyOf n hs) v) (limit v)) (λ u. leb (count n (λ v. eqb (at hs v) u)) (limit u)) (λ v l. ap (λ (c : ℕ). leb c (limit v)) (tally-at hs n v (omega arith))))
 
-module _ (n : ℕ) where
-  pub order-results : (k : ℕ) (os hs counts : List ℕ) {placed once r : Bool} → n ≤ length counts → OrderPassed n k os hs counts placed
+module _ (n : ℕ) (few : n ≤ GATEWAYS) where
+  pub order-results : (k : ℕ) (os hs : List ℕ) {counts : List ℕ} {placed once r : Bool} → placed ≡ onlyPlacedHeld n k os hs → counts ≡ tallyOf n os
       → once ≡ all n (λ v. eqb (at counts v) 1) → r ≡ (once && placed) → r ≡ (onceEach n os && onlyPlacedHeld n k os hs)
-  unfolding Tally onceEach
-  order-results k os hs counts long passed e f =
-      f ∙ rw (passed .placed, e) (ap (λ (b : Bool). b && onlyPlacedHeld n k os hs)
-      (all-ext n (λ v. eqb (at counts v) 1) (λ v. eqb (count n (λ i. eqb (at os i) v)) 1) (λ v l. ap (λ (c : ℕ). eqb c 1) (passed .counted v (omega arith)))))
+  unfolding onceEach
+  order-results k os hs p c e f =
+      f ∙ rw (p, e, c) (ap (λ (b : Bool). b && onlyPlacedHeld n k os hs)
+      (all-ext n (λ v. eqb (at (tallyOf n os) v) 1) (λ v. eqb (count n (λ i. eqb (at os i) v)) 1) (λ v l. ap (λ (c : ℕ). eqb c 1) (tally-at os n v (omega arith)))))
 
-  pub holders-results : (limits ls hs marks loads : List ℕ) {ends tied within r₁ r : Bool} → n ≤ length marks → n ≤ length loads
-      → LinksPassed n ls hs marks ends → HoldersPassed n hs marks loads tied → within ≡ all n (λ v. leb (at loads v) (at limits v)) → r₁ ≡ (ends && tied) → r ≡ (r₁ && within)
+  pub holders-results : (limits ls hs marks : List ℕ) {loads : List ℕ} {ends tied within r₁ r : Bool} → n ≤ length marks
+      → LinksPassed n ls hs marks ends → tied ≡ all n (λ v. eqb (at hs v) NONE || eqb (at marks v) 1) → loads ≡ tallyOf n hs → within ≡ all n (λ v. leb (at loads v) (at limits v)) → r₁ ≡ (ends && tied) → r ≡ (r₁ && within)
       → r ≡ (endsSound n ls && holdersLinked n ls hs && holdersWithin n (at limits) hs)
   unfolding holdersLinked
-  holders-results limits ls hs marks loads {ends} {tied} {within} places counts links holders e f g =
-      g ∙ rw (f, links .ends, tied-is, within-is)
+  holders-results limits ls hs marks {loads} {ends} {tied} {within} places links marked counted e f g =
+      g ∙ rw (f, links .ends, tied-is, e ∙ loads-are n (at limits) hs few counted)
     where
       tied-is : tied ≡ all n (λ v. eqb (at hs v) NONE || linked ls v (at hs v))
       tied-is =
-          holders .linked-or-none ∙ all-ext n (λ v. eqb (at hs v) NONE || eqb (at marks v) 1) (λ v. eqb (at hs v) NONE || linked ls v (at hs v))
+          marked ∙ all-ext n (λ v. eqb (at hs v) NONE || eqb (at marks v) 1) (λ v. eqb (at hs v) NONE || linked ls v (at hs v))
           (λ v l. ap (λ (b : Bool). eqb (at hs v) NONE || b) (links .marked v (omega arith)))
-
-      within-is : within ≡ holdersWithin n (at limits) hs
-      within-is = e ∙ loads-are n (at limits) hs loads counts (holders .loaded)
 
 -- the loads are compared with the limits of the gateways below n only
 pub within-below : (n : ℕ) (limit limit' : ℕ → ℕ) (hs : List ℕ) → ((u : ℕ) → u < n → limit u ≡ limit' u) → holdersWithin n limit hs ≡ holdersWithin n limit' hs
@@ -51,12 +50,12 @@ within-below n limit limit' hs same =
     all-ext n (λ u. leb (holds n (at hs) u) (limit u)) (λ u. leb (holds n (at hs) u) (limit' u)) (λ u l. ap (λ (t : ℕ). leb (holds n (at hs) u) t) (same u l))
 
 -- .. so a list with T for each gateway stands for the common limit T
-pub within-common : (n t : ℕ) (limits hs : List ℕ) → n ≤ 1024 → limits ≡ replicate 1024 t → holdersWithin n (at limits) hs ≡ holdersWithin n (common t) hs
+pub within-common : (n t : ℕ) (limits hs : List ℕ) → n ≤ GATEWAYS → limits ≡ replicate GATEWAYS t → holdersWithin n (at limits) hs ≡ holdersWithin n (common t) hs
 unfolding common
-within-common n t limits hs few e = within-below n (at limits) (λ u. t) hs (λ u l. rw e (getD-replicate 1024 u t 0 (omega arith)))
+within-common n t limits hs few e = within-below n (at limits) (λ u. t) hs (λ u l. rw e (getD-replicate GATEWAYS u t 0 (omega arith)))
 
 -- what the first two answers say where soundness is asked further
-pub numbers-few : (n t m k : ℕ) {b : Bool} → b ≡ numbersSound n t m k → not b ≡ false → n ≤ 1024
+pub numbers-few : (n t m k : ℕ) {b : Bool} → b ≡ numbersSound n t m k → not b ≡ false → n ≤ GATEWAYS
 numbers-few n t m k {b} e f = numbers-mean n t m k (sym e ∙ not-false b f) .0
 
 pub links-lent : (n m : ℕ) (ls os hs : List ℕ) {b : Bool} → b ≡ listsLong n m ls os hs → not b ≡ false → 2 * m ≤ length ls
@@ -71,7 +70,7 @@ module _ (n t m k : ℕ) (ls os hs : List ℕ) where
   unfolding isSound
   unsound-lists {b} {b'} e f g h = rw (sym e ∙ not-false b f, sym g ∙ not-true b' h)
 
-  pub all-results : (limits : List ℕ) {b b' o h r : Bool} → limits ≡ replicate 1024 t → b ≡ numbersSound n t m k → not b ≡ false → b' ≡ listsLong n m ls os hs → not b' ≡ false → o ≡ (onceEach n os && onlyPlacedHeld n k os hs)
+  pub all-results : (limits : List ℕ) {b b' o h r : Bool} → limits ≡ replicate GATEWAYS t → b ≡ numbersSound n t m k → not b ≡ false → b' ≡ listsLong n m ls os hs → not b' ≡ false → o ≡ (onceEach n os && onlyPlacedHeld n k os hs)
       → h ≡ (endsSound n (firstLinks m ls) && holdersLinked n (firstLinks m ls) hs && holdersWithin n (at limits) hs) → r ≡ (o && h) → r ≡ isSound n t m k ls os hs
   unfolding isSound
   all-results limits {b} {b'} c e f g i j q r =

@@ -11,7 +11,7 @@ use Rattle.packing.specs.Plant.{GATEWAYS, HIGHEST, at, common}
 use Rattle.packing.specs.Holders.{holds}
 use Rattle.packing.proofs.Tests.{tests, all-intro, all-elim}
 use Rattle.sound.specs.Sound.{holdersWithin}
-use Rattle.sound.specs.Marks.{Tally}
+use Rattle.packing.specs.Lists.{tallyOf}
 use Rattle.sound.specs.Searchable.{searchable}
 use Rattle.sound.proofs.PassResults.{loads-are, within-common}
 
@@ -36,8 +36,7 @@ pub searchable-holds : {n : ℕ} {hs : List ℕ} → Searchable n hs → searcha
 unfolding searchable
 searchable-holds {n} {hs} s = rw (le-leb n GATEWAYS (s .few), le-leb n (length hs) (s .holders)) (within-holds n hs (s .within))
 
--- what the counts of what each holds say, compared with a list of the highest limit
-pub within-counted : (n : ℕ) (hs loads limits : List ℕ) {r : Bool} → n ≤ GATEWAYS → n ≤ length loads → Tally hs n loads → limits ≡ replicate GATEWAYS HIGHEST → r ≡ all n (λ v. leb (at loads v) (at limits v))
+-- what the tally of the holders says, compared with a list of the highest limit
+pub within-tallied : (n : ℕ) (hs limits : List ℕ) {loads : List ℕ} {r : Bool} → n ≤ GATEWAYS → loads ≡ tallyOf n hs → limits ≡ replicate GATEWAYS HIGHEST → r ≡ all n (λ v. leb (at loads v) (at limits v))
     → r ≡ holdersWithin n (common HIGHEST) hs
-within-counted n hs loads limits few room t is e =
-    e ∙ loads-are n (at limits) hs loads room t ∙ within-common n HIGHEST limits hs few is
+within-tallied n hs limits few t is e = e ∙ loads-are n (at limits) hs few t ∙ within-common n HIGHEST limits hs few is

@@ -1,33 +1,17 @@
 // Whether a search may be made with a list of holders.
-use crate::marks::tally;
 use crate::passes::loads_within;
 ghost use mathlib.Core.Path.{_≡_};
 ghost use Prim.Native.Nat.{_≤_};
-ghost use lib.ListN.{replicate};
 ghost use Rattle.packing.specs.Plant.{GATEWAYS, HIGHEST, common};
 ghost use Rattle.sound.specs.Sound.{holdersWithin};
-ghost use Rattle.sound.specs.Marks.{Tally};
 ghost use Rattle.sound.specs.Searchable.{searchable};
-
-// Counts how many each gateway holds, in one pass.
-fn count_held(n: u16, holders: &[u16], loads: &mut [u16])
-    requires { ⌜ (n ≤ GATEWAYS) × (now loads ≡ replicate GATEWAYS 0) ⌝ }
-    ensures { λ _. ⌜ Tally (now (holders .entry)) n (now (loads .exit)) ⌝ }
-{
-    let mut v: u16 = 0;
-    while v < n {
-        tally(loads, lists::entry(holders, v));
-        v += 1;
-    }
-}
 
 // Whether nobody holds more than the highest limit.
 fn is_within(n: u16, holders: &[u16]) -> bool
     requires { ⌜ n ≤ GATEWAYS ⌝ }
     ensures { λ r. ⌜ r ≡ holdersWithin n (common HIGHEST) (now (holders .entry)) ⌝ }
 {
-    let mut loads = lists::marks::zeros();
-    count_held(n, holders, &mut loads);
+    let loads = lists::counts::tally(n, holders);
     let limits = lists::marks::bytes(lists::HIGHEST);
     loads_within(n, &limits, &loads)
 }

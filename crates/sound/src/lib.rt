@@ -1,9 +1,10 @@
-// Whether a record is sound (01, "The record"; refusal 26). Each list is passed over once.
+// Whether a record is sound (01, "The record"; refusal 26). Each list is passed over once or twice.
 pub mod held;
 pub mod links;
 mod marks;
 mod passes;
 
+use lists::counts::tally;
 use lists::marks::bytes;
 use lists::marks::zeros;
 use lists::tests::both;
@@ -50,9 +51,9 @@ fn holders_sound(n: u16, limits: &[u8], links: &[u16], holders: &[u16]) -> bool
     ensures { λ r. ⌜ r ≡ (endsSound n (now (links .entry)) && holdersLinked n (now (links .entry)) (now (holders .entry)) && holdersWithin n (at (now (limits .entry))) (now (holders .entry))) ⌝ }
 {
     let mut marks = zeros();
-    let mut loads = zeros();
     let ends = passes::over_links(n, links, holders, &mut marks);
-    let linked = passes::over_holders(n, holders, &marks, &mut loads);
+    let linked = passes::holders_marked(n, holders, &marks);
+    let loads = tally(n, holders);
     let within = passes::loads_within(n, limits, &loads);
     both(both(ends, linked), within)
 }
@@ -62,8 +63,8 @@ fn order_sound(n: u16, k: u16, order: &[u16], holders: &[u16]) -> bool
     requires { ⌜ n ≤ GATEWAYS ⌝ }
     ensures { λ r. ⌜ r ≡ (onceEach n (now (order .entry)) && onlyPlacedHeld n k (now (order .entry)) (now (holders .entry))) ⌝ }
 {
-    let mut counts = zeros();
-    let placed = passes::over_order(n, k, order, holders, &mut counts);
+    let placed = passes::later_free(n, k, order, holders);
+    let counts = tally(n, order);
     let once = passes::counts_one(n, &counts);
     both(once, placed)
 }

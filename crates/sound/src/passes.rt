@@ -1,8 +1,6 @@
-// One pass over each list. What is past a list's end counts as 0, so lists of any lengths are passed over.
+// Passes over the lists. What is past a list's end counts as 0, so lists of any lengths are passed over.
 use crate::marks::ends_sound;
 use crate::marks::note;
-use crate::marks::tally;
-use lists::NONE;
 use lists::byte;
 use lists::entry;
 use lists::marks::is_marked;
@@ -11,8 +9,10 @@ use lists::tests::either;
 ghost use mathlib.Core.Path.{_≡_};
 ghost use lib.Dec.{eqb, leb};
 ghost use Rattle.packing.specs.Count.{all};
-ghost use Rattle.packing.specs.Plant.{at};
-ghost use Rattle.sound.specs.Marks.{Zeros, LinksPassed, HoldersPassed, OrderPassed};
+ghost use mathlib.Core.Bool.{_||_};
+ghost use Rattle.packing.specs.Plant.{NONE, at};
+ghost use Rattle.sound.specs.Sound.{onlyPlacedHeld};
+ghost use Rattle.sound.specs.Marks.{Zeros, LinksPassed};
 
 // The links: whether the ends of each differ and are below n. Marks each gateway whose holder is linked to it.
 pub(crate) fn over_links(n: u16, links: &[u16], holders: &[u16], marks: &mut [u16]) -> bool
@@ -32,33 +32,33 @@ pub(crate) fn over_links(n: u16, links: &[u16], holders: &[u16], marks: &mut [u1
     ok
 }
 
-// The holders: whether each is none or its gateway is marked. Counts how many each gateway holds.
-pub(crate) fn over_holders(n: u16, holders: &[u16], marks: &[u16], loads: &mut [u16]) -> bool
-    requires { ⌜ Zeros (now loads) ⌝ }
-    ensures { λ r. ⌜ HoldersPassed n (now (holders .entry)) (now (marks .entry)) (now (loads .exit)) r ⌝ }
+// The holders: whether each is none, or its gateway is marked.
+pub(crate) fn holders_marked(n: u16, holders: &[u16], marks: &[u16]) -> bool
+    ensures { λ r. ⌜ r ≡ all n (λ v. eqb (at (now (holders .entry)) v) NONE || eqb (at (now (marks .entry)) v) 1) ⌝ }
 {
     let mut ok = true;
     let mut v: u16 = 0;
     while v < n {
-        let u = entry(holders, v);
-        ok = both(ok, either(u == NONE, is_marked(marks, v)));
-        tally(loads, u);
+        ok = both(
+            ok,
+            either(entry(holders, v) == lists::NONE, is_marked(marks, v)),
+        );
         v += 1;
     }
     ok
 }
 
-// The order: whether those from place k on have no holder. Counts how often each gateway stands in it.
-pub(crate) fn over_order(n: u16, k: u16, order: &[u16], holders: &[u16], counts: &mut [u16]) -> bool
-    requires { ⌜ Zeros (now counts) ⌝ }
-    ensures { λ r. ⌜ OrderPassed n k (now (order .entry)) (now (holders .entry)) (now (counts .exit)) r ⌝ }
+// The order: whether those from place k on have no holder.
+pub(crate) fn later_free(n: u16, k: u16, order: &[u16], holders: &[u16]) -> bool
+    ensures { λ r. ⌜ r ≡ onlyPlacedHeld n k (now (order .entry)) (now (holders .entry)) ⌝ }
 {
     let mut ok = true;
     let mut i: u16 = 0;
     while i < n {
-        let x = entry(order, i);
-        ok = both(ok, either(i < k, entry(holders, x) == NONE));
-        tally(counts, x);
+        ok = both(
+            ok,
+            either(i < k, entry(holders, entry(order, i)) == lists::NONE),
+        );
         i += 1;
     }
     ok

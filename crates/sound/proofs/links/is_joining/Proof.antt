@@ -1,5 +1,5 @@
 use borrow.Author.Needs.{needs}
-use Rattle.sound.proofs.Tallies.{either-of}
+use Rattle.sound.proofs.Tests.{either-of}
 use Rattle.sound.proofs.links.is_joining.Statement.{statement}
 use Rattle.sound.proofs.links.is_joining.Tie as tie
 
