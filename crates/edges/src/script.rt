@@ -1,4 +1,4 @@
-// The script of cases: walked line by line, its numbers read, each call made.
+// The script of cases: gone through line by line, its numbers read, each call made.
 use crate::full;
 use crate::linking;
 use crate::membering;

@@ -1,4 +1,4 @@
--- A list of two numbers each, walked by pairs.
+-- A list of two numbers each, gone through two at a time.
 use Prim.Native.Nat.{ℕ, suc, _+_, _<_, _≤_}
 use mathlib.Core.Path.{_≡_, refl, ap, _∙_}
 use mathlib.Core.Bool.{false}
@@ -27,6 +27,6 @@ linked-short [] x y h = refl
 linked-short (a ∷ []) x y h = refl
 linked-short (a ∷ b ∷ l) x y h = absurd (omega arith)
 
--- what is left of a walk by pairs at its end
+-- what is left of it at the end
 pub pair-end : (l : List ℕ) (i : ℕ) → length l ≤ i + 1 → length (drop i l) ≤ 1
 pair-end l i h = rw length-drop (omega arith)
