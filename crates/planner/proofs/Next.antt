@@ -1,5 +1,5 @@
 -- What a sound record has for the calls that place its next gateway and read it.
-use Prim.Native.Nat.{ℕ, _<_, _≤_}
+use Prim.Native.Nat.{ℕ, _≤_}
 use mathlib.Core.Path.{_≡_, sym, _∙_}
 use mathlib.Core.Bool.{Bool, false, not}
 use mathlib.Core.List.{List}
@@ -7,8 +7,8 @@ use native.Mathlib.Omega.{arith}
 use lib.ListN.{length, replicate}
 use borrow.Author.Tests.{le-ltb, not-false}
 use Rattle.packing.specs.Lists.{listOf, written}
-use Rattle.packing.specs.Plant.{GATEWAYS, HIGHEST, NONE, at, common}
-use Rattle.packing.specs.Holders.{held, holds}
+use Rattle.packing.specs.Plant.{GATEWAYS, NONE, at}
+use Rattle.packing.specs.Holders.{held}
 use Rattle.packing.proofs.Fitted.{fitted-written}
 use Rattle.search.specs.Search.{placedHolders, holdersAfter}
 use Rattle.search.specs.ChokeSet.{chokeByte, chokeWritten}
@@ -17,6 +17,7 @@ use Rattle.search.proofs.Tested.{chokeable-holds, choke-written}
 use Rattle.search.proofs.Limits.{placed-common}
 use Rattle.sound.specs.Sound.{isSound}
 use Rattle.sound.proofs.Meaning.{Sound, sound-means}
+use Rattle.sound.proofs.Searchable.{sound-searchable}
 use Rattle.stars.specs.Stars.{leaderList, leadersWritten}
 use Rattle.planner.specs.State.{State, linksOf, limitOf}
 
@@ -33,18 +34,13 @@ pub none-unheld : (n : ℕ) (hs : List ℕ) (v : ℕ) → n ≤ GATEWAYS → at 
 none-unheld n hs v few e = le-ltb (at hs v) n (omega arith)
 
 module _ (s : State) (sound : SoundState s) where
-  -- nobody holds more than the highest limit, so a search may be made with its holders
-  few-held : (u : ℕ) → u < s .small .n → holds (s .small .n) (at (s .holders)) u ≤ HIGHEST
-  unfolding common
-  few-held u l = omega (arith, sound .feasible .within u l, sound .high)
-
   -- the next gateway of one that is not fully placed may be placed, ..
   pub next-placeable : (s .small .k ≡ s .small .n → ⊥) → Placeable (s .small .n) (s .holders) (at (s .order) (s .small .k))
   next-placeable more =
       record {
         few = sound .few;
         holders = sound .holders-long;
-        within = few-held;
+        within = sound-searchable sound .within;
         inside = sound .order .below (s .small .k) (omega (arith, sound .placed));
         free = none-unheld (s .small .n) (s .holders) (at (s .order) (s .small .k)) (sound .few) (sound .free (s .small .k) (omega arith) (omega (arith, sound .placed)));
       }
@@ -65,4 +61,4 @@ module _ (s : State) (sound : SoundState s) where
   pub choke-placed : (choke : List ℕ) {choke' : List ℕ} → s .small .n ≤ length choke → choke' ≡ chokeWritten (s .small .n) (linksOf s) (s .holders) choke
       → choke' ≡ written (s .small .n) (listOf (s .small .n) (chokeByte (s .small .n) (linksOf s) (s .holders))) choke
   choke-placed choke room e =
-      e ∙ choke-written (s .small .n) (linksOf s) (s .holders) choke (chokeable-holds choke (record { few = sound .few; holders = sound .holders-long; within = few-held }) room)
+      e ∙ choke-written (s .small .n) (linksOf s) (s .holders) choke (chokeable-holds choke (sound-searchable sound) room)

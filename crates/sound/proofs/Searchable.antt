@@ -3,6 +3,7 @@ use Prim.Native.Nat.{ℕ, _<_, _≤_}
 use mathlib.Core.Path.{_≡_, _∙_}
 use mathlib.Core.Bool.{Bool, true}
 use mathlib.Core.List.{List}
+use native.Mathlib.Omega.{arith}
 use lib.Dec.{leb}
 use lib.ListN.{length, replicate}
 use borrow.Author.Tests.{leb-true, le-leb}
@@ -13,6 +14,7 @@ use Rattle.packing.proofs.Tests.{tests, all-intro, all-elim}
 use Rattle.sound.specs.Sound.{holdersWithin}
 use Rattle.packing.specs.Lists.{tallyOf}
 use Rattle.sound.specs.Searchable.{searchable}
+use Rattle.sound.proofs.Meaning.{Sound}
 use Rattle.sound.proofs.PassResults.{loads-are, within-common}
 
 pub record Searchable (n : ℕ) (hs : List ℕ) : Type 0 where
@@ -35,6 +37,11 @@ searchable-means n hs e = record { few = search (tests, leb-true); holders = sea
 pub searchable-holds : {n : ℕ} {hs : List ℕ} → Searchable n hs → searchable n hs ≡ true
 unfolding searchable
 searchable-holds {n} {hs} s = rw (le-leb n GATEWAYS (s .few), le-leb n (length hs) (s .holders)) (within-holds n hs (s .within))
+
+-- the holders of a sound record are such
+pub sound-searchable : {n t m k : ℕ} {ls os hs : List ℕ} → Sound n t m k ls os hs → Searchable n hs
+unfolding common
+sound-searchable s = record { few = s .few; holders = s .holders-long; within = λ u l. omega (arith, s .feasible .within u l, s .high) }
 
 -- what the tally of the holders says, compared with a list of the highest limit
 pub within-tallied : (n : ℕ) (hs limits : List ℕ) {loads : List ℕ} {r : Bool} → n ≤ GATEWAYS → loads ≡ tallyOf n hs → limits ≡ replicate GATEWAYS HIGHEST → r ≡ all n (λ v. leb (at loads v) (at limits v))
