@@ -65,13 +65,12 @@ pub(crate) fn kept(same: bool) {
 // A list after a call, and whether it is as it came.
 pub(crate) fn after(l: &[u16], came: &[u16]) {
     list(l);
-    kept(parts::digest(l) == parts::digest(came));
+    kept(parts::same(l, came));
 }
 
 // The same of two lists that came alike.
 pub(crate) fn after_two(a: &[u16], b: &[u16], came: &[u16]) {
     list(a);
     list(b);
-    let before = parts::digest(came);
-    kept(parts::digest(a) == before && parts::digest(b) == before);
+    kept(parts::same(a, came) && parts::same(b, came));
 }

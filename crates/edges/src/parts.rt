@@ -7,7 +7,21 @@ pub(crate) fn wide(x: u16) -> u64
     x as u64
 }
 
-// A number that tells most lists apart: a list after a call is compared with what came by it, so that no copy is needed. The lists that are printed show the rest.
+pub(crate) fn same(a: &[u16], b: &[u16]) -> bool {
+    if a.len() != b.len() {
+        return false;
+    }
+    let mut i: usize = 0;
+    while i < a.len() {
+        if a[i] != b[i] {
+            return false;
+        }
+        i += 1;
+    }
+    true
+}
+
+// A number that tells most lists apart, for a list of which no copy is at hand.
 pub(crate) fn digest(list: &[u16]) -> u64 {
     let mut sum: u64 = 0;
     let mut i: usize = 0;

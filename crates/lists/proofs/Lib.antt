@@ -1,3 +1,4 @@
--- Laws of entries and of tallies.
+-- Laws of entries, marks and tallies.
 pub mod Entries
+pub mod Marked
 pub mod Tallies

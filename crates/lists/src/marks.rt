@@ -25,7 +25,7 @@ pub fn ends() -> [u16; ENDS]
 pub fn nones() -> [u16; PLACES]
     ensures { λ r. ⌜ r ≡ replicate GATEWAYS NONE ⌝ }
 {
-    [65535u16; PLACES]
+    [crate::NONE; PLACES]
 }
 
 // Each byte x.

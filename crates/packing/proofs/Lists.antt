@@ -13,6 +13,7 @@ use lib.Seq.{getD-at, drop-cons, set-at, take-at, append-snoc, ext-getD, sets}
 use borrow.Author.Tests.{eqb-true, eq-eqb}
 use Rattle.packing.specs.Count.{pick, sum, count}
 use Rattle.packing.specs.Lists.{listOf, listWhere, written, memberOf}
+use Rattle.packing.specs.Plant.{at}
 use Rattle.packing.proofs.Tests.{below-suc, or-cases, or-l, or-r}
 use Rattle.packing.proofs.Counting.{Tallied, tally-start, tally-more, tally-same, tally-less, tally-end}
 
@@ -38,6 +39,12 @@ pub listOf-same : (n x : ℕ) → listOf n (λ i. x) ≡ replicate n x
 unfolding listOf
 listOf-same zero x = refl
 listOf-same (suc n) x = rw (listOf-same n x) (replicate-append-replicate n 1 x ∙ ap (λ (k : ℕ). replicate k x) (add-one n))
+
+-- every entry of a list of zeros is 0, also past its end
+pub zero-at : (n v : ℕ) → at (replicate n 0) v ≡ 0
+zero-at zero v = refl
+zero-at (suc n) zero = refl
+zero-at (suc n) (suc v) = zero-at n v
 
 -- a list is the list of its entries
 pub list-is : (l : List ℕ) → l ≡ listOf (length l) (λ i. getD l i 0)

@@ -1,6 +1,6 @@
 -- From the lists that the walk works in to the choke bytes.
-use Prim.Native.Nat.{ℕ, zero, suc, _≤_}
-use mathlib.Core.Path.{_≡_, refl, ap, fun-ext, _∙_}
+use Prim.Native.Nat.{ℕ, _≤_}
+use mathlib.Core.Path.{_≡_, ap, fun-ext, _∙_}
 use mathlib.Core.Bool.{Bool, not}
 use mathlib.Core.List.{List}
 use native.Mathlib.Omega.{arith}
@@ -16,7 +16,7 @@ use Rattle.search.specs.declared.Walked.the-variants.{Found, RanOut}
 use Rattle.search.specs.Pre.{asSearch, Is, Walkable}
 use Rattle.search.specs.ChokeSet.{withoutHolder, chokeWalk, seenIn, walkSaw, inChoke, chokeByte}
 use Rattle.search.specs.ChokePre.{Queued, Workable, seenByte}
-use Rattle.packing.proofs.Lists.{listOf-ext}
+use Rattle.packing.proofs.Lists.{listOf-ext, zero-at}
 use Rattle.search.proofs.Turns.{workspace}
 use Rattle.search.proofs.Unheld.{unheld-startable}
 
@@ -40,12 +40,7 @@ walked-seen (RanOut tail) queue from e v = ap (λ (t : Search). seenIn t v) e
 -- a list of zeros is the common limit of 0
 zero-limits : at (replicate GATEWAYS 0) ≡ common 0
 unfolding common
-zero-limits = fun-ext (λ u. zeros GATEWAYS u)
-  where
-    zeros : (k u : ℕ) → at (replicate k 0) u ≡ 0
-    zeros zero u = refl
-    zeros (suc k) zero = refl
-    zeros (suc k) (suc u) = zeros k u
+zero-limits = fun-ext (λ u. zero-at GATEWAYS u)
 
 module _ {n : ℕ} {hs queue from out queue' : List ℕ} {tail : ℕ} (w : Workable n hs queue from out) (q : Queued n hs queue' tail) where
   -- the gateways without holder may be walked from

@@ -5,12 +5,12 @@ use mathlib.Core.Bool.{Bool, true, false, not, cond, _&&_, _||_, and-true, or-tr
 use mathlib.Core.List.{List, [], _∷_}
 use native.Mathlib.Omega.{arith}
 use lib.Dec.{eqb, ltb}
-use lib.ListN.{length, set, drop, length-set}
-use lib.Seq.{getD-set-same, getD-set-other}
-use borrow.Author.Tests.{eqb-true, eqb-false, eq-eqb}
+use lib.ListN.{length, set, drop}
+use borrow.Author.Tests.{eqb-true, eq-eqb}
 use Rattle.packing.specs.Plant.{at, linked}
 use Rattle.packing.proofs.Tests.{by-bool, iff-test}
 use Rattle.packing.proofs.Flat.{pair-at, pair-end, linked-short}
+use Rattle.lists.proofs.Marked.{marked-entry, marked-length}
 use Rattle.sound.specs.Sound.{endsSound}
 use Rattle.sound.specs.Marks.{Zeros, noted, LinksPassed}
 
@@ -34,27 +34,20 @@ note-means hs marks v u here h = h ∙ rw here
 
 length-noted : (hs marks : List ℕ) (v u : ℕ) → length (noted hs marks v u) ≡ length marks
 unfolding noted
-length-noted hs marks v u = by-bool (eqb (at hs v) u) (λ e. rw e (length-set marks v 1)) (λ e. rw e)
+length-noted hs marks v u = marked-length marks v (eqb (at hs v) u)
 
 -- after v is noted for u, the marked are those before, and v if u is its holder
 noted-at : (hs marks : List ℕ) (v u w : ℕ) → w < length marks
     → eqb (at (noted hs marks v u) w) 1 ≡ (eqb (at marks w) 1 || (eqb v w && eqb u (at hs w)))
 unfolding noted
-noted-at hs marks v u w place = by-bool (eqb v w) (λ e. at-v (eqb-true v w e)) (λ e. rw e (other e (eqb (at hs v) u)))
+noted-at hs marks v u w place = rw (marked-entry marks v w (eqb (at hs v) u) place) (by-bool (eqb v w) (λ e. rw (e, eqb-true v w e, flip u (at hs w)) (one (eqb (at hs w) u))) (λ e. rw e (sym (or-false _))))
   where
-    other : eqb v w ≡ false → (b : Bool) → eqb (at (cond b (set marks v 1) marks) w) 1 ≡ (eqb (at marks w) 1 || false)
-    other e true = rw (getD-set-other marks v w 1 0 (λ q. eqb-false v w e (sym q))) (sym (or-false _))
-    other e false = sym (or-false _)
-
     flip : (a b : ℕ) → eqb a b ≡ eqb b a
     flip a b = iff-test (eqb a b) (eqb b a) (λ e. eq-eqb b a (sym (eqb-true a b e))) (λ e. eq-eqb a b (sym (eqb-true b a e)))
 
-    step : (b : Bool) → eqb (at (cond b (set marks w 1) marks) w) 1 ≡ (eqb (at marks w) 1 || b)
-    step true = rw (getD-set-same marks w 1 0 place) (sym (or-true (eqb (at marks w) 1)))
-    step false = sym (or-false _)
-
-    at-v : v ≡ w → eqb (at (cond (eqb (at hs v) u) (set marks v 1) marks) w) 1 ≡ (eqb (at marks w) 1 || (eqb v w && eqb u (at hs w)))
-    at-v q = rw (q, eq-eqb w w refl, flip u (at hs w)) (step (eqb (at hs w) u))
+    one : (b : Bool) → eqb (cond b 1 (at marks w)) 1 ≡ (eqb (at marks w) 1 || b)
+    one true = sym (or-true (eqb (at marks w) 1))
+    one false = sym (or-false _)
 
 length-turn : (hs marks marks' marks'' : List ℕ) (a b : ℕ) → marks' ≡ noted hs marks a b → marks'' ≡ noted hs marks' b a → length marks'' ≡ length marks
 length-turn hs marks marks' marks'' a b f g = rw (g, length-noted, f, length-noted)

@@ -1,21 +1,17 @@
 -- Tests that the passes gather, put together from what their parts answer; and an array of zeros.
-use Prim.Native.Nat.{ℕ, zero, suc}
-use mathlib.Core.Path.{_≡_, refl, ap, _∙_}
+use Prim.Native.Nat.{ℕ}
+use mathlib.Core.Path.{_≡_, ap, _∙_}
 use mathlib.Core.Bool.{Bool, _||_}
 use mathlib.Core.List.{List}
 use lib.Dec.{eqb, ltb}
 use lib.ListN.{replicate}
 use Rattle.packing.specs.Plant.{GATEWAYS, NONE, at}
+use Rattle.packing.proofs.Lists.{zero-at}
 use Rattle.sound.specs.Marks.{Zeros}
 
-zeros : (n : ℕ) → Zeros (replicate n 0)
-unfolding Zeros
-zeros zero v = refl
-zeros (suc n) zero = refl
-zeros (suc n) (suc v) = unfold Zeros in zeros n v
-
 pub all-zero : {l : List ℕ} → l ≡ replicate GATEWAYS 0 → Zeros l
-all-zero e = rw e (zeros GATEWAYS)
+unfolding Zeros
+all-zero e = rw e (zero-at GATEWAYS)
 
 -- a test of two parts, each known by an equation
 pub either-of : {a a' b b' r : Bool} → r ≡ (a || b) → a ≡ a' → b ≡ b' → r ≡ (a' || b')

@@ -1,34 +1,28 @@
 -- The rounds of rule 1: one pass over the gateways, and n rounds of it.
 use Prim.Native.Nat.{ℕ, zero, suc, _+_, _<_, _≤_}
 use mathlib.Core.Path.{_≡_, refl, sym, ap, _∙_}
-use mathlib.Core.Bool.{Bool, true, false, not, cond, _&&_, _||_, and-false, and-assoc, or-true, or-false}
+use mathlib.Core.Bool.{Bool, true, false, not, cond, _&&_, _||_, and-assoc, or-true, or-false}
 use mathlib.Core.List.{List}
 use native.Mathlib.Nat.{le-antisymm}
 use native.Mathlib.Numerals.{add-one}
 use native.Mathlib.Omega.{arith}
 use lib.Dec.{eqb}
-use lib.ListN.{length, set, length-set}
-use lib.Seq.{getD-set-same, getD-set-other}
-use borrow.Author.Tests.{eqb-true, eqb-false}
+use lib.ListN.{length, set}
 use Rattle.packing.specs.Count.{pick, any}
 use Rattle.packing.specs.Plant.{GATEWAYS, at}
-use Rattle.packing.proofs.Tests.{by-bool}
+use Rattle.lists.proofs.Marked.{marked-entry, marked-length}
 use Rattle.stars.specs.Stars.{leadsIn}
 use Rattle.stars.specs.Pre.{Marks, marked, holdsLed}
 use Rattle.stars.proofs.Loops.{any-more, any-ext}
 use Rattle.stars.proofs.Tables.{Blank, read-mark}
 
--- u noted where b is true: v is marked if it was, or is u
-note-at : (l : List ℕ) (u v : ℕ) (old b : Bool) → v < length l → at l v ≡ pick old 1 → at (cond b (set l u 1) l) v ≡ pick (old || (eqb u v && b)) 1
-note-at l u v old false h e = rw (and-false, or-false) e
-note-at l u v old true h e =
-    by-bool (eqb u v)
-    (λ q. rw (q, eqb-true u v q, or-true) (getD-set-same l v 1 0 h))
-    (λ q. rw (q, or-false) (getD-set-other l u v 1 0 (λ r. eqb-false u v q (sym r)) ∙ e))
-
-length-note : (l : List ℕ) (u : ℕ) (b : Bool) → length (cond b (set l u 1) l) ≡ length l
-length-note l u true = length-set l u 1
-length-note l u false = refl
+-- u marked where b is true: v is marked if it was, or is u
+mark-at : (l : List ℕ) (u v : ℕ) (old b : Bool) → v < length l → at l v ≡ pick old 1 → at (cond b (set l u 1) l) v ≡ pick (old || (eqb u v && b)) 1
+mark-at l u v old b h e = marked-entry l u v b h ∙ rw e (one (eqb u v && b))
+  where
+    one : (c : Bool) → cond c 1 (pick old 1) ≡ pick (old || c) 1
+    one true = rw or-true
+    one false = rw or-false
 
 -- a pass has marked the holders of those below w that are led
 pub record Passed (n : ℕ) (hs ss ls next : List ℕ) (w : ℕ) : Type 0 where
@@ -47,9 +41,9 @@ module _ (n : ℕ) (hs ss ls : List ℕ) where
       record {
         upto = omega arith;
         table = record {
-          long = p .table .long ∙ sym (length-note next u led) ∙ ap length (sym g);
+          long = p .table .long ∙ sym (marked-length next u led) ∙ ap length (sym g);
           entry = λ v k.
-              ap (λ (l : List ℕ). at l v) g ∙ note-at next u v (holdsLed w hs ss ls v) led (omega (arith, p .table .long)) (p .table .entry v k)
+              ap (λ (l : List ℕ). at l v) g ∙ mark-at next u v (holdsLed w hs ss ls v) led (omega (arith, p .table .long)) (p .table .entry v k)
               ∙ ap (λ (b : Bool). pick b 1) (any-more w _ _ (eqb u v && led) _ refl (rw (e, f) (sym (and-assoc (eqb (at hs w) v) _ _))) refl);
         };
       }

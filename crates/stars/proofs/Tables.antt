@@ -1,5 +1,5 @@
 -- Arrays with a place for each gateway: filled one after the other, and read.
-use Prim.Native.Nat.{ℕ, zero, suc, _+_, _<_, _≤_}
+use Prim.Native.Nat.{ℕ, zero, _+_, _<_, _≤_}
 use mathlib.Core.Path.{_≡_, refl, sym, ap, _∙_}
 use mathlib.Core.Bool.{Bool}
 use mathlib.Core.List.{List}
@@ -12,17 +12,13 @@ use Rattle.packing.proofs.Counting.{pick-test}
 use Rattle.packing.specs.Count.{pick}
 use Rattle.packing.specs.Plant.{GATEWAYS, at}
 use Rattle.packing.proofs.Tests.{below-suc}
+use Rattle.packing.proofs.Lists.{zero-at}
 use Rattle.stars.specs.Pre.{Table, Marks, marked}
 
 -- an array of 1,024 in which nothing is marked
 pub record Blank (l : List ℕ) : Type 0 where
   pub long : GATEWAYS ≡ length l
   pub zero : (v : ℕ) → at l v ≡ 0
-
-zero-at : (n v : ℕ) → at (replicate n 0) v ≡ 0
-zero-at zero v = refl
-zero-at (suc n) zero = refl
-zero-at (suc n) (suc v) = zero-at n v
 
 -- an array of zeros has nothing marked
 pub blank : {l : List ℕ} → l ≡ replicate GATEWAYS 0 → Blank l
