@@ -7,6 +7,7 @@ use native.Mathlib.Omega.{arith}
 use lib.Dec.{ltb}
 use lib.ListN.{length, take, replicate}
 use borrow.Author.Tests.{lt-ltb, le-ltb}
+use Rattle.packing.specs.Plant.{GATEWAYS}
 use Rattle.packing.specs.Lists.{written}
 use Rattle.packing.specs.Refusals.{byNumber}
 use Rattle.packing.proofs.Refusals.{refused, accepted}
@@ -33,7 +34,7 @@ long-number file out {n} is long f g =
     (f ∙ sym alone, g ∙ rw alone)
 
 -- the plan into lists of 1,024 entries
-module _ (file : List ℕ) {a b : List ℕ} (ea : a ≡ replicate 1024 0) (eb : b ≡ replicate 1024 0) {e : ℕ} (of : e ≡ planRefusal file (length a) (length b)) where
+module _ (file : List ℕ) {a b : List ℕ} (ea : a ≡ replicate GATEWAYS 0) (eb : b ≡ replicate GATEWAYS 0) {e : ℕ} (of : e ≡ planRefusal file (length a) (length b)) where
   plan-is : e ≡ fileRefusal file
   plan-is = of ∙ plan-own file ea eb
 

@@ -57,8 +57,8 @@ text-refused zero listing h = absurd (h refl)
 text-refused (suc e) listing h = refl
 
 -- the two ways to the text
-module _ (file out : List ℕ) {a b : List ℕ} (ea : a ≡ replicate 1024 0) (eb : b ≡ replicate 1024 0) {e : ℕ} (of : e ≡ planRefusal file (length a) (length b)) where
-  number-is : planRefusal file 1024 1024 ≡ e
+module _ (file out : List ℕ) {a b : List ℕ} (ea : a ≡ replicate GATEWAYS 0) (eb : b ≡ replicate GATEWAYS 0) {e : ℕ} (of : e ≡ planRefusal file (length a) (length b)) where
+  number-is : planRefusal file GATEWAYS GATEWAYS ≡ e
   number-is = sym (of ∙ rw (ea, eb, length-replicate))
 
   pub write-refused : {r : ℕ} {out' : List ℕ} → (e ≡ 0 → ⊥) → r ≡ length (text.refusedLine e) → out' ≡ sets out 0 (text.refusedLine e) → (r ≡ length (fileText file)) × (out' ≡ sets out 0 (fileText file))
@@ -76,11 +76,11 @@ module _ (file out : List ℕ) {a b : List ℕ} (ea : a ≡ replicate 1024 0) (e
 -- it has room in a list of 16,437 entries
 text-short : (file : List ℕ) → length (fileText file) ≤ 16437
 unfolding fileText
-text-short file = by (planRefusal file 1024 1024) refl
+text-short file = by (planRefusal file GATEWAYS GATEWAYS) refl
   where
-    by : (e : ℕ) → planRefusal file 1024 1024 ≡ e
-        → length (textBy e (text.listing (fileN file) (fileT file) (planLeaders file (replicate 1024 0) (replicate 1024 0)) (planChoke file (replicate 1024 0) (replicate 1024 0)))) ≤ 16437
-    by zero g = listing-short _ _ _ _ (file-allowed file (plan-places file 1024 1024 refl g .0) .few)
+    by : (e : ℕ) → planRefusal file GATEWAYS GATEWAYS ≡ e
+        → length (textBy e (text.listing (fileN file) (fileT file) (planLeaders file (replicate GATEWAYS 0) (replicate GATEWAYS 0)) (planChoke file (replicate GATEWAYS 0) (replicate GATEWAYS 0)))) ≤ 16437
+    by zero g = listing-short _ _ _ _ (file-allowed file (plan-places file GATEWAYS GATEWAYS refl g .0) .few)
     by (suc e) g = omega (arith, refused-length (suc e))
 
 module _ (file out : List ℕ) {r : ℕ} {new : List ℕ} (e : out ≡ replicate 16437 0) (f : r ≡ length (fileText file)) (g : new ≡ sets out 0 (fileText file)) where

@@ -5,6 +5,7 @@ use mathlib.Core.Bool.{Bool, true, false, not}
 use mathlib.Core.List.{List}
 use lib.ListN.{length}
 use borrow.Author.Tests.{leb-true, le-leb, not-true, not-false}
+use Rattle.packing.specs.Plant.{GATEWAYS}
 use Rattle.packing.specs.Lists.{listOf, written, fits, Lent, fitted}
 use Rattle.packing.proofs.Tests.{tests}
 
@@ -15,7 +16,7 @@ fits-means n read out e = record { few = search (tests, leb-true); entries = sea
 
 fits-holds : {n : ℕ} {read out : List ℕ} → Lent n read out → fits n (length read) (length out) ≡ true
 unfolding fits
-fits-holds {n} {read} {out} l = rw (le-leb n 1024 (l .few), le-leb n (length read) (l .entries), le-leb n (length out) (l .places))
+fits-holds {n} {read} {out} l = rw (le-leb n GATEWAYS (l .few), le-leb n (length read) (l .entries), le-leb n (length out) (l .places))
 
 -- where it fits, the values are written
 pub fitted-written : {n : ℕ} {read out : List ℕ} (f : ℕ → ℕ) → Lent n read out → fitted n read f out ≡ written n (listOf n f) out

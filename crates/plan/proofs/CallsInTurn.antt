@@ -6,6 +6,7 @@ use native.Mathlib.Numerals.{add-one}
 use native.Mathlib.Omega.{arith}
 use lib.ListN.{length, take, drop, replicate, length-replicate, drop-of-length-le}
 use borrow.Author.Tests.{le-leb}
+use Rattle.packing.specs.Plant.{GATEWAYS, ENDS}
 use Rattle.packing.specs.Lists.{written}
 use Rattle.packing.proofs.Flat.{pair-at}
 use Rattle.packing.proofs.Lists.{written-room, written-front}
@@ -65,7 +66,7 @@ module _ (file : List ℕ) {first : State} where
       none h = drop-of-length-le (fileLinks file) h
 
 -- the order as it is taken from the file, and its call
-module _ (file : List ℕ) (z : fileRefusal file ≡ 0) {n : ℕ} (is : n ≡ fileN file) {lent l : List ℕ} (blank : lent ≡ replicate 1024 0) (taken : l ≡ orderWritten file lent) where
+module _ (file : List ℕ) (z : fileRefusal file ≡ 0) {n : ℕ} (is : n ≡ fileN file) {lent l : List ℕ} (blank : lent ≡ replicate GATEWAYS 0) (taken : l ≡ orderWritten file lent) where
   -- there is a place for each number
   written-order : l ≡ written (fileN file) (fileOrder file) lent
   unfolding orderWritten
@@ -131,7 +132,7 @@ all-made file ls os hs {n} {t} {ls₂} {os₁} {os₃} {hs₁} {hs₄} {r} {s₂
     after s = sym (run-append s (linkCalls (fileLinks file)) (order (fileOrder file) ∷ placeCalls (fileN file)))
 
 -- the record made with lists of 0 is the file's, and so is what a read of it writes
-module _ (file : List ℕ) {ls os hs : List ℕ} (s : Small) (ls' os' hs' : List ℕ) (els : ls ≡ replicate 16384 0) (eos : os ≡ replicate 1024 0) (ehs : hs ≡ replicate 1024 0)
+module _ (file : List ℕ) {ls os hs : List ℕ} (s : Small) (ls' os' hs' : List ℕ) (els : ls ≡ replicate ENDS 0) (eos : os ≡ replicate GATEWAYS 0) (ehs : hs ≡ replicate GATEWAYS 0)
     (made : stateOf s ls' os' hs' ≡ madeBy (fileN file) (fileT file) ls os hs (fileCalls file)) where
   file-made : stateOf s ls' os' hs' ≡ fileState file
   unfolding fileState

@@ -5,7 +5,7 @@ use mathlib.Core.List.{List, _++_, append-nil}
 use native.Mathlib.Omega.{arith}
 use lib.ListN.{length, take, replicate, length-replicate, drop-of-length-le}
 use Rattle.packing.specs.Lists.{listOf, written}
-use Rattle.packing.specs.Plant.{at}
+use Rattle.packing.specs.Plant.{GATEWAYS, ENDS, at}
 use Rattle.packing.proofs.Lists.{listOf-length, written-room, written-front}
 use Rattle.stars.specs.Stars.{leaderList}
 use Rattle.search.specs.ChokeSet.{chokeByte}
@@ -25,12 +25,12 @@ use Rattle.plan.proofs.ToldByFile.{placedTold, open-accepted, read-acce
 
 -- the lists that the planner's calls are made with
 abbrev ownLinks : List ℕ
-ownLinks = replicate 16384 0
+ownLinks = replicate ENDS 0
 
 abbrev own : List ℕ
-own = replicate 1024 0
+own = replicate GATEWAYS 0
 
-own-long : 1024 ≤ length own
+own-long : GATEWAYS ≤ length own
 own-long = rw length-replicate (omega arith)
 
 module _ (file : List ℕ) (z : fileRefusal file ≡ 0) where

@@ -56,7 +56,7 @@ standing-of s sound left =
     }
 
 -- no holder at all is feasible
-unheld-feasible : (n : ℕ) (limit : ℕ → ℕ) (adj : ℕ → ℕ → Bool) (hs : List ℕ) → n ≤ 1024 → ((v : ℕ) → v < n → at hs v ≡ NONE) → Feasible n limit adj (at hs)
+unheld-feasible : (n : ℕ) (limit : ℕ → ℕ) (adj : ℕ → ℕ → Bool) (hs : List ℕ) → n ≤ GATEWAYS → ((v : ℕ) → v < n → at hs v ≡ NONE) → Feasible n limit adj (at hs)
 unfolding holds
 unheld-feasible n limit adj hs few none =
     record {

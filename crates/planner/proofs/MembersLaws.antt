@@ -9,7 +9,7 @@ use lib.ListN.{length, take, drop, length-take, take-append-drop}
 use lib.Seq.{take-all, take-append-seam, length-take-le}
 use borrow.Author.Tests.{eq-eqb, ne-eqb, lt-ltb, le-ltb, ltb-false}
 use Rattle.packing.specs.Lists.{listWhere, written}
-use Rattle.packing.specs.Plant.{at}
+use Rattle.packing.specs.Plant.{GATEWAYS, at}
 use Rattle.packing.specs.Grouping.{memberCount, membersOf}
 use Rattle.packing.proofs.Lists.{listWhere-length, written-front}
 use Rattle.packing.specs.Refusals.{byNumber}
@@ -17,31 +17,31 @@ use Rattle.planner.specs.Members.{listedLeaders, membersConditions, memb
 use Rattle.packing.proofs.Refusals.{refuse-none, refused, accepted}
 
 -- the entries looked at
-pub listed-all : (l : List ℕ) → length l < 1024 → length l ≡ length (listedLeaders l)
+pub listed-all : (l : List ℕ) → length l < GATEWAYS → length l ≡ length (listedLeaders l)
 unfolding listedLeaders
-listed-all l h = ap length (sym (take-all 1024 l (omega arith)))
+listed-all l h = ap length (sym (take-all GATEWAYS l (omega arith)))
 
-pub listed-most : (l : List ℕ) → 1024 ≤ length l → 1024 ≡ length (listedLeaders l)
+pub listed-most : (l : List ℕ) → GATEWAYS ≤ length l → GATEWAYS ≡ length (listedLeaders l)
 unfolding listedLeaders
-listed-most l h = sym (length-take-le 1024 l h)
+listed-most l h = sym (length-take-le GATEWAYS l h)
 
-listed-few : (l : List ℕ) → length (listedLeaders l) ≤ 1024
+listed-few : (l : List ℕ) → length (listedLeaders l) ≤ GATEWAYS
 unfolding listedLeaders
 listed-few l = rw length-take (omega arith)
 
 listed-within : (l : List ℕ) {end : ℕ} → end ≡ length (listedLeaders l) → end ≤ length l
 unfolding listedLeaders
-listed-within l e = omega (arith, length-take 1024 l)
+listed-within l e = omega (arith, length-take GATEWAYS l)
 
 listed-front : (l : List ℕ) {end : ℕ} → end ≡ length (listedLeaders l) → take end l ≡ listedLeaders l
 unfolding listedLeaders
 listed-front l e =
-    rw e (ap (λ (d : List ℕ). take (length (take 1024 l)) d) (sym (take-append-drop 1024 l)) ∙ take-append-seam (take 1024 l) (drop 1024 l))
+    rw e (ap (λ (d : List ℕ). take (length (take GATEWAYS l)) d) (sym (take-append-drop GATEWAYS l)) ∙ take-append-seam (take GATEWAYS l) (drop GATEWAYS l))
 
 pub listed-long : (l : List ℕ) {end : ℕ} → end ≡ length (listedLeaders l) → end ≡ length (take end l)
 listed-long l e = sym (length-take-le _ l (listed-within l e))
 
-pub listed-room : (l : List ℕ) {end : ℕ} → end ≡ length (listedLeaders l) → length (take end l) ≤ 1024
+pub listed-room : (l : List ℕ) {end : ℕ} → end ≡ length (listedLeaders l) → length (take end l) ≤ GATEWAYS
 listed-room l e = rw (listed-front l e) (listed-few l)
 
 -- the count of members is the length of their list
@@ -95,7 +95,7 @@ module _ (leaders : List ℕ) (u : ℕ) (lent : List ℕ) {r : ℕ} (e : r ≡ m
 
   -- an accepted one
   module _ (z : r ≡ 0) {end : ℕ} (looked : end ≡ length (listedLeaders leaders)) where
-    pub write-room : (length (take end leaders) ≤ 1024) × (length (membersOf (length (take end leaders)) (at (take end leaders)) u) ≤ length lent)
+    pub write-room : (length (take end leaders) ≤ GATEWAYS) × (length (membersOf (length (take end leaders)) (at (take end leaders)) u) ≤ length lent)
     write-room = rw (listed-front leaders looked) (listed-few leaders, members-room leaders u (length lent) e z)
 
     pub write-accepted : {out : List ℕ} {c : ℕ}

@@ -5,6 +5,7 @@ use mathlib.Core.Bool.{Bool}
 use mathlib.Core.List.{List}
 use native.Mathlib.Omega.{arith}
 use lib.ListN.{length, take}
+use Rattle.packing.specs.Plant.{GATEWAYS}
 use Rattle.packing.specs.Lists.{written}
 use Rattle.packing.proofs.Lists.{Listed, written-front, list-turn}
 use Rattle.sound.specs.Sound.{onceEach, isOrder}
@@ -35,5 +36,5 @@ module _ (file lent : List ℕ) {n : ℕ} {l : List ℕ} (is : n ≡ fileN file)
   pub order-front-long : n ≡ length (take n l)
   order-front-long = is ∙ sym (order-long file) ∙ sym (ap length order-front)
 
-  pub order-tested : {r : Bool} → fileN file ≤ 1024 → r ≡ isOrder n (take n l) → r ≡ onceEach (fileN file) (fileOrder file)
+  pub order-tested : {r : Bool} → fileN file ≤ GATEWAYS → r ≡ isOrder n (take n l) → r ≡ onceEach (fileN file) (fileOrder file)
   order-tested few f = (rw (order-front, is) at f) ∙ order-is (fileN file) (fileOrder file) few (omega (arith, order-long file))

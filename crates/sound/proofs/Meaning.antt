@@ -9,7 +9,7 @@ use lib.Dec.{eqb, ltb, leb}
 use lib.ListN.{length}
 use borrow.Author.Tests.{eqb-true, eqb-false, eq-eqb, ne-eqb, ltb-true, ltb-false, lt-ltb, leb-true, le-leb, not-true}
 use Rattle.packing.specs.Count.{count, all}
-use Rattle.packing.specs.Plant.{NONE, at, common, firstLinks, linked, joins}
+use Rattle.packing.specs.Plant.{GATEWAYS, LINKS, LOWEST, HIGHEST, NONE, at, common, firstLinks, linked, joins}
 use Rattle.packing.specs.Holders.{held, holds, Feasible}
 use Rattle.packing.proofs.Tests.{tests, by-bool, and-l, and-r, and-i, or-l, or-r, or-cases, iff-test, all-elim, all-intro}
 use Rattle.packing.proofs.Sums.{count-ext, count-one, count-unique, count-some, count-same, count-all, fibre, sumOver-ext, sumOver-const}
@@ -17,10 +17,10 @@ use Rattle.packing.proofs.Prefixes.{IsOrder, order-place}
 use Rattle.sound.specs.Sound.{numbersSound, listsLong, endsSound, onceEach, isOrder, holdersLinked, holdersWithin, onlyPlacedHeld, isSound}
 
 pub record Sound (n t m k : ℕ) (ls os hs : List ℕ) : Type 0 where
-  pub few : n ≤ 1024
-  pub low : 2 ≤ t
-  pub high : t ≤ 16
-  pub few-links : m ≤ 8192
+  pub few : n ≤ GATEWAYS
+  pub low : LOWEST ≤ t
+  pub high : t ≤ HIGHEST
+  pub few-links : m ≤ LINKS
   pub placed : k ≤ n
   pub links-long : 2 * m ≤ length ls
   pub order-long : n ≤ length os
@@ -31,7 +31,7 @@ pub record Sound (n t m k : ℕ) (ls os hs : List ℕ) : Type 0 where
   pub feasible : Feasible n (common t) (linked (firstLinks m ls)) (at hs)
   pub free : (i : ℕ) → k ≤ i → i < n → at hs (at os i) ≡ NONE
 
-pub numbers-mean : (n t m k : ℕ) → numbersSound n t m k ≡ true → (n ≤ 1024) × (2 ≤ t) × (t ≤ 16) × (m ≤ 8192) × (k ≤ n)
+pub numbers-mean : (n t m k : ℕ) → numbersSound n t m k ≡ true → (n ≤ GATEWAYS) × (LOWEST ≤ t) × (t ≤ HIGHEST) × (m ≤ LINKS) × (k ≤ n)
 unfolding numbersSound
 numbers-mean n t m k e = search (tests, leb-true)
 
@@ -78,9 +78,9 @@ mean-ends n (a ∷ b ∷ l) h =
     rw (ne-eqb a b (f .2), lt-ltb a n (f .0), lt-ltb b n (f .1)) (mean-ends n l (λ x y j. h x y (or-r (joins a b x y) (linked l x y) j)))
 
 -- where n is in range and there are n numbers, only whether each stands once is asked
-pub order-is : (n : ℕ) (l : List ℕ) → n ≤ 1024 → n ≤ length l → isOrder n l ≡ onceEach n l
+pub order-is : (n : ℕ) (l : List ℕ) → n ≤ GATEWAYS → n ≤ length l → isOrder n l ≡ onceEach n l
 unfolding isOrder
-order-is n l few long = rw (le-leb n 1024 few, le-leb n (length l) long)
+order-is n l few long = rw (le-leb n GATEWAYS few, le-leb n (length l) long)
 
 pub once-mean : (n : ℕ) (os : List ℕ) → onceEach n os ≡ true → IsOrder n (at os)
 unfolding onceEach
@@ -160,7 +160,7 @@ module _ (n t m k : ℕ) (ls os hs : List ℕ) where
       c : Clauses
       c = clauses e
 
-      nums : (n ≤ 1024) × (2 ≤ t) × (t ≤ 16) × (m ≤ 8192) × (k ≤ n)
+      nums : (n ≤ GATEWAYS) × (LOWEST ≤ t) × (t ≤ HIGHEST) × (m ≤ LINKS) × (k ≤ n)
       nums = numbers-mean n t m k (c .numbers)
 
       lens : (2 * m ≤ length ls) × (n ≤ length os) × (n ≤ length hs)
@@ -179,10 +179,10 @@ module _ (n t m k : ℕ) (ls os hs : List ℕ) where
   unfolding isSound numbersSound listsLong holdersLinked holdersWithin onlyPlacedHeld
   means-sound s =
       rw (
-        le-leb n 1024 (s .few),
-        le-leb 2 t (s .low),
-        le-leb t 16 (s .high),
-        le-leb m 8192 (s .few-links),
+        le-leb n GATEWAYS (s .few),
+        le-leb LOWEST t (s .low),
+        le-leb t HIGHEST (s .high),
+        le-leb m LINKS (s .few-links),
         le-leb k n (s .placed),
         le-leb (2 * m) (length ls) (s .links-long),
         le-leb n (length os) (s .order-long),

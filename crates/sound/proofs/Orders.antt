@@ -8,7 +8,7 @@ use lib.Dec.{eqb, ltb}
 use lib.ListN.{length}
 use borrow.Author.Tests.{eqb-false, ne-eqb, ltb-true, lt-ltb, ltb-false, not-false}
 use Rattle.packing.specs.Count.{any}
-use Rattle.packing.specs.Plant.{at}
+use Rattle.packing.specs.Plant.{GATEWAYS, at}
 use Rattle.packing.proofs.Tests.{by-bool, not-i-false, clash, or-none, or-false-l, or-false-r, any-none, any-fails}
 use Rattle.packing.proofs.Prefixes.{IsOrder}
 use Rattle.sound.specs.Sound.{onceEach, isOrder}
@@ -44,5 +44,5 @@ order-test n l =
     (λ e. rw (e, mean-once n l (order-right n l e)))
 
 -- what the test of an order says of a list of n numbers
-pub order-answer : (n : ℕ) (l : List ℕ) {r : Bool} → n ≤ 1024 → length l ≡ n → r ≡ isOrder n l → repeatsOrOutside n l ≡ not r
+pub order-answer : (n : ℕ) (l : List ℕ) {r : Bool} → n ≤ GATEWAYS → length l ≡ n → r ≡ isOrder n l → repeatsOrOutside n l ≡ not r
 order-answer n l few long e = sym (order-test n l) ∙ rw (e, order-is n l few (omega arith))
