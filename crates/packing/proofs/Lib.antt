@@ -6,6 +6,7 @@ pub mod Flat
 pub mod Lists
 pub mod Fitted
 pub mod Refusals
+pub mod Turns
 pub mod Tight
 pub mod Hall
 pub mod TightPairs

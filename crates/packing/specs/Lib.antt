@@ -4,6 +4,7 @@ pub mod Lists
 pub mod Plant
 pub mod Orders
 pub mod Refusals
+pub mod Turns
 pub mod Grouping
 pub mod Holders
 pub mod Choke

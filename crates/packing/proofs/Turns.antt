@@ -1,0 +1,116 @@
+-- Laws of turns: a test is its condition in words, a chain of tests is a turn, and a turn names one number.
+use Prim.Native.Nat.{ℕ, zero, suc, _+_, _*_, _<_, _≤_}
+use mathlib.Core.Path.{_≡_, refl, sym, _∙_}
+use mathlib.Core.Logic.{_⊎_, inl, inr, ⊎-elim}
+use mathlib.Core.Bool.{Bool, true, false, not, _&&_, _||_, true≢false, false≢true}
+use mathlib.Core.List.{List, [], _∷_}
+use native.Mathlib.Nat.{not-suc-le-zero}
+use native.Mathlib.Omega.{arith}
+use lib.Dec.{eqb, ltb, leb}
+use lib.ListN.{length}
+use borrow.Author.Tests.{eqb-true, eqb-false, eq-eqb, ltb-true, ltb-false, le-ltb, leb-true, leb-false, not-true}
+use Rattle.packing.specs.Count.{any}
+use Rattle.packing.specs.Plant.{at, joins, linked}
+use Rattle.packing.specs.Orders.{repeatsOrOutside}
+use Rattle.packing.specs.Refusals.{refuse}
+use Rattle.packing.specs.Turns.{Turn, done, named, FirstNamed, SameLink, LinkThere, firstEnd, secondEnd, RepeatsOrOutside}
+use Rattle.packing.proofs.Tests.{clash, not-i, or-l, or-r, or-cases, or-false-l, or-false-r, any-elim, any-intro}
+
+-- a test says just what a condition in words says
+pub record Says (b : Bool) (Condition : Type 0) : Type 0 where
+  pub holds : b ≡ true → Condition
+  pub fails : b ≡ false → Condition → ⊥
+
+-- no number named
+pub turn-done : FirstNamed done 0
+unfolding FirstNamed
+turn-done = refl
+
+-- the first of a chain of tests, and the rest
+pub turn-named : (b : Bool) (e rest : ℕ) {Condition : Type 0} (later : Turn) → Says b Condition → (b ≡ false → FirstNamed later rest) → FirstNamed (named e Condition later) (refuse b e rest)
+unfolding FirstNamed
+turn-named true e rest later s f = inl (s .holds refl, refl)
+turn-named false e rest later s f = inr (s .fails refl, f refl)
+
+-- a turn names one number
+pub named-once : (turn : Turn) (d e : ℕ) → FirstNamed turn d → FirstNamed turn e → d ≡ e
+unfolding FirstNamed
+named-once done d e f g = f ∙ sym g
+named-once (named x Condition later) d e f g =
+    ⊎-elim (λ p. ⊎-elim (λ q. p .1 ∙ sym (q .1)) (λ q. absurd (q .0 (p .0))) g)
+    (λ p. ⊎-elim (λ q. absurd (p .0 (q .0))) (λ q. named-once later d e (p .1) (q .1)) g) f
+
+-- Tests, and what they say in words.
+pub says-less : (a b : ℕ) → Says (ltb a b) (a < b)
+says-less a b = record { holds = ltb-true a b; fails = λ e l. omega (arith, ltb-false a b e) }
+
+pub says-most : (a b : ℕ) → Says (leb a b) (a ≤ b)
+says-most a b = record { holds = leb-true a b; fails = λ e l. omega (arith, leb-false a b e) }
+
+pub says-same : (a b : ℕ) → Says (eqb a b) (a ≡ b)
+says-same a b = record { holds = eqb-true a b; fails = eqb-false a b }
+
+pub says-either : (a b : Bool) {A B : Type 0} → Says a A → Says b B → Says (a || b) (A ⊎ B)
+says-either a b s t =
+    record {
+      holds = λ e. ⊎-elim (λ p. inl (s .holds p)) (λ p. inr (t .holds p)) (or-cases a b e);
+      fails = λ e p. ⊎-elim (s .fails (or-false-l a b e)) (t .fails (or-false-r a b e)) p;
+    }
+
+pub says-both : (a b : Bool) {A B : Type 0} → Says a A → Says b B → Says (a && b) (A × B)
+says-both true true s t = record { holds = λ e. (s .holds refl, t .holds refl); fails = λ e p. true≢false e }
+says-both true false s t = record { holds = λ e. absurd (false≢true e); fails = λ e p. t .fails refl (p .1) }
+says-both false b s t = record { holds = λ e. absurd (false≢true e); fails = λ e p. s .fails refl (p .0) }
+
+pub says-not : (b : Bool) {A : Type 0} → Says b A → Says (not b) (A → ⊥)
+says-not true s = record { holds = λ e. absurd (false≢true e); fails = λ e p. p (s .holds refl) }
+says-not false s = record { holds = λ e. s .fails refl; fails = λ e p. true≢false e }
+
+-- a condition in other words
+pub says-as : {b : Bool} {A B : Type 0} → (A → B) → (B → A) → Says b A → Says b B
+says-as to from s = record { holds = λ e. to (s .holds e); fails = λ e p. s .fails e (from p) }
+
+says-join : (a b x y : ℕ) → Says (joins a b x y) (SameLink a b x y)
+says-join a b x y = says-either _ _ (says-both _ _ (says-same a x) (says-same b y)) (says-both _ _ (says-same a y) (says-same b x))
+
+-- whether two are linked, by the ends of the links
+pub says-linked : (m : ℕ) (l : List ℕ) (a b : ℕ) → length l ≡ 2 * m → Says (linked l a b) (LinkThere m (firstEnd l) (secondEnd l) a b)
+unfolding linked
+says-linked zero [] a b e = record { holds = λ q. absurd (false≢true q); fails = λ q p. not-suc-le-zero (p .1) }
+says-linked zero (x ∷ l) a b e = absurd (omega arith)
+says-linked (suc m) [] a b e = absurd (omega arith)
+says-linked (suc m) (x ∷ []) a b e = absurd (omega arith)
+says-linked (suc m) (x ∷ y ∷ l) a b e = says-as to from (says-either _ _ (says-join x y a b) (says-linked m l a b (omega arith)))
+  where
+    first : (i : ℕ) → firstEnd (x ∷ y ∷ l) (suc i) ≡ firstEnd l i
+    first i = let q : 2 * suc i ≡ suc (suc (2 * i)) = omega arith in rw q
+
+    second : (i : ℕ) → secondEnd (x ∷ y ∷ l) (suc i) ≡ secondEnd l i
+    second i = let q : 2 * suc i + 1 ≡ suc (suc (2 * i + 1)) = omega arith in rw q
+
+    to : SameLink x y a b ⊎ LinkThere m (firstEnd l) (secondEnd l) a b → LinkThere (suc m) (firstEnd (x ∷ y ∷ l)) (secondEnd (x ∷ y ∷ l)) a b
+    to = ⊎-elim (λ s. (0, omega arith, s)) (λ p. (suc (p .0), omega (arith, p .1), rw (first (p .0), second (p .0)) (p .2)))
+
+    from : LinkThere (suc m) (firstEnd (x ∷ y ∷ l)) (secondEnd (x ∷ y ∷ l)) a b → SameLink x y a b ⊎ LinkThere m (firstEnd l) (secondEnd l) a b
+    from (zero, p, s) = inl s
+    from (suc i, p, s) = inr (i, omega arith, rw (first i, second i) at s)
+
+-- whether numbers repeat or have one not below n
+pub says-order : (n : ℕ) (l : List ℕ) → Says (repeatsOrOutside n l) (RepeatsOrOutside n (at l))
+unfolding repeatsOrOutside
+says-order n l = record { holds = holds; fails = fails }
+  where
+    test : ℕ → Bool
+    test i = not (ltb (at l i) n) || any i (λ j. eqb (at l j) (at l i))
+
+    holds : any n test ≡ true → RepeatsOrOutside n (at l)
+    holds e =
+        let (i, p, q) = any-elim n test e in
+        ⊎-elim (λ o. inr (i, p, ltb-false (at l i) n (not-true (ltb (at l i) n) o)))
+        (λ r. let (j, k, s) = any-elim i (λ j. eqb (at l j) (at l i)) r in inl (j, i, k, p, eqb-true (at l j) (at l i) s)) (or-cases (not (ltb (at l i) n)) (any i (λ j. eqb (at l j) (at l i))) q)
+
+    fails : any n test ≡ false → RepeatsOrOutside n (at l) → ⊥
+    fails e =
+        ⊎-elim
+        (λ r. let (i, j, p, q, s) = r in clash (any n test) (any-intro n test j q (or-r (not (ltb (at l j) n)) _ (any-intro j (λ w. eqb (at l w) (at l j)) i p (eq-eqb (at l i) (at l j) s)))) e)
+        (λ r. let (i, p, q) = r in clash (any n test) (any-intro n test i p (or-l _ (any i (λ j. eqb (at l j) (at l i))) (not-i (ltb (at l i) n) (le-ltb (at l i) n q)))) e)
