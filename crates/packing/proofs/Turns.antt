@@ -7,10 +7,11 @@ use mathlib.Core.List.{List, [], _∷_}
 use native.Mathlib.Nat.{not-suc-le-zero}
 use native.Mathlib.Omega.{arith}
 use lib.Dec.{eqb, ltb, leb}
-use lib.ListN.{length}
+use lib.ListN.{length, take}
+use lib.Seq.{getD-take, length-take-le}
 use borrow.Author.Tests.{eqb-true, eqb-false, eq-eqb, ltb-true, ltb-false, le-ltb, leb-true, leb-false, not-true}
 use Rattle.packing.specs.Count.{any}
-use Rattle.packing.specs.Plant.{at, joins, linked}
+use Rattle.packing.specs.Plant.{at, firstLinks, joins, linked}
 use Rattle.packing.specs.Orders.{repeatsOrOutside}
 use Rattle.packing.specs.Refusals.{refuse}
 use Rattle.packing.specs.Turns.{Turn, done, named, FirstNamed, SameLink, LinkThere, firstEnd, secondEnd, RepeatsOrOutside}
@@ -94,6 +95,19 @@ says-linked (suc m) (x ∷ y ∷ l) a b e = says-as to from (says-either _ _ (sa
     from : LinkThere (suc m) (firstEnd (x ∷ y ∷ l)) (secondEnd (x ∷ y ∷ l)) a b → SameLink x y a b ⊎ LinkThere m (firstEnd l) (secondEnd l) a b
     from (zero, p, s) = inl s
     from (suc i, p, s) = inr (i, omega arith, rw (first i, second i) at s)
+
+-- .. by the first m links of a lent list
+pub says-first : (m : ℕ) (ls : List ℕ) (a b : ℕ) → 2 * m ≤ length ls → Says (linked (firstLinks m ls) a b) (LinkThere m (firstEnd ls) (secondEnd ls) a b)
+unfolding firstLinks
+says-first m ls a b long =
+    says-as (λ p. (p .0, p .1, rw (first (p .0) (p .1), second (p .0) (p .1)) at (p .2))) (λ p. (p .0, p .1, rw (first (p .0) (p .1), second (p .0) (p .1)) (p .2)))
+    (says-linked m (take (2 * m) ls) a b (length-take-le (2 * m) ls long))
+  where
+    first : (i : ℕ) → i < m → firstEnd (take (2 * m) ls) i ≡ firstEnd ls i
+    first i l = getD-take (2 * m) ls (2 * i) 0 (omega arith)
+
+    second : (i : ℕ) → i < m → secondEnd (take (2 * m) ls) i ≡ secondEnd ls i
+    second i l = getD-take (2 * m) ls (2 * i + 1) 0 (omega arith)
 
 -- whether numbers repeat or have one not below n
 pub says-order : (n : ℕ) (l : List ℕ) → Says (repeatsOrOutside n l) (RepeatsOrOutside n (at l))

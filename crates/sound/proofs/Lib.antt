@@ -3,6 +3,7 @@ pub mod Tests
 pub mod LinkPass
 pub mod PassResults
 pub mod Meaning
+pub mod Facts
 pub mod Orders
 pub mod Lookup
 pub mod Searchable
