@@ -1,5 +1,6 @@
 -- Laws of the calls, by subject.
 pub mod Conditions
+pub mod Turns
 pub mod Outcomes
 pub mod Next
 pub mod Made

@@ -5,5 +5,6 @@ pub mod Calls
 pub mod Members
 pub mod Told
 pub mod Run
+pub mod Turns
 pub mod Claims
 pub mod Cases

@@ -12,10 +12,10 @@ use Rattle.packing.specs.Plant.{NONE, at, common, firstLinks, linked}
 use Rattle.packing.specs.Holders.{held, Feasible}
 use Rattle.packing.specs.Turns.{SameLink, LinkThere, firstEnd, secondEnd}
 use Rattle.packing.proofs.Prefixes.{IsOrder, order-place}
-use Rattle.packing.proofs.Tests.{by-bool, all-intro}
+use Rattle.packing.proofs.Tests.{by-bool, clash, all-intro}
 use Rattle.packing.proofs.Sums.{count-some, count-unique}
 use Rattle.packing.proofs.Turns.{Says, says-first}
-use Rattle.sound.specs.Sound.{onceEach}
+use Rattle.sound.specs.Sound.{onceEach, isSound}
 use Rattle.sound.specs.Facts.{Facts, SoundMeans}
 use Rattle.sound.proofs.Meaning.{Sound, once-mean, sound-means, means-sound}
 
@@ -102,3 +102,8 @@ module _ (n t m k : ℕ) (ls os hs : List ℕ) where
 pub sound-means-facts : SoundMeans
 unfolding SoundMeans
 sound-means-facts n t m k ls os hs = (λ e. facts-of n t m k ls os hs (sound-means n t m k ls os hs e), λ f. means-sound n t m k ls os hs (of-facts n t m k ls os hs f))
+
+-- .. as what the test says
+pub sound-facts : (n t m k : ℕ) (ls os hs : List ℕ) → Says (isSound n t m k ls os hs) (Facts n t m k ls os hs)
+unfolding SoundMeans
+sound-facts n t m k ls os hs = record { holds = sound-means-facts n t m k ls os hs .0; fails = λ e f. clash _ (sound-means-facts n t m k ls os hs .1 f) e }

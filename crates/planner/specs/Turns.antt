@@ -1,0 +1,100 @@
+-- 01, "Refused for what was handed in", "Refused for where the record is", "First to be named" and "Each is given on its condition only":
+-- each call's numbers in their turn, each with its condition in 01's words and numbers. They are not the tests of Refusals.antt and Members.antt.
+-- proofs/Turns.antt: each call gives the first number whose condition holds, and 0 where none does.
+use Prim.Native.Nat.{ℕ, _+_, _*_, _<_, _≤_, min}
+use mathlib.Core.Path.{_≡_}
+use mathlib.Core.Logic.{_⊎_}
+use mathlib.Core.List.{List}
+use lib.ListN.{length}
+use Rattle.packing.specs.Plant.{at}
+use Rattle.packing.specs.Grouping.{memberCount}
+use Rattle.packing.specs.Turns.{Turn, done, named, FirstNamed, LinkThere, firstEnd, secondEnd, RepeatsOrOutside}
+use Rattle.sound.specs.Facts.{Facts}
+use Rattle.planner.specs.declared.Small.{Small}
+use Rattle.planner.specs.State.{State}
+use Rattle.planner.specs.Calls.{Outcome, openCall, Call, link, order, place, read, call}
+use Rattle.planner.specs.Told.{Told, beginning, refuses, tell}
+use Rattle.planner.specs.Members.{membersRefusal}
+
+-- "open 1, 2, 10": "n above 1,024"; "T below 2 or above 16"; "open needs n in order and holders"
+unfoldable pub openTurn : ℕ → ℕ → List ℕ → List ℕ → Turn
+openTurn n t os hs =
+    named 1 (1024 < n)
+    (named 2 ((t < 2) ⊎ (16 < t))
+    (named 10 ((length os < n) ⊎ (length hs < n)) done))
+
+-- "Link 26, 22, 3, 4, 20, 21", after 26: "Link or order after the first placing"; "A link end not below n"; "Both ends equal"; "The link is there already";
+-- "m is 8,192, or the lent link list has no place for two more numbers". ls are the links, m of them count; room is the lent list's length.
+unfoldable pub linkTurn : ℕ → ℕ → ℕ → List ℕ → ℕ → ℕ → ℕ → Turn
+linkTurn n k m ls room a b =
+    named 22 (0 < k)
+    (named 3 ((n ≤ a) ⊎ (n ≤ b))
+    (named 4 (a ≡ b)
+    (named 20 (LinkThere m (firstEnd ls) (secondEnd ls) a b)
+    (named 21 ((m ≡ 8192) ⊎ (room < 2 * m + 2)) done))))
+
+-- "Order 26, 22, 5, 6", after 26: "A new order not n numbers long"; "A new order that repeats a number or has one not below n"
+unfoldable pub orderTurn : ℕ → ℕ → List ℕ → Turn
+orderTurn n k numbers =
+    named 22 (0 < k)
+    (named 5 (length numbers ≡ n → ⊥)
+    (named 6 (RepeatsOrOutside n (at numbers)) done))
+
+-- "Place 26, 24", after 26: "Place when k = n"
+unfoldable pub placeTurn : ℕ → ℕ → Turn
+placeTurn n k = named 24 (k ≡ n) done
+
+-- "Read 26, 25, 10", after 26: "Read when k < n"; "read needs n for leaders and n for choke bytes"
+unfoldable pub readTurn : ℕ → ℕ → List ℕ → List ℕ → Turn
+readTurn n k leaders choke = named 25 (k < n) (named 10 ((length leaders < n) ⊎ (length choke < n)) done)
+
+-- .. each of a record
+unfoldable pub turnOf : State → Call → Turn
+turnOf s (link a b) = linkTurn (s .small .n) (s .small .k) (s .small .m) (s .links) (length (s .links)) a b
+turnOf s (order numbers) = orderTurn (s .small .n) (s .small .k) numbers
+turnOf s place = placeTurn (s .small .n) (s .small .k)
+turnOf s (read leaders choke) = readTurn (s .small .n) (s .small .k) leaders choke
+
+-- "26. The record is not sound."
+abbrev pub SoundFacts : State → Type 0
+SoundFacts s = Facts (s .small .n) (s .small .t) (s .small .m) (s .small .k) (s .links) (s .order) (s .holders)
+
+unfoldable pub callTurn : State → Call → Turn
+callTurn s c = named 26 (SoundFacts s → ⊥) (turnOf s c)
+
+-- .. and of what the calls alone tell: "the links, m and k are the links accepted so far, their number, and the placings so far; 26 never holds"
+unfoldable pub toldTurn : Told → Call → Turn
+toldTurn p (link a b) = linkTurn (p .n) (p .placed) (p .m) (p .links) (p .room) a b
+toldTurn p (order numbers) = orderTurn (p .n) (p .placed) numbers
+toldTurn p place = placeTurn (p .n) (p .placed)
+toldTurn p (read leaders choke) = readTurn (p .n) (p .placed) leaders choke
+
+-- w is one of the entries that members looks at: "the first 1,024 entries of the leader list, or at all if there are fewer"
+abbrev pub Looked : List ℕ → ℕ → Type 0
+Looked leaders w = (w < 1024) × (w < length leaders)
+
+-- .. and one of u's members
+abbrev pub MemberIn : List ℕ → ℕ → ℕ → Type 0
+MemberIn leaders u w = Looked leaders w × (at leaders w ≡ u) × (w ≡ u → ⊥)
+
+-- "Members 11, 10": "The number is outside the leader list, doesn't lead itself there, or has no members"; "members needs their count"
+unfoldable pub membersTurn : List ℕ → ℕ → ℕ → Turn
+membersTurn leaders u room =
+    named 11 ((Looked leaders u → ⊥) ⊎ (at leaders u ≡ u → ⊥) ⊎ ((w : ℕ) → MemberIn leaders u w → ⊥))
+    (named 10 (room < memberCount (min 1024 (length leaders)) (at leaders) u) done)
+
+-- The statements. Open, for anything handed in:
+unfoldable pub OpenExactly : Type 0
+OpenExactly = (n t : ℕ) (ls os hs : List ℕ) → FirstNamed (openTurn n t os hs) (openCall n t ls os hs .refusal)
+
+-- link, order, place and read, on any record, sound or not
+unfoldable pub CallExactly : Type 0
+CallExactly = (s : State) (c : Call) → FirstNamed (callTurn s c) (call s c .refusal)
+
+-- what the calls tell, for any list of calls
+unfoldable pub ToldExactly : Type 0
+ToldExactly = (n t room : ℕ) (calls : List Call) (c : Call) → FirstNamed (toldTurn (tell (beginning n t room) calls) c) (refuses (tell (beginning n t room) calls) c)
+
+-- members
+unfoldable pub MembersExactly : Type 0
+MembersExactly = (leaders : List ℕ) (u room : ℕ) → FirstNamed (membersTurn leaders u room) (membersRefusal leaders u room)
