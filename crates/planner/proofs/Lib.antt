@@ -10,3 +10,4 @@ pub mod Demands
 pub mod LeftNext
 pub mod Table
 pub mod MembersLaws
+pub mod MembersTurn

@@ -3,9 +3,11 @@
 -- proofs/Turns.antt: each call gives the first number whose condition holds, and 0 where none does.
 use Prim.Native.Nat.{ℕ, _+_, _*_, _<_, _≤_, min}
 use mathlib.Core.Path.{_≡_}
-use mathlib.Core.Logic.{_⊎_}
+use mathlib.Core.Logic.{_⊎_, _↔_}
+use mathlib.Core.Bool.{true}
 use mathlib.Core.List.{List}
-use lib.ListN.{length}
+use lib.ListN.{length, take}
+use Rattle.packing.specs.Lists.{memberOf}
 use Rattle.packing.specs.Plant.{at}
 use Rattle.packing.specs.Grouping.{memberCount}
 use Rattle.packing.specs.Turns.{Turn, done, named, FirstNamed, LinkThere, firstEnd, secondEnd, RepeatsOrOutside}
@@ -14,7 +16,7 @@ use Rattle.planner.specs.declared.Small.{Small}
 use Rattle.planner.specs.State.{State}
 use Rattle.planner.specs.Calls.{Outcome, openCall, Call, link, order, place, read, call}
 use Rattle.planner.specs.Told.{Told, beginning, refuses, tell}
-use Rattle.planner.specs.Members.{membersRefusal}
+use Rattle.planner.specs.Members.{membersRefusal, membersPart, membersList}
 
 -- "open 1, 2, 10": "n above 1,024"; "T below 2 or above 16"; "open needs n in order and holders"
 unfoldable pub openTurn : ℕ → ℕ → List ℕ → List ℕ → Turn
@@ -98,3 +100,21 @@ ToldExactly = (n t room : ℕ) (calls : List Call) (c : Call) → FirstNamed (to
 -- members
 unfoldable pub MembersExactly : Type 0
 MembersExactly = (leaders : List ℕ) (u room : ℕ) → FirstNamed (membersTurn leaders u room) (membersRefusal leaders u room)
+
+-- "its members ascending": of an accepted call the part handed back has just u's members
+unfoldable pub MembersAre : Type 0
+MembersAre = (leaders : List ℕ) (u room : ℕ) → membersRefusal leaders u room ≡ 0 → (w : ℕ) → (memberOf (membersPart leaders u room) w ≡ true) ↔ MemberIn leaders u w
+
+-- "and takes those as the list": a list and its first 1,024 entries give the same answers
+unfoldable pub FirstEntriesOnly : Type 0
+FirstEntriesOnly =
+    (leaders : List ℕ) (u : ℕ) (lent : List ℕ)
+    → (membersRefusal (take 1024 leaders) u (length lent) ≡ membersRefusal leaders u (length lent))
+    × (membersPart (take 1024 leaders) u (length lent) ≡ membersPart leaders u (length lent))
+    × (membersList (take 1024 leaders) u lent ≡ membersList leaders u lent)
+
+-- .. and the last of these counts: where there is room for all, entry 1,023 is a member
+unfoldable pub LastEntryCounts : Type 0
+LastEntryCounts =
+    (leaders : List ℕ) (u room : ℕ) → 1023 < length leaders → u < 1023 → at leaders u ≡ u → at leaders 1023 ≡ u → 1024 ≤ room
+    → (membersRefusal leaders u room ≡ 0) × (memberOf (membersPart leaders u room) 1023 ≡ true)
