@@ -9,7 +9,7 @@ use native.Mathlib.Numerals.{add-one}
 use native.Mathlib.Omega.{arith}
 use lib.Dec.{eqb}
 use lib.ListN.{length, getD, set, take, drop, replicate, length-append, length-drop, length-set, replicate-append-replicate, List·getD-append}
-use lib.Seq.{getD-at, drop-cons, set-at, take-at, append-snoc, ext-getD, sets}
+use lib.Seq.{getD-at, drop-cons, set-at, take-at, append-snoc, ext-getD, sets, drop-append-seam}
 use borrow.Author.Tests.{eqb-true, eq-eqb}
 use Rattle.packing.specs.Count.{pick, sum, count}
 use Rattle.packing.specs.Lists.{listOf, listWhere, written, memberOf}
@@ -111,6 +111,10 @@ module _ (n : ℕ) (front lent : List ℕ) (long : length front ≡ n) where
   pub written-front : take n (written n front lent) ≡ front
   unfolding written
   written-front = take-at front (drop n lent) n long
+
+  pub written-past : drop n (written n front lent) ≡ drop n lent
+  unfolding written
+  written-past = rw (← long) (drop-append-seam front (drop (length front) lent))
 
   -- one entry more
   written-more : (x : ℕ) → n < length lent → set (written n front lent) n x ≡ written (n + 1) (front ++ (x ∷ [])) lent

@@ -24,7 +24,7 @@ use Rattle.packing.specs.Refusals.{byNumber}
 use Rattle.planner.specs.Told.{Told, beginning, refuses, accepted, tellOne, tell}
 use Rattle.planner.specs.Claims.{toldBy, madeBy, leadersRead, chokeRead, GroupingTold, SameNumbers, OnceRead, DemandThree, DemandThreeOf, MostCovered, MostCoveredOf, DemandTwo, DemandTwoOf}
 use Rattle.planner.proofs.Agree.{Agrees, stateTold, by-told, same-number, same-numbers, run-agrees, open-agrees}
-use Rattle.planner.proofs.Optimal.{leaders-grouping, most-covered, covered-held, choke-unheld}
+use Rattle.planner.proofs.Optimal.{sound-grouping, most-covered, covered-held, choke-unheld}
 
 pub same-numbers-told : SameNumbers
 unfolding SameNumbers
@@ -79,7 +79,7 @@ module _ (p : Told) (ls os hs : List ℕ) (a : Agrees p (stateTold p ls os hs)) 
   read-grouping : GroupingTold (p .n) p (leadersRead (stateTold p ls os hs) leaders choke)
   read-grouping =
       grouping-below (p .n) (p .limit) (linked (p .links)) (leaderList (p .n) hs) (leadersRead (stateTold p ls os hs) leaders choke) leaders-are
-      (told-grouping (leaderList (p .n) hs) (leaders-grouping (a .made)))
+      (told-grouping (leaderList (p .n) hs) (sound-grouping (a .made .sound)))
 
   -- among the first j of the order told the leader list covers as many as the list read
   ours-first : (j : ℕ) → j ≤ p .n → coveredFirst j (at os) (leaderList (p .n) hs) ≡ coveredFirst j (at (p .order)) (leadersRead (stateTold p ls os hs) leaders choke)

@@ -20,7 +20,7 @@ use Rattle.planner.specs.Claims.{toldBy, madeBy, GroupingTold, BeforePla
 use Rattle.planner.proofs.Conditions.{place-next}
 use Rattle.planner.proofs.Made.{Made, next-placing, made-place}
 use Rattle.planner.proofs.Agree.{Agrees, stateTold, by-told, same-number, run-agrees, open-agrees}
-use Rattle.planner.proofs.Optimal.{links-symmetric, links-loopless, limit-one, leaders-grouping, leaders-cover}
+use Rattle.planner.proofs.Optimal.{links-symmetric, links-loopless, limit-one, sound-grouping, leaders-cover}
 use Rattle.planner.proofs.Demands.{tells-n}
 
 -- v and all held before it in the order, by the holders h
@@ -73,7 +73,7 @@ module _ {s : State} (made : Made s) (more : s .small .k < s .small .n) where
 
   grouping-after : Grouping (s .small .n) (limitOf s) (linked (linksOf s)) (leaderList (s .small .n) (changed s place .holders))
   unfolding changed limitOf
-  grouping-after = leaders-grouping (made-place made next)
+  grouping-after = sound-grouping (made-place made next .sound)
 
 -- .. of one with the small part told
 module _ (p : Told) (ls os hs : List ℕ) (a : Agrees p (stateTold p ls os hs)) (more : p .placed < p .n) where

@@ -6,6 +6,7 @@ pub mod Next
 pub mod Made
 pub mod Agree
 pub mod Optimal
+pub mod Records
 pub mod Demands
 pub mod LeftNext
 pub mod Table

@@ -42,13 +42,12 @@ module _ {s : State} (sound : SoundState s) where
   pub leaders-cover : (v : ℕ) → v < s .small .n → held (s .small .n) (at (s .holders)) v ≡ true → covered (leaderList (s .small .n) (s .holders)) v ≡ true
   leaders-cover = leaderList-covers (s .small .n) (s .holders) below-none
 
-module _ {s : State} (made : Made s) where
   -- the leader list is a grouping of the record's plant
-  pub leaders-grouping : Grouping (s .small .n) (limitOf s) (linked (linksOf s)) (leaderList (s .small .n) (s .holders))
-  leaders-grouping =
-      let sound = made .sound in
-      leaderList-grouping (s .small .n) (s .holders) (below-none sound) (limitOf s) (linked (linksOf s)) (made .standing .feasible) (links-symmetric sound) (links-loopless sound) (limit-two sound)
+  pub sound-grouping : Grouping (s .small .n) (limitOf s) (linked (linksOf s)) (leaderList (s .small .n) (s .holders))
+  unfolding limitOf
+  sound-grouping = leaderList-grouping (s .small .n) (s .holders) below-none (limitOf s) (linked (linksOf s)) (sound .feasible) links-symmetric links-loopless limit-two
 
+module _ {s : State} (made : Made s) where
   -- no grouping covers more of the first j placed than are held there
   most-held : (g : ℕ → ℕ) → Grouping (s .small .n) (limitOf s) (linked (linksOf s)) g → (j : ℕ) → j ≤ s .small .k
       → coveredFirst j (at (s .order)) g ≤ countFirst j (at (s .order)) (held (s .small .n) (at (s .holders)))
@@ -78,7 +77,7 @@ module _ {s : State} (made : Made s) where
         iff-test (covered (leaderList (s .small .n) (s .holders)) v) (held (s .small .n) (at (s .holders)) v)
         (λ e. rw (p .2) at (count-same (s .small .n) (λ i. held (s .small .n) (at (s .holders)) (at (s .order) i)) (λ i. covered (leaderList (s .small .n) (s .holders)) (at (s .order) i))
         (λ i q. leaders-cover (made .sound) (at (s .order) i) (made .standing .ordered .below i q))
-        (most-held (leaderList (s .small .n) (s .holders)) leaders-grouping (s .small .n) (omega arith)) (p .0) (p .1) (rw (p .2) e)))
+        (most-held (leaderList (s .small .n) (s .holders)) (sound-grouping (made .sound)) (s .small .n) (omega arith)) (p .0) (p .1) (rw (p .2) e)))
         (leaders-cover (made .sound) v l)
 
     -- the choke difference is the number without holder

@@ -22,13 +22,13 @@ use Rattle.packing.specs.Orders.{upTo, repeatsOrOutside}
 use Rattle.planner.specs.Refusals.{openRefusal, linkConditions, orderConditions, placeConditions, readConditions}
 use Rattle.planner.specs.State.{limitOf, soundState}
 use Rattle.planner.specs.Calls.{opened, openCall, conditions, callRefusal, changed, call, readLeaders, readChoke}
-use Rattle.planner.specs.Run.{run, linkCalls, placeCalls, plantCalls}
-use Rattle.planner.specs.Cases.{Row, reads, holds, gives, differs, after, leadersOf, chokeOf, sameList, rowHolds, empty, one, two, path, star, starBack, star4, listed, ring, table, rowsHold, Means}
+use Rattle.planner.specs.Run.{run, linkCalls, placeCalls}
+use Rattle.planner.specs.Cases.{Row, stands, reads, holds, gives, differs, after, leadersOf, chokeOf, sameList, rowHolds, empty, one, two, path, star, starBack, star4, listed, ring, table, rowsHold, Means}
 use Rattle.planner.specs.Claims.{chokeRead}
 
 -- the whole table, computed
 pub table-holds : rowsHold table ≡ true
-unfolding sum count sumOver all any listOf listWhere common firstLinks linked neighbours memberCount heldCount stranded numbersSound listsLong endsSound onceEach holdersLinked holdersWithin onlyPlacedHeld isSound heldBy look visit turn turns walk shift settled placedHolders firstWith holder back onCycle nextOnCycle leadsIn leadsInTrees begins cut leads leaderOf pairLeader partner ruleFive leaderListBy leaderList withoutHolder chokeWalk seenIn walkSaw inChoke chokeByte upTo written repeatsOrOutside openRefusal linkConditions orderConditions placeConditions readConditions limitOf soundState opened openCall conditions callRefusal changed call readLeaders readChoke run linkCalls placeCalls plantCalls after leadersOf chokeOf sameList rowHolds empty one two path star starBack star4 listed ring table rowsHold
+unfolding sum count sumOver all any listOf listWhere common firstLinks linked neighbours memberCount heldCount stranded numbersSound listsLong endsSound onceEach holdersLinked holdersWithin onlyPlacedHeld isSound heldBy look visit turn turns walk shift settled placedHolders firstWith holder back onCycle nextOnCycle leadsIn leadsInTrees begins cut leads leaderOf pairLeader partner ruleFive leaderListBy leaderList withoutHolder chokeWalk seenIn walkSaw inChoke chokeByte upTo written repeatsOrOutside openRefusal linkConditions orderConditions placeConditions readConditions limitOf soundState opened openCall conditions callRefusal changed call readLeaders readChoke run linkCalls placeCalls after leadersOf chokeOf sameList rowHolds empty one two path star starBack star4 listed ring table rowsHold
 table-holds = refl
 
 same-list : (l r : List ℕ) → sameList l r ≡ true → l ≡ r
@@ -41,6 +41,7 @@ same-list (x ∷ xs) (y ∷ ys) e =
 
 row-means : (r : Row) → rowHolds r ≡ true → Means r
 unfolding rowHolds
+row-means (stands p numbers) e = same-list (after p 0 .order) numbers e
 row-means (reads p leaders choke) e = (
   same-list (leadersOf p) leaders (and-l (sameList (leadersOf p) leaders) (sameList (chokeOf p) choke) e),
   same-list (chokeOf p) choke (and-r (sameList (leadersOf p) leaders) (sameList (chokeOf p) choke) e),

@@ -6,5 +6,7 @@ pub mod Members
 pub mod Told
 pub mod Run
 pub mod Turns
+pub mod Records
 pub mod Claims
+pub mod Kept
 pub mod Cases

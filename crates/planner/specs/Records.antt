@@ -1,0 +1,68 @@
+-- What holds of any call, on any record that it may be handed, sound or not, however it was made. proofs/Records.antt proves it.
+use Prim.Native.Nat.{ℕ, _*_, _<_}
+use mathlib.Core.Path.{_≡_}
+use mathlib.Core.Bool.{true}
+use mathlib.Core.List.{List}
+use lib.ListN.{length, drop}
+use Rattle.packing.specs.Plant.{at, linked}
+use Rattle.packing.specs.Grouping.{Grouping, covered}
+use Rattle.packing.specs.Holders.{held}
+use Rattle.planner.specs.declared.Small.{Small}
+use Rattle.planner.specs.State.{State, stateOf, linksOf, limitOf}
+use Rattle.planner.specs.Calls.{Outcome, openCall, Call, read, call, readLeaders, readChoke}
+use Rattle.planner.specs.Members.{membersPart, membersList}
+
+-- Open (n, T, lists): "order 0, 1, .., no holder, m = 0, k = 0", entry by entry, and nothing past n
+pub record Opened (n t : ℕ) (ls os hs : List ℕ) (s : State) : Type 0 where
+  pub gateways : s .small .n ≡ n
+  pub limit : s .small .t ≡ t
+  pub unlinked : s .small .m ≡ 0
+  pub unplaced : s .small .k ≡ 0
+  pub links : s .links ≡ ls
+  pub order : (i : ℕ) → i < n → at (s .order) i ≡ i
+  pub orderPast : drop n (s .order) ≡ drop n os
+  pub holders : (v : ℕ) → v < n → at (s .holders) v ≡ 65535
+  pub holdersPast : drop n (s .holders) ≡ drop n hs
+
+unfoldable pub OpenGives : Type 0
+OpenGives = (n t : ℕ) (ls os hs : List ℕ) → openCall n t ls os hs .refusal ≡ 0 → Opened n t ls os hs (openCall n t ls os hs .state)
+
+-- "a refused open, which was handed none, returns n = 0, T = 2, m = 0, k = 0", and the lists stay
+unfoldable pub OpenRefused : Type 0
+OpenRefused =
+    (n t : ℕ) (ls os hs : List ℕ) → (openCall n t ls os hs .refusal ≡ 0 → ⊥)
+    → openCall n t ls os hs .state ≡ stateOf (record { n = 0; t = 2; m = 0; k = 0 }) ls os hs
+
+-- "A refused call returns its number and the small part as it came" (00: "a refused call changes no lent list and no record")
+unfoldable pub RefusedUnchanged : Type 0
+RefusedUnchanged = (s : State) (c : Call) → (call s c .refusal ≡ 0 → ⊥) → call s c .state ≡ s
+
+unfoldable pub ReadRefused : Type 0
+ReadRefused = (s : State) (leaders choke : List ℕ) → (call s (read leaders choke) .refusal ≡ 0 → ⊥) → (readLeaders s leaders choke ≡ leaders) × (readChoke s leaders choke ≡ choke)
+
+-- "Entries past these lengths never change, taken with m as it is after the call."
+pub record Past (before after : State) : Type 0 where
+  pub links : drop (2 * after .small .m) (after .links) ≡ drop (2 * after .small .m) (before .links)
+  pub order : drop (after .small .n) (after .order) ≡ drop (after .small .n) (before .order)
+  pub holders : drop (after .small .n) (after .holders) ≡ drop (after .small .n) (before .holders)
+
+unfoldable pub PastUnchanged : Type 0
+PastUnchanged = (s : State) (c : Call) → Past s (call s c .state)
+
+-- "Of any other lent list a call changes only what it is said to write": read the first n of both, members their count
+unfoldable pub ReadPast : Type 0
+ReadPast =
+    (s : State) (leaders choke : List ℕ)
+    → (drop (s .small .n) (readLeaders s leaders choke) ≡ drop (s .small .n) leaders) × (drop (s .small .n) (readChoke s leaders choke) ≡ drop (s .small .n) choke)
+
+unfoldable pub MembersPast : Type 0
+MembersPast =
+    (leaders : List ℕ) (u : ℕ) (lent : List ℕ)
+    → drop (length (membersPart leaders u (length lent))) (membersList leaders u lent) ≡ drop (length (membersPart leaders u (length lent))) lent
+
+-- "Every held gateway is covered", by the list that an accepted read writes of any sound record; and that list is a grouping of its plant
+unfoldable pub HeldCovered : Type 0
+HeldCovered =
+    (s : State) (leaders choke : List ℕ) → call s (read leaders choke) .refusal ≡ 0
+    → Grouping (s .small .n) (limitOf s) (linked (linksOf s)) (at (readLeaders s leaders choke))
+    × ((v : ℕ) → v < s .small .n → held (s .small .n) (at (s .holders)) v ≡ true → covered (at (readLeaders s leaders choke)) v ≡ true)
