@@ -1,5 +1,7 @@
 -- Laws of the leader list.
 pub mod Cycles
+pub mod Connected
+pub mod Pieces
 pub mod Upwards
 pub mod Leads
 pub mod RuleFive
