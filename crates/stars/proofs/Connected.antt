@@ -1,15 +1,14 @@
 -- Being connected sorts the gateways into pieces.
 use Prim.Native.Nat.{ℕ, _+_, _-_, _<_, _≤_}
 use mathlib.Core.Path.{_≡_, refl, sym, _∙_}
-use mathlib.Core.Logic.{_⊎_, inl, inr, ⊎-elim}
+use mathlib.Core.Logic.{inl, inr, ⊎-elim}
 use mathlib.Core.Bool.{cond}
 use mathlib.Core.List.{List}
 use native.Mathlib.Omega.{arith}
 use lib.Dec.{ltb}
 use borrow.Author.Tests.{ltb-true, ltb-false, le-ltb}
-use Rattle.packing.specs.Plant.{at}
 use Rattle.packing.proofs.Tests.{by-bool}
-use Rattle.stars.specs.Pieces.{Connected, Sorts}
+use Rattle.stars.specs.Pieces.{Beside, Connected, Sorts}
 
 module _ (n : ℕ) (hs : List ℕ) where
   connected-itself : (v : ℕ) → v < n → Connected n hs v v
@@ -64,7 +63,7 @@ module _ (n : ℕ) (hs : List ℕ) where
         below : (j : ℕ) → j ≤ b .length → both (a .length + j) < n
         below j k = rw (on-second j) (b .below j k)
 
-        arc : (j : ℕ) → j < b .length → (at hs (both (a .length + j)) ≡ both (a .length + j + 1)) ⊎ (at hs (both (a .length + j + 1)) ≡ both (a .length + j))
+        arc : (j : ℕ) → j < b .length → Beside hs (both (a .length + j)) (both (a .length + j + 1))
         arc j k = let next : a .length + j + 1 ≡ a .length + (j + 1) = omega arith in rw (next, on-second j, on-second (j + 1)) (b .arc j k)
 
   pub connected-sorts : Sorts n hs

@@ -17,6 +17,7 @@ use Rattle.stars.specs.Stars.{holder, back, onCycle}
 use Rattle.stars.specs.Pieces.{Connected, Root, Hangs, Tree, OneCycle, Pieces}
 use Rattle.stars.proofs.Cycles.{least, pigeonhole, holder-at, back-add, back-holder, back-gap, back-below, back-between, round-return, round-cycle, cycle-round, cycle-met, cycle-back, cycle-held}
 use Rattle.stars.proofs.Connected.{connected-sorts}
+use Rattle.stars.proofs.Circles.{circle-cycle}
 
 -- over the arc from u to w, the way back from w is the one from u and an arc more
 arc-back : (n : ℕ) (hs : List ℕ) (i u w : ℕ) → w < n → at hs w ≡ u → back n hs (suc i) w ≡ back n hs i u
@@ -170,4 +171,5 @@ pieces n hs few =
       sorted = connected-sorts n hs;
       each = λ v l. let (i, _, below, end) = way-ends n hs few v l in let here = back-connected n hs few v i below in
           ⊎-elim (λ top. inl (tree n hs few _ top v here (i, refl))) (λ on. inr (one-cycle n hs few _ below on v here (i, refl))) end;
+      circles = circle-cycle n hs few;
     }

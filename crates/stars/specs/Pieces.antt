@@ -1,6 +1,6 @@
--- 01, "Reading": "Each connected piece of arcs is a tree, or one cycle with trees hanging from it." proofs/Pieces.antt proves it.
--- hs are the holders of n gateways, any list; the arc into w comes from its holder. So there is no choice in following the arcs back from w, and a way along the arcs to w is known by its length:
--- back n hs i w is where one of i arcs begins.
+-- 01, "Reading": "Each connected piece of arcs is a tree, or one cycle with trees hanging from it." proofs/Pieces.antt proves it, for every list of holders.
+-- hs are the holders of n gateways; the arc into w comes from its holder. So going back from w along the arcs leaves no choice, and a way along the arcs to w is known by its length:
+-- the one of i arcs begins at back n hs i w.
 use Prim.Native.Nat.{ℕ, _+_, _<_, _≤_}
 use mathlib.Core.Path.{_≡_}
 use mathlib.Core.Logic.{_⊎_}
@@ -10,14 +10,18 @@ use Rattle.packing.specs.Plant.{at}
 use Rattle.packing.specs.Holders.{held}
 use Rattle.stars.specs.Stars.{back, onCycle}
 
--- "connected": a path of gateways goes from v to w, each and the next on it joined by an arc one way or the other
+-- an arc joins u and w, one way or the other
+abbrev pub Beside : List ℕ → ℕ → ℕ → Type 0
+Beside hs u w = (at hs u ≡ w) ⊎ (at hs w ≡ u)
+
+-- "connected": a path of gateways goes from v to w, each joined to the next by an arc
 pub record Connected (n : ℕ) (hs : List ℕ) (v w : ℕ) : Type 0 where
   pub length : ℕ
   pub path : ℕ → ℕ
   pub start : path 0 ≡ v
   pub end : path length ≡ w
   pub below : (i : ℕ) → i ≤ length → path i < n
-  pub arc : (i : ℕ) → i < length → (at hs (path i) ≡ path (i + 1)) ⊎ (at hs (path (i + 1)) ≡ path i)
+  pub arc : (i : ℕ) → i < length → Beside hs (path i) (path (i + 1))
 
 -- "piece": being connected sorts the gateways into pieces; v's piece are those connected to v
 pub record Sorts (n : ℕ) (hs : List ℕ) : Type 0 where
@@ -55,7 +59,17 @@ pub record OneCycle (n : ℕ) (hs : List ℕ) (v : ℕ) : Type 0 where
   pub hangs : (w : ℕ) → Connected n hs v w → (k i : ℕ) × Hangs n hs (back n hs k one) i w
   pub once : (w k l i j : ℕ) → Hangs n hs (back n hs k one) i w → Hangs n hs (back n hs l one) j w → (back n hs k one ≡ back n hs l one) × (i ≡ j)
 
+-- a circle: at least three different gateways c 0, c 1, .. up to c length, which is c 0 again, each joined to the next by an arc
+pub record Circle (n : ℕ) (hs : List ℕ) (length : ℕ) (c : ℕ → ℕ) : Type 0 where
+  pub some : 3 ≤ length
+  pub below : (i : ℕ) → i < length → c i < n
+  pub arc : (i : ℕ) → i < length → Beside hs (c i) (c (i + 1))
+  pub closed : c length ≡ c 0
+  pub apart : (i j : ℕ) → i < j → j < length → c i ≡ c j → ⊥
+
 -- "Each connected piece of arcs is a tree, or one cycle with trees hanging from it."
+-- `circles`: nothing goes round but cycles, whichever way arcs are taken; so a tree has no circle either. (Two that hold each other, and one that holds itself, are on a cycle as they stand.)
 pub record Pieces (n : ℕ) (hs : List ℕ) : Type 0 where
   pub sorted : Sorts n hs
   pub each : (v : ℕ) → v < n → Tree n hs v ⊎ OneCycle n hs v
+  pub circles : (length : ℕ) (c : ℕ → ℕ) → Circle n hs length c → (i : ℕ) → i < length → onCycle n hs (c i) ≡ true
