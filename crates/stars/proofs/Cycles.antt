@@ -106,6 +106,13 @@ module _ (n : ℕ) (hs : List ℕ) (few : n ≤ NONE) where
   back-below zero v l = l
   back-below (suc i) v l = back-below i v (by-bool (ltb (back n hs i v) n) (ltb-true _ n) (λ q. absurd (omega (arith, rw q at l))))
 
+  -- so all met on the way to a gateway are gateways
+  pub back-between : (j i v : ℕ) → j ≤ i → back n hs i v < n → back n hs j v < n
+  back-between j i v l m = back-below (i - j) (back n hs j v) (rw (← back-add n hs (i - j) j v, whole) m)
+    where
+      whole : i - j + j ≡ i
+      whole = omega arith
+
   round-below : (v i : ℕ) → v < n → back n hs (suc i) v ≡ v → (j : ℕ) → back n hs j v < n
   round-below v i l round j = let r = round-return n hs v i round j in back-below (r .0) (back n hs j v) (rw (r .1) l)
 

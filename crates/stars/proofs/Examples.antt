@@ -1,10 +1,14 @@
--- The leader list computed on small sets of holders.
+-- The leader list, and pieces, computed on small sets of holders.
+use Prim.Native.Nat.{ℕ}
 use mathlib.Core.Path.{_≡_, refl}
-use mathlib.Core.List.{[], _∷_}
+use mathlib.Core.Bool.{not}
+use mathlib.Core.List.{List, [], _∷_}
 use lib.Dec.{ltb}
 use Rattle.packing.specs.Count.{sum, count, all, any, firstWith}
+use Rattle.packing.specs.Plant.{NONE, at}
+use Rattle.packing.specs.Holders.{held}
 use Rattle.packing.specs.Grouping.{memberCount}
-use Rattle.packing.specs.Lists.{listOf}
+use Rattle.packing.specs.Lists.{listOf, listWhere}
 use Rattle.stars.specs.Stars.{holder, back, onCycle, nextOnCycle, leadsIn, leadsInTrees, begins, cut, leads, leaderOf, pairLeader, partner, ruleFive, leaderListBy, leaderList}
 
 -- the listing's plant
@@ -31,3 +35,22 @@ odd = refl
 run : listOf 5 (leaderList 5 (3 ∷ 0 ∷ 1 ∷ 2 ∷ 0 ∷ [])) ≡ 0 ∷ 0 ∷ 2 ∷ 2 ∷ 0 ∷ []
 unfolding sum count all any memberCount firstWith holder back onCycle nextOnCycle leadsIn leadsInTrees begins cut leads leaderOf pairLeader partner ruleFive leaderListBy leaderList listOf
 run = refl
+
+-- two pieces: the cycle of 0 and 1, with a tree of 2 and 3 that hangs from 1; and the tree of 4 and 5
+abbrev two-pieces : List ℕ
+two-pieces = 1 ∷ 0 ∷ 1 ∷ 2 ∷ NONE ∷ 4 ∷ []
+
+-- on a cycle
+cycle : listWhere 6 (onCycle 6 two-pieces) ≡ 0 ∷ 1 ∷ []
+unfolding any holder back onCycle listWhere
+cycle = refl
+
+-- the root
+root : listWhere 6 (λ v. not (held 6 (at two-pieces) v)) ≡ 4 ∷ []
+unfolding listWhere
+root = refl
+
+-- 3 and the way back from it to the cycle
+hanging : listOf 3 (λ i. back 6 two-pieces i 3) ≡ 3 ∷ 2 ∷ 1 ∷ []
+unfolding holder back listOf
+hanging = refl

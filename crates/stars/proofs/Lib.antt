@@ -1,5 +1,8 @@
 -- Laws of the leader list.
 pub mod Cycles
+pub mod Connected
+pub mod Circles
+pub mod Pieces
 pub mod Upwards
 pub mod Leads
 pub mod RuleFive

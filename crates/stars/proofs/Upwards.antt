@@ -7,7 +7,7 @@ use native.Mathlib.Omega.{arith}
 use Rattle.packing.specs.Plant.{NONE, at}
 use Rattle.packing.proofs.Tests.{below-suc}
 use Rattle.stars.specs.Stars.{holder, back}
-use Rattle.stars.proofs.Cycles.{pigeonhole, holder-at, back-add, back-gap, round-met, back-below}
+use Rattle.stars.proofs.Cycles.{pigeonhole, holder-at, back-add, back-gap, round-met, back-between}
 
 module _
     (n : ℕ) (hs : List ℕ) (few : n ≤ NONE) (kept : ℕ → Bool)
@@ -37,10 +37,7 @@ module _
     row-short y u l r = pigeonhole n (λ k. back n hs k y) below apart
       where
         below : (i : ℕ) → i ≤ n → back n hs i y < n
-        below i k = back-below n hs few (suc n - i) (back n hs i y) (rw (← back-add n hs (suc n - i) i y, whole, r .start) l)
-          where
-            whole : suc n - i + i ≡ suc n
-            whole = omega arith
+        below i k = back-between n hs few i (suc n) y (omega arith) (rw (r .start) l)
 
         apart : (i j : ℕ) → i < j → j ≤ n → back n hs i y ≡ back n hs j y → ⊥
         apart i j a b q =

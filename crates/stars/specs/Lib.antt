@@ -2,3 +2,4 @@
 pub mod Stars
 pub mod Rules
 pub mod Pre
+pub mod Pieces
