@@ -16,6 +16,7 @@ use Rattle.planner.specs.State.{State, stateOf}
 use Rattle.planner.specs.Calls.{answerOf, openCall, Call, link, order, place, call, readLeaders, readChoke}
 use Rattle.planner.specs.Run.{afterOpen, run, linkCalls, placeCalls, plantCalls}
 use Rattle.planner.specs.Claims.{madeBy}
+use Rattle.planner.proofs.Agree.{run-append}
 use Rattle.planner.proofs.Outcomes.{open-links, link-state, order-state, place-state}
 use Rattle.plant_file.specs.declared.reader.Step.{Step}
 use Rattle.plant_file.specs.declared.reader.Step.the-variants.{Link, End}
@@ -26,11 +27,6 @@ use Rattle.plant_file.proofs.LinksByIndex.{links-long, order-long, step-at}
 use Rattle.plant_file.proofs.Accepted.{file-allowed}
 use Rattle.plan.specs.Plan.{fileCalls, fileState}
 use Rattle.plan.specs.Pre.{linkStep}
-
-run-append : (s : State) (a b : List Call) → run s (a ++ b) ≡ run (run s a) b
-unfolding run
-run-append s [] b = refl
-run-append s (c ∷ a) b = run-append (call s c .state) a b
 
 -- one link
 module _ (s : Small) (ls os hs : List ℕ) where

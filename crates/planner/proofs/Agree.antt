@@ -99,6 +99,12 @@ module _ {p : Told} {s : State} (a : Agrees p s) (c : Call) where
   pub call-agrees : Agrees (tellOne p c) (call s c .state)
   call-agrees = by-told (λ s. Agrees (tellOne p c) (call s c .state)) a (λ ls os hs b. call-told p ls os hs b c)
 
+-- one list of calls after another
+pub run-append : (s : State) (a b : List Call) → run s (a ++ b) ≡ run (run s a) b
+unfolding run
+run-append s [] b = refl
+run-append s (c ∷ a) b = run-append (call s c .state) a b
+
 -- any list of calls
 pub run-agrees : {p : Told} {s : State} → Agrees p s → (calls : List Call) → Agrees (tell p calls) (run s calls)
 unfolding run tell

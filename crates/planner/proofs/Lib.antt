@@ -8,6 +8,7 @@ pub mod Agree
 pub mod Optimal
 pub mod Records
 pub mod Demands
+pub mod Kept
 pub mod LeftNext
 pub mod Table
 pub mod MembersLaws
