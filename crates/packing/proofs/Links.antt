@@ -31,9 +31,14 @@ neighbours-linked (a ∷ b ∷ rest) x y = end (neighbours rest x) ∙ ap (λ (t
         (λ e. by-bool (eqb b y) (λ f. rw (e, f)) (λ f. rw (not-test (eqb a y && eqb b x) (λ q. eqb-false b y f (eqb-true b x (and-r (eqb a y) (eqb b x) q) ∙ sym (eqb-true a x e) ∙ eqb-true a y (and-l (eqb a y) (eqb b x) q))), e, f)))
         (λ e. by-bool (eqb b x) (λ f. rw (and-comm (eqb a y) (eqb b x), e, f)) (λ f. rw (and-comm (eqb a y) (eqb b x), e, f)))
 
--- a link appended to a list of whole links is one more link
+-- links behind a list of whole links
+pub linked-parts : (m : ℕ) (l k : List ℕ) (x y : ℕ) → length l ≡ 2 * m → linked (l ++ k) x y ≡ (linked l x y || linked k x y)
+unfolding linked
+linked-parts m [] k x y e = refl
+linked-parts m (p ∷ []) k x y e = absurd (omega arith)
+linked-parts m (p ∷ q ∷ rest) k x y e = rw (linked-parts (m - 1) rest k x y (omega arith)) (sym (or-assoc (joins p q x y) (linked rest x y) (linked k x y)))
+
+-- .. one link more
 pub linked-append : (m : ℕ) (l : List ℕ) (a b x y : ℕ) → length l ≡ 2 * m → linked (l ++ (a ∷ b ∷ [])) x y ≡ (linked l x y || joins a b x y)
 unfolding linked
-linked-append m [] a b x y e = or-comm (joins a b x y) false
-linked-append m (p ∷ []) a b x y e = absurd (omega arith)
-linked-append m (p ∷ q ∷ rest) a b x y e = rw (linked-append (m - 1) rest a b x y (omega arith)) (sym (or-assoc (joins p q x y) (linked rest x y) (joins a b x y)))
+linked-append m l a b x y e = linked-parts m l (a ∷ b ∷ []) x y e ∙ ap (λ (t : Bool). linked l x y || t) (or-comm (joins a b x y) false)

@@ -10,6 +10,7 @@ pub mod Shifting
 pub mod Placing
 pub mod Tested
 pub mod Repeats
+pub mod Twice
 pub mod Limits
 pub mod Unheld
 pub mod Seen

@@ -20,7 +20,7 @@ at-least : (h n : ℕ) → leb n h ≡ not (ltb h n)
 at-least h n = by-bool (ltb h n) (λ e. rw (e, lt-leb n h (ltb-true h n e))) (λ e. rw (e, le-leb n h (ltb-false h n e)))
 
 -- what the test of v says, and what it takes
-placeable-means : (n : ℕ) (hs : List ℕ) (v : ℕ) → placeable n hs v ≡ true → Placeable n hs v
+pub placeable-means : (n : ℕ) (hs : List ℕ) (v : ℕ) → placeable n hs v ≡ true → Placeable n hs v
 unfolding placeable
 placeable-means n hs v e =
     let s : Searchable n hs = searchable-means n hs (search tests) in
@@ -70,7 +70,7 @@ module _ (n : ℕ) (hs : List ℕ) (v : ℕ) {b : Bool} (e : b ≡ placeable n h
   place-places limit ls t h = (sym (not-false b t) ∙ e, rw (sym e ∙ not-false b t) h)
 
 -- what the test of the lent lists says, and what it takes
-chokeable-means : (n : ℕ) (hs : List ℕ) (room : ℕ) → chokeable n hs room ≡ true → Searchable n hs × (n ≤ room)
+pub chokeable-means : (n : ℕ) (hs : List ℕ) (room : ℕ) → chokeable n hs room ≡ true → Searchable n hs × (n ≤ room)
 unfolding chokeable
 chokeable-means n hs room e = (searchable-means n hs (and-l (searchable n hs) (leb n room) e), leb-true n room (and-r (searchable n hs) (leb n room) e))
 

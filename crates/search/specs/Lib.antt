@@ -2,4 +2,5 @@
 pub mod Search
 pub mod Pre
 pub mod ChokeSet
+pub mod Twice
 pub mod ChokePre
