@@ -8,11 +8,11 @@ use borrow.Author.Tests.{eqb-true, eqb-false}
 use Rattle.packing.specs.Plant.{NONE}
 use Rattle.packing.specs.Grouping.{memberCount}
 use Rattle.packing.proofs.Tests.{by-bool}
-use Rattle.stars.specs.Stars.{leaderOf, partner, leaderListBy}
-use Rattle.stars.specs.Rules.{RuleFive, ByRules}
+use Rattle.stars.specs.Stars.{leaderOf, partner, leaderListBy, leaderList}
+use Rattle.stars.specs.Rules.{RuleFive, ByRules, RulesFix, LowerLeads}
 use Rattle.stars.proofs.RuleFive.{partner-found, partner-only, two-cases, members-ext}
 use Rattle.stars.proofs.Groups.{leaderOf-own}
-use Rattle.stars.proofs.Rules.{list-holds}
+use Rattle.stars.proofs.Rules.{list-holds, rules-hold, lower-leads}
 use Rattle.stars.proofs.NamedEntries.{entry-only}
 
 -- Rule 5 goes by the entries below n, and changes them in one way where each leader leads itself.
@@ -39,3 +39,11 @@ five-only n g own {list} {list'} r r' v l =
 pub rules-only : (leadsPair : ℕ → ℕ → Bool) (n : ℕ) (hs : List ℕ) → n ≤ NONE → (list : ℕ → ℕ) → ByRules leadsPair n hs list → (v : ℕ) → v < n → list v ≡ leaderListBy leadsPair n hs v
 rules-only leadsPair n hs few list by =
     five-only n (leaderOf n hs) (leaderOf-own n hs few) (five-agrees n (by .entry) (leaderOf n hs) (entry-only n hs few (by .grouped)) (by .five)) (list-holds leadsPair n hs)
+
+pub rules-fix : RulesFix
+unfolding RulesFix
+rules-fix leadsPair n hs few = (rules-hold leadsPair n hs few, rules-only leadsPair n hs few)
+
+pub lowest-leads : LowerLeads
+unfolding LowerLeads leaderList
+lowest-leads = (λ n hs. refl, lower-leads)

@@ -1,15 +1,16 @@
 -- 01, "Reading": rules 1 to 5, each as 01 writes it. hs are the holders of n gateways; the arc into w comes from its holder.
 -- lead u: u leads by rule 1. g are the entries by rules 1 to 4: its own number for a leader, the leader's number for a member, NONE for alone. list are the entries by all five.
--- proofs/Rules.antt: the leader list of specs/Stars.antt obeys them, whoever leads a pair. proofs/Only.antt: no other list does.
-use Prim.Native.Nat.{ℕ, _+_, _*_, _<_, _≤_}
+-- RulesFix says that they fix the leader list of specs/Stars.antt (proofs/Rules.antt, proofs/Only.antt).
+use Prim.Native.Nat.{ℕ, _+_, _*_, _<_, _≤_, min}
 use mathlib.Core.Path.{_≡_}
 use mathlib.Core.Logic.{_↔_}
 use mathlib.Core.Bool.{Bool, true, false}
 use mathlib.Core.List.{List}
+use lib.Dec.{ltb}
 use Rattle.packing.specs.Plant.{NONE, at}
 use Rattle.packing.specs.Grouping.{memberCount}
 use Rattle.packing.specs.Holders.{held}
-use Rattle.stars.specs.Stars.{onCycle, pairLeader}
+use Rattle.stars.specs.Stars.{onCycle, pairLeader, leaderListBy, leaderList}
 
 -- Rule 1: "From the deepest upwards, a gateway leads those of its children that lead nobody." "Children are tree arcs only, not the next on the cycle."
 pub record RuleOne (n : ℕ) (hs : List ℕ) (lead : ℕ → Bool) (g : ℕ → ℕ) : Type 0 where
@@ -84,3 +85,14 @@ pub record ByRules (leadsPair : ℕ → ℕ → Bool) (n : ℕ) (hs : List ℕ) 
   pub entry : ℕ → ℕ
   pub grouped : OneToFour n hs lead entry
   pub five : RuleFive leadsPair n entry list
+
+-- The five rules fix the list, whoever leads a pair: the list of Stars.antt is one by the rules, and no other list is. 65535 is no gateway.
+unfoldable pub RulesFix : Type 0
+RulesFix =
+    (leadsPair : ℕ → ℕ → Bool) (n : ℕ) (hs : List ℕ) → n ≤ 65535
+    → ByRules leadsPair n hs (leaderListBy leadsPair n hs)
+    × ((list : ℕ → ℕ) → ByRules leadsPair n hs list → (v : ℕ) → v < n → list v ≡ leaderListBy leadsPair n hs v)
+
+-- .. and 01's leader list is the one by which "the lower number leads" a pair
+unfoldable pub LowerLeads : Type 0
+LowerLeads = ((n : ℕ) (hs : List ℕ) → leaderList n hs ≡ leaderListBy ltb n hs) × ((a b : ℕ) → pairLeader ltb a b ≡ min a b)
