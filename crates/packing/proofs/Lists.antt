@@ -9,10 +9,10 @@ use native.Mathlib.Numerals.{add-one}
 use native.Mathlib.Omega.{arith}
 use lib.Dec.{eqb}
 use lib.ListN.{length, getD, set, take, drop, replicate, length-append, length-drop, length-set, replicate-append-replicate, List·getD-append}
-use lib.Seq.{getD-at, drop-cons, set-at, take-at, append-snoc, ext-getD, sets, drop-append-seam}
+use lib.Seq.{getD-at, drop-cons, set-at, take-at, append-snoc, ext-getD, sets, drop-append-seam, getD-append-seam}
 use borrow.Author.Tests.{eqb-true, eq-eqb}
 use Rattle.packing.specs.Count.{pick, sum, count}
-use Rattle.packing.specs.Lists.{listOf, listWhere, written, memberOf}
+use Rattle.packing.specs.Lists.{listOf, listWhere, written, Ascending, memberOf}
 use Rattle.packing.specs.Plant.{at}
 use Rattle.packing.proofs.Tests.{below-suc, or-cases, or-l, or-r}
 use Rattle.packing.proofs.Counting.{Tallied, tally-start, tally-more, tally-same, tally-less, tally-end}
@@ -84,6 +84,33 @@ listWhere-out (suc n) p v e =
     last : (b : Bool) → p n ≡ b → memberOf (cond b (n ∷ []) []) v ≡ true → (v < suc n) × (p v ≡ true)
     last true f q = let here : n ≡ v = eqb-true n v (⊎-elim (λ r. r) (λ r. absurd (false≢true r)) (or-cases (eqb n v) false q)) in (omega arith, rw (← here) f)
     last false f q = absurd (false≢true q)
+
+pub listWhere-ext : (n : ℕ) (p q : ℕ → Bool) → ((v : ℕ) → v < n → p v ≡ q v) → listWhere n p ≡ listWhere n q
+unfolding listWhere
+listWhere-ext zero p q h = refl
+listWhere-ext (suc n) p q h = rw (listWhere-ext n p q (λ v l. h v (omega arith)), h n (omega arith))
+
+pub member-at : (l : List ℕ) (i : ℕ) → i < length l → memberOf l (at l i) ≡ true
+unfolding memberOf
+member-at [] i h = absurd (not-suc-le-zero h)
+member-at (a ∷ l) zero h = or-l (eqb a a) (memberOf l a) (eq-eqb a a refl)
+member-at (a ∷ l) (suc i) h = or-r (eqb a (at l i)) (memberOf l (at l i)) (member-at l i (omega arith))
+
+-- "ascending"
+pub listWhere-ascending : (n : ℕ) (p : ℕ → Bool) → Ascending (listWhere n p)
+unfolding listWhere
+listWhere-ascending zero p i j l h = absurd (not-suc-le-zero h)
+listWhere-ascending (suc n) p i j l h = by (listWhere-ascending n p i j l) (p n) h
+  where
+    first : List ℕ
+    first = listWhere n p
+
+    by : (j < length first → at first i < at first j) → (b : Bool) → j < length (first ++ cond b (n ∷ []) []) → at (first ++ cond b (n ∷ []) []) i < at (first ++ cond b (n ∷ []) []) j
+    by before false k = rw (append-nil first) (before (rw (append-nil first) at k))
+    by before true k =
+        below-suc j (length first) (omega (arith, length-append first (n ∷ [])))
+        (λ e. rw (List·getD-append first (n ∷ []) 0 i (omega arith), e, getD-append-seam first n [] 0) (listWhere-out n p (at first i) (member-at first i (omega arith)) .0))
+        (λ e. rw (List·getD-append first (n ∷ []) 0 i (omega arith), List·getD-append first (n ∷ []) 0 j e) (before e))
 
 -- .. and one more below n + 1, or none
 listWhere-more : (n : ℕ) (p : ℕ → Bool) → p n ≡ true → listWhere (n + 1) p ≡ listWhere n p ++ (n ∷ [])

@@ -1,5 +1,5 @@
 -- Lists of numbers by gateway, and what a lent list holds once its front is written.
-use Prim.Native.Nat.{ℕ, zero, suc, _≤_}
+use Prim.Native.Nat.{ℕ, zero, suc, _<_, _≤_}
 use mathlib.Core.Bool.{Bool, false, cond, _&&_, _||_}
 use mathlib.Core.List.{List, [], _∷_, _++_}
 use lib.Dec.{eqb, leb}
@@ -16,6 +16,10 @@ listOf (suc n) f = listOf n f ++ (f n ∷ [])
 unfoldable pub listWhere : ℕ → (ℕ → Bool) → List ℕ
 listWhere zero p = []
 listWhere (suc n) p = listWhere n p ++ cond (p n) (n ∷ []) []
+
+-- "ascending": each entry is above those before it
+abbrev pub Ascending : List ℕ → Type 0
+Ascending l = (i j : ℕ) → i < j → j < length l → at l i < at l j
 
 -- y is in the list
 unfoldable pub memberOf : List ℕ → ℕ → Bool

@@ -15,7 +15,7 @@ use Rattle.packing.specs.Plant.{GATEWAYS, at}
 use Rattle.packing.specs.Grouping.{follows, memberCount, membersOf}
 use Rattle.packing.specs.Refusals.{byNumber}
 use Rattle.packing.specs.Turns.{Turn, done, named, FirstNamed}
-use Rattle.packing.proofs.Lists.{listWhere-length, listWhere-in, listWhere-out}
+use Rattle.packing.proofs.Lists.{listWhere-length, listWhere-in, listWhere-out, listWhere-ascending}
 use Rattle.packing.proofs.Sums.{count-ext, count-some, count-find, count-bound}
 use Rattle.packing.proofs.Tests.{by-bool, and-l, and-r, and-i, or-cases, or-false-l, or-false-r, not-i}
 use Rattle.packing.proofs.Turns.{Says, turn-done, turn-named, says-less, says-as}
@@ -116,10 +116,13 @@ members-exactly = exactly
 
 pub members-are : MembersAre
 unfolding MembersAre
-members-are leaders u room z w =
+members-are leaders u room z =
     rw (part-members leaders u room z) (
-      λ e. let (k, t) = listWhere-out (length (l leaders u)) (follows (at (l leaders u)) u) w e in test-member leaders u w k t,
-      λ p. listWhere-in (length (l leaders u)) (follows (at (l leaders u)) u) w (within leaders u w (p .0)) (member-test leaders u w p),
+      λ w. (
+        λ e. let (k, t) = listWhere-out (length (l leaders u)) (follows (at (l leaders u)) u) w e in test-member leaders u w k t,
+        λ p. listWhere-in (length (l leaders u)) (follows (at (l leaders u)) u) w (within leaders u w (p .0)) (member-test leaders u w p),
+      ),
+      listWhere-ascending (length (l leaders u)) (follows (at (l leaders u)) u),
     )
 
 -- cutting once more changes nothing
@@ -132,7 +135,7 @@ first-entries-only leaders u lent =
 pub last-entry-counts : LastEntryCounts
 unfolding LastEntryCounts MembersAre FirstNamed membersTurn memberCount
 last-entry-counts leaders u room there below own last room-for =
-    (accepted, members-are leaders u room accepted 1023 .1 member)
+    (accepted, members-are leaders u room accepted .0 1023 .1 member)
   where
     member : MemberIn leaders u 1023
     member = ((omega arith, there), last, λ e. omega arith)

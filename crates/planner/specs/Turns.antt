@@ -7,7 +7,7 @@ use mathlib.Core.Logic.{_⊎_, _↔_}
 use mathlib.Core.Bool.{true}
 use mathlib.Core.List.{List}
 use lib.ListN.{length, take}
-use Rattle.packing.specs.Lists.{memberOf}
+use Rattle.packing.specs.Lists.{Ascending, memberOf}
 use Rattle.packing.specs.Plant.{at}
 use Rattle.packing.specs.Grouping.{memberCount}
 use Rattle.packing.specs.Turns.{Turn, done, named, FirstNamed, LinkThere, firstEnd, secondEnd, RepeatsOrOutside}
@@ -101,9 +101,11 @@ ToldExactly = (n t room : ℕ) (calls : List Call) (c : Call) → FirstNamed (to
 unfoldable pub MembersExactly : Type 0
 MembersExactly = (leaders : List ℕ) (u room : ℕ) → FirstNamed (membersTurn leaders u room) (membersRefusal leaders u room)
 
--- "its members ascending": of an accepted call the part handed back has just u's members
+-- "its members ascending": of an accepted call the part handed back has just u's members, and they ascend
 unfoldable pub MembersAre : Type 0
-MembersAre = (leaders : List ℕ) (u room : ℕ) → membersRefusal leaders u room ≡ 0 → (w : ℕ) → (memberOf (membersPart leaders u room) w ≡ true) ↔ MemberIn leaders u w
+MembersAre =
+    (leaders : List ℕ) (u room : ℕ) → membersRefusal leaders u room ≡ 0
+    → ((w : ℕ) → (memberOf (membersPart leaders u room) w ≡ true) ↔ MemberIn leaders u w) × Ascending (membersPart leaders u room)
 
 -- "and takes those as the list": a list and its first 1,024 entries give the same answers
 unfoldable pub FirstEntriesOnly : Type 0

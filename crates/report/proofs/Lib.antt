@@ -4,3 +4,4 @@ pub mod Puts
 pub mod Digits
 pub mod LineParts
 pub mod Lengths
+pub mod Alike

@@ -20,13 +20,7 @@ use Rattle.packing.proofs.Lists.{listWhere-length, listWhere-in, listWhere-out}
 use Rattle.packing.specs.Lists.{memberOf}
 use Rattle.search.specs.Search.{heldBy}
 
--- what stands at a place is in the list, and what is in the list stands at a place
-pub member-at : (l : List ℕ) (i : ℕ) → i < length l → memberOf l (at l i) ≡ true
-unfolding memberOf
-member-at [] i h = absurd (not-suc-le-zero h)
-member-at (a ∷ l) zero h = or-l (eqb a a) (memberOf l a) (eq-eqb a a refl)
-member-at (a ∷ l) (suc i) h = or-r (eqb a (at l i)) (memberOf l (at l i)) (member-at l i (omega arith))
-
+-- what is in the list stands at a place
 pub member-place : (l : List ℕ) (y : ℕ) → memberOf l y ≡ true → (i : ℕ) × (i < length l) × (at l i ≡ y)
 unfolding memberOf
 member-place [] y e = absurd (false≢true e)

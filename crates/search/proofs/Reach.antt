@@ -13,12 +13,12 @@ use borrow.Author.Tests.{eqb-true, eq-eqb, lt-ltb, ltb-true, ltb-false}
 use Rattle.packing.specs.Plant.{NONE, at, linked, neighbours}
 use Rattle.packing.specs.Holders.{held, holds}
 use Rattle.packing.proofs.Tests.{by-bool, below-suc, clash, or-cases, or-l, or-r}
-use Rattle.packing.proofs.Lists.{member-append}
+use Rattle.packing.proofs.Lists.{member-append, member-at}
 use Rattle.packing.proofs.Links.{neighbours-linked}
 use Rattle.packing.specs.Lists.{memberOf}
 use Rattle.search.specs.Search.{Search, found, more, seen, heldBy, visit, turns, walk}
 use Rattle.search.specs.Pre.{Going, Startable}
-use Rattle.search.proofs.Queue.{member-at, member-place, append-at, heldBy-in, heldBy-out}
+use Rattle.search.proofs.Queue.{member-place, append-at, heldBy-in, heldBy-out}
 use Rattle.search.proofs.States.{gateway-some, unseen-below, unseen-start, seen-marked, seen-kept, seen-cases, mark-keeps, look-cases, by-state, going-start, going-joined, visit-found, turns-zero, turns-found, turns-out, turns-step}
 
 -- What stands at place i of the queue joined it: its holder is seen, from a gateway that stands before it.

@@ -15,7 +15,8 @@ use Rattle.packing.proofs.Tests.{by-bool, clash, and-l, and-r, and-i, not-i, if
 use Rattle.packing.proofs.Sums.{count-ext, count-split, count-mono, count-all, count-some}
 use Rattle.search.specs.Search.{Search, found, more, seen, heldBy, look, visit, turn, turns, walk}
 use Rattle.search.specs.Pre.{waiting, Going, Startable, Placeable}
-use Rattle.search.proofs.Queue.{member-at, append-at, heldBy-length, heldBy-out}
+use Rattle.packing.proofs.Lists.{member-at}
+use Rattle.search.proofs.Queue.{append-at, heldBy-length, heldBy-out}
 
 -- a gateway is no NONE
 pub gateway-some : {n x : ℕ} → n ≤ GATEWAYS → x < n → x ≡ NONE → ⊥

@@ -11,8 +11,7 @@ use Rattle.packing.specs.Plant.{GATEWAYS, at}
 use Rattle.packing.specs.Holders.{held}
 use Rattle.packing.proofs.Tests.{not-i, not-i-false}
 use Rattle.packing.proofs.Sums.{count-split, count-all, count-bound}
-use Rattle.packing.proofs.Lists.{listWhere-length, listWhere-in, listWhere-out, written-room, written-front, Gathered, gather-more, gather-same, gather-end}
-use Rattle.search.proofs.Queue.{member-at}
+use Rattle.packing.proofs.Lists.{listWhere-length, listWhere-in, listWhere-out, written-room, written-front, Gathered, gather-more, gather-same, gather-end, member-at}
 use Rattle.search.specs.Pre.{Startable}
 use Rattle.search.specs.ChokeSet.{withoutHolder}
 use Rattle.search.specs.ChokePre.{Queued}
