@@ -5,6 +5,7 @@ pub mod LinkedBefore
 pub mod LinkChecks
 pub mod Filled
 pub mod Refusing
+pub mod Turns
 pub mod Loading
 pub mod Accepted
 pub mod Examples

@@ -2,4 +2,5 @@
 pub mod PlantFile
 pub mod Reader
 pub mod Load
+pub mod Turns
 pub mod Pre
