@@ -12,10 +12,11 @@ use Rattle.packing.specs.Lists.{written}
 use Rattle.packing.specs.Refusals.{byNumber}
 use Rattle.packing.proofs.Refusals.{refused, accepted}
 use Rattle.plant_file.specs.PlantFile.{fileN, fileRefusal, fileThenShort}
+use Rattle.plant_file.specs.Encode.{lowFirst}
 use Rattle.plant_file.proofs.Refusing.{then-none, then-alone}
 use Rattle.plan.specs.Plan.{planRefusal, planLeaders, planChoke}
 use Rattle.plan.proofs.FilePlan.{plan-own, leaders-front, choke-front}
-use Rattle.daemon.specs.Bytes.{lowFirst, Plannable}
+use Rattle.daemon.specs.Pre.{Plannable}
 use Rattle.daemon.specs.Groups.{planBytes, groupsRefusal, groupsOut}
 
 -- a list too short: the file's number, or 10, and nothing is written

@@ -1,3 +1,4 @@
 -- Laws of the calls from C.
 pub mod LowFirst
 pub mod Groups
+pub mod Turns

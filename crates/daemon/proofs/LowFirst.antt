@@ -1,19 +1,16 @@
 -- The loops that write a plan's bytes.
 use Prim.Native.Nat.{ℕ, suc, _+_, _*_, _/_, _%_, _<_, _≤_}
 use mathlib.Core.Path.{_≡_, refl, ap, _∙_}
-use mathlib.Core.List.{List, [], _∷_, _++_}
+use mathlib.Core.List.{List, _++_}
 use native.Mathlib.Numerals.{add-one}
 use native.Mathlib.Omega.{arith}
 use lib.ListN.{length, getD, set, take, drop, length-set, length-append, drop-of-length-le}
 use lib.Seq.{sets, sets-eq, drop-cons, length-take-le}
 use Rattle.packing.specs.Lists.{written}
 use Rattle.packing.proofs.Lists.{sets-append}
-use Rattle.daemon.specs.Bytes.{lowFirst, Plannable}
-
-low-long : (l : List ℕ) → length (lowFirst l) ≡ 2 * length l
-unfolding lowFirst
-low-long [] = refl
-low-long (x ∷ xs) = omega (arith, low-long xs)
+use Rattle.plant_file.specs.Encode.{lowFirst}
+use Rattle.plant_file.proofs.Encode.{low-long}
+use Rattle.daemon.specs.Pre.{Plannable}
 
 -- the first i numbers are written: what the rest makes of the list
 pub record Twos (numbers first now : List ℕ) (i : ℕ) : Type 0 where

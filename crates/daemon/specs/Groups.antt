@@ -6,8 +6,8 @@ use lib.ListN.{length}
 use Rattle.packing.specs.Lists.{written}
 use Rattle.packing.specs.Refusals.{byNumber}
 use Rattle.plant_file.specs.PlantFile.{fileN, fileThenShort}
+use Rattle.plant_file.specs.Encode.{lowFirst}
 use Rattle.plan.specs.Plan.{fileLeaders, fileChoke}
-use Rattle.daemon.specs.Bytes.{lowFirst}
 
 -- "n leaders of two bytes, then n choke bytes of 0 or 1, 3n in all"
 unfoldable pub planBytes : List ℕ → List ℕ

@@ -1,3 +1,4 @@
 -- The calls from C: numbers and bytes.
-pub mod Bytes
 pub mod Groups
+pub mod Turns
+pub mod Pre

@@ -5,7 +5,8 @@ ghost use mathlib.Core.List.{_++_};
 ghost use lib.ListN.{length, take};
 ghost use lib.Seq.{sets};
 ghost use Rattle.packing.specs.Lists.{written};
-ghost use Rattle.daemon.specs.Bytes.{lowFirst, Plannable};
+ghost use Rattle.plant_file.specs.Encode.{lowFirst};
+ghost use Rattle.daemon.specs.Pre.{Plannable};
 
 fn low(x: u16) -> u8
     ensures { λ r. ⌜ r ≡ x % 256 ⌝ }

@@ -1,5 +1,6 @@
 -- Laws of a file's plan, by subject.
 pub mod Refusing
+pub mod Turns
 pub mod CallsInTurn
 pub mod ToldByFile
 pub mod FilePlan

@@ -1,4 +1,5 @@
 -- The plan that a plant file stands for.
 pub mod Plan
+pub mod Turns
 pub mod Pre
 pub mod Claim

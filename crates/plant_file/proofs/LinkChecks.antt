@@ -42,6 +42,10 @@ pub onward-at : (n : ℕ) (l : List ℕ) (i : ℕ) → 2 * i + 1 < length l
 unfolding linksRefusal
 onward-at n l i h = rw (pair-at l (2 * i) h, take-pair l (2 * i) h, mul-add 2 i 1)
 
+-- .. and at its end
+pub onward-end : (n : ℕ) (l : List ℕ) (i : ℕ) → length l ≤ 2 * i + 1 → onward n l i ≡ 0
+onward-end n l i h = links-none n _ (drop (2 * i) l) (pair-end l (2 * i) h)
+
 -- the links before link i are not refused
 pub record Checked (n : ℕ) (file : List ℕ) (i : ℕ) : Type 0 where
   pub upto : i ≤ fileM file
@@ -66,4 +70,4 @@ module _ (n : ℕ) (file : List ℕ) where
     checked-refused {i} c h e z = first-refused _ e z ∙ sym (link-at i h) ∙ c .rest ∙ rw is
 
     pub checked-end : {i : ℕ} → Checked n file i → fileM file ≤ i → 0 ≡ linksRefusal (fileN file) [] (fileLinks file)
-    checked-end {i} c h = sym (links-none n _ (drop (2 * i) (fileLinks file)) (pair-end (fileLinks file) (2 * i) (omega (arith, links-long file)))) ∙ c .rest ∙ rw is
+    checked-end {i} c h = sym (onward-end n (fileLinks file) i (omega (arith, links-long file))) ∙ c .rest ∙ rw is

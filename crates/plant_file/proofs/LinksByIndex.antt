@@ -1,6 +1,6 @@
 -- The links by index: what the code reads there, and that it is what the list of links holds.
 use Prim.Native.Nat.{ℕ, _+_, _*_, _<_, _≤_}
-use mathlib.Core.Path.{_≡_}
+use mathlib.Core.Path.{_≡_, _∙_}
 use mathlib.Core.List.{List}
 use native.Mathlib.Omega.{arith}
 use lib.ListN.{length}
@@ -26,6 +26,10 @@ pub order-long : (file : List ℕ) → length (fileOrder file) ≡ fileN file
 unfolding fileOrder
 order-long file = listOf-length (fileN file) (orderNumber file)
 
+pub order-at : (file : List ℕ) (i : ℕ) → i < fileN file → at (fileOrder file) i ≡ orderNumber file i
+unfolding fileOrder
+order-at file = listOf-at (fileN file) (orderNumber file)
+
 module _ (file : List ℕ) (i : ℕ) where
   pub step-here : {m a b : ℕ} → m ≡ fileM file → i < m → a ≡ number file (10 + 4 * i) → b ≡ number file (12 + 4 * i) → Link a b ≡ linkAt file i
   unfolding linkAt
@@ -35,17 +39,26 @@ module _ (file : List ℕ) (i : ℕ) where
   unfolding linkAt
   step-past e l = rw (le-ltb i (fileM file) (omega arith))
 
+  low : 10 + 2 * (2 * i) ≡ 10 + 4 * i
+  low = omega arith
+
+  high : 10 + 2 * (2 * i + 1) ≡ 12 + 4 * i
+  high = omega arith
+
   -- link i is the numbers at 2i and 2i + 1 of the list of links
   pub step-is : i < fileM file → linkAt file i ≡ Link (linkNumber file (2 * i)) (linkNumber file (2 * i + 1))
   unfolding linkAt
   step-is l = rw (lt-ltb i (fileM file) l, low, high)
-    where
-      low : 10 + 2 * (2 * i) ≡ 10 + 4 * i
-      low = omega arith
 
-      high : 10 + 2 * (2 * i + 1) ≡ 12 + 4 * i
-      high = omega arith
+  -- .. as the list has them
+  pub link-first : i < fileM file → at (fileLinks file) (2 * i) ≡ number file (10 + 4 * i)
+  unfolding fileLinks
+  link-first l = listOf-at (2 * fileM file) (linkNumber file) (2 * i) (omega arith) ∙ rw low
+
+  pub link-second : i < fileM file → at (fileLinks file) (2 * i + 1) ≡ number file (12 + 4 * i)
+  unfolding fileLinks
+  link-second l = listOf-at (2 * fileM file) (linkNumber file) (2 * i + 1) (omega arith) ∙ rw high
 
   pub step-at : i < fileM file → linkAt file i ≡ Link (at (fileLinks file) (2 * i)) (at (fileLinks file) (2 * i + 1))
-  unfolding fileLinks
-  step-at l = rw (listOf-at (2 * fileM file) (linkNumber file) (2 * i) (omega arith), listOf-at (2 * fileM file) (linkNumber file) (2 * i + 1) (omega arith)) (step-is l)
+  unfolding linkAt
+  step-at l = rw (lt-ltb i (fileM file) l, link-first l, link-second l)

@@ -1,5 +1,9 @@
 -- What the bytes of a plant file say.
 pub mod PlantFile
+pub mod Encode
 pub mod Reader
 pub mod Load
+pub mod Turns
+pub mod EveryPlant
+pub mod Largest
 pub mod Pre

@@ -1,0 +1,10 @@
+-- 01, "First to be named": the file's numbers, "then 10". "the daemon's call needs 3n".
+use Prim.Native.Nat.{ℕ, _*_, _<_}
+use mathlib.Core.List.{List}
+use Rattle.packing.specs.Turns.{done, named, FirstNamed}
+use Rattle.plant_file.specs.PlantFile.{fileN}
+use Rattle.plant_file.specs.Turns.{fileTurn}
+use Rattle.daemon.specs.Groups.{groupsRefusal}
+
+unfoldable pub GroupsExactly : Type 0
+GroupsExactly = (file : List ℕ) (outLen : ℕ) → FirstNamed (fileTurn file (named 10 (outLen < 3 * fileN file) done)) (groupsRefusal file outLen)

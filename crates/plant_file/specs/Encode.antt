@@ -1,0 +1,17 @@
+-- 01, "The plant file and the listing", the other way: the file of a plant.
+use Prim.Native.Nat.{ℕ, _/_, _%_, _<_}
+use mathlib.Core.List.{List, [], _∷_, _++_}
+use Rattle.packing.specs.Plant.{at}
+
+-- each is below 256; past its end a list counts as 0
+pub record Bytes (l : List ℕ) : Type 0 where
+  pub below : (i : ℕ) → at l i < 256
+
+-- "numbers low byte first", 16-bit: two bytes each
+unfoldable pub lowFirst : List ℕ → List ℕ
+lowFirst [] = []
+lowFirst (x ∷ xs) = x % 256 ∷ x / 256 ∷ lowFirst xs
+
+-- ""PLT", 16-bit version 1, 16-bit n, 8-bit T, 16-bit m, m links of two 16-bit ends, n 16-bit numbers of the order"
+unfoldable pub encode : ℕ → ℕ → ℕ → List ℕ → List ℕ → List ℕ
+encode n t m links order = (80 ∷ 76 ∷ 84 ∷ []) ++ lowFirst (1 ∷ n ∷ []) ++ (t ∷ []) ++ lowFirst (m ∷ []) ++ lowFirst links ++ lowFirst order
