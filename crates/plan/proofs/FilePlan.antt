@@ -1,25 +1,31 @@
 -- The plan of an accepted file: what its calls tell, what is written, and the claim of specs/Claim.antt.
-use Prim.Native.Nat.{ℕ, zero, suc, _≤_}
+use Prim.Native.Nat.{ℕ, zero, suc, _<_, _≤_}
 use mathlib.Core.Path.{_≡_, refl, sym, ap, _∙_}
+use mathlib.Core.Bool.{Bool, true, false, not}
 use mathlib.Core.List.{List, _++_, append-nil}
 use native.Mathlib.Omega.{arith}
+use lib.Dec.{eqb}
 use lib.ListN.{length, take, replicate, length-replicate, drop-of-length-le}
 use Rattle.packing.specs.Lists.{listOf, written}
-use Rattle.packing.specs.Plant.{GATEWAYS, ENDS, at}
-use Rattle.packing.proofs.Lists.{listOf-length, written-room, written-front}
+use Rattle.packing.specs.Count.{pick, count}
+use Rattle.packing.specs.Plant.{GATEWAYS, ENDS, NONE, at, common, linked}
+use Rattle.packing.specs.Grouping.{covered, countFirst}
+use Rattle.packing.proofs.Sums.{count-ext}
+use Rattle.packing.proofs.Below.{grouping-below, difference-below}
+use Rattle.packing.proofs.Lists.{listOf-length, listOf-at, written-room, written-front}
 use Rattle.stars.specs.Stars.{leaderList}
-use Rattle.search.specs.ChokeSet.{chokeByte}
+use Rattle.search.specs.ChokeSet.{inChoke, chokeByte}
 use Rattle.planner.specs.Refusals.{openRefusal}
 use Rattle.planner.specs.Calls.{read, callRefusal, call, readLeaders, readChoke}
 use Rattle.planner.specs.Told.{Told, beginning, refuses, tell}
 use Rattle.planner.specs.Claims.{toldBy, DemandTwo, DemandThree}
 use Rattle.planner.proofs.Agree.{Agrees, same-number, run-agrees, open-agrees}
 use Rattle.planner.proofs.Demands.{demand-two, demand-three}
-use Rattle.plant_file.specs.PlantFile.{fileN, fileT, fileLinks, fileRefusal}
+use Rattle.plant_file.specs.PlantFile.{fileN, fileT, fileLinks, fileOrder, fileRefusal}
 use Rattle.plant_file.proofs.Accepted.{file-allowed}
 use Rattle.plant_file.proofs.Refusing.{then-file}
 use Rattle.plan.specs.Plan.{fileCalls, fileState, planRefusal, planLeaders, planChoke, fileLeaders, fileChoke}
-use Rattle.plan.specs.Claim.{FilePlan}
+use Rattle.plan.specs.Claim.{PlanOf, FilePlan}
 use Rattle.plan.proofs.Refusing.{plan-alone, plan-places}
 use Rattle.plan.proofs.ToldByFile.{placedTold, open-accepted, read-accepted, file-tells}
 
@@ -122,3 +128,39 @@ file-plan file leaders choke passes =
     let three = demand-three (fileN file) (fileT file) ownLinks own own (file-open file (places .0)) (fileCalls file) placed leaders choke reads in
     let two = demand-two (fileN file) (fileT file) ownLinks own own (file-open file (places .0)) (fileCalls file) placed leaders choke reads in
     rw passes (rw told at (three .0), rw told at (three .1), rw told at (two .2))
+
+-- The claim goes by the entries below n, ..
+pub plan-below : (file : List ℕ) → fileRefusal file ≡ 0 → (g h : ℕ → ℕ) (s r : ℕ → Bool) → ((v : ℕ) → v < fileN file → g v ≡ h v) → ((v : ℕ) → v < fileN file → s v ≡ r v)
+    → PlanOf file g s → PlanOf file h r
+unfolding countFirst
+plan-below file z g h s r same alike (group, most, difference) =
+    let left : count (fileN file) (λ v. not (covered g v)) ≡ count (fileN file) (λ v. not (covered h v)) = count-ext (fileN file) _ _ (λ v l. ap (λ (x : ℕ). not (not (eqb x NONE))) (same v l)) in (
+      grouping-below (fileN file) (common (fileT file)) (linked (fileLinks file)) g h same group,
+      λ other ok k l. rw (first k l) at (most other ok k l),
+      difference-below (fileN file) (common (fileT file)) (linked (fileLinks file)) s r _ _ alike left difference,
+    )
+  where
+    first : (k : ℕ) → k ≤ fileN file → count k (λ i. covered g (at (fileOrder file) i)) ≡ count k (λ i. covered h (at (fileOrder file) i))
+    first k l =
+        count-ext k (λ i. covered g (at (fileOrder file) i)) (λ i. covered h (at (fileOrder file) i))
+        (λ i q. ap (λ (x : ℕ). not (eqb x NONE)) (same (at (fileOrder file) i) (file-allowed file z .order .below i (omega arith))))
+
+-- .. and so holds of the n leaders and the n choke bytes alone.
+module _ (file : List ℕ) (z : fileRefusal file ≡ 0) where
+  pub leaders-long : length (fileLeaders file) ≡ fileN file
+  leaders-long = ap length (leaders-whole file z) ∙ listOf-length (fileN file) _
+
+  pub choke-long : length (fileChoke file) ≡ fileN file
+  choke-long = ap length (choke-whole file z) ∙ listOf-length (fileN file) _
+
+  pub choke-byte : (v : ℕ) → v < fileN file → at (fileChoke file) v ≤ 1
+  unfolding chokeByte
+  choke-byte v l = rw (choke-whole file z, listOf-at (fileN file) (chokeByte (fileN file) (fileLinks file) (fileState file .holders)) v l) (one (inChoke (fileN file) (fileLinks file) (fileState file .holders) v))
+    where
+      one : (b : Bool) → pick b 1 ≤ 1
+      one true = omega arith
+      one false = omega arith
+
+  pub lists-plan : PlanOf file (at (fileLeaders file)) (λ v. eqb (at (fileChoke file) v) 1)
+  unfolding FilePlan fileLeaders fileChoke
+  lists-plan = file-plan file (replicate (fileN file) 0) (replicate (fileN file) 0) (plan-passes file z (replicate (fileN file) 0) (replicate (fileN file) 0) (zeros file z) (zeros file z))

@@ -1,7 +1,7 @@
 -- 00, demands 2 and 3, for a plan made from a file.
 use Prim.Native.Nat.{ℕ, _≤_}
 use mathlib.Core.Path.{_≡_}
-use mathlib.Core.Bool.{not}
+use mathlib.Core.Bool.{Bool, not}
 use mathlib.Core.List.{List}
 use lib.Dec.{eqb}
 use lib.ListN.{length}
@@ -16,13 +16,17 @@ use Rattle.plan.specs.Plan.{planRefusal, planLeaders, planChoke}
 abbrev pub GroupingOf : List ℕ → (ℕ → ℕ) → Type 0
 GroupingOf file g = Grouping (fileN file) (common (fileT file)) (linked (fileLinks file)) g
 
--- Of every accepted file: the leaders written are a grouping, no grouping covers more of the first k in the file's order for any k up to n,
+-- What is claimed of leaders g and a choke set s for that plant: g is a grouping, no grouping covers more of the first k in the file's order for any k up to n,
 -- and the choke set's difference is the number not covered.
+abbrev pub PlanOf : List ℕ → (ℕ → ℕ) → (ℕ → Bool) → Type 0
+PlanOf file g s =
+    GroupingOf file g
+    × ((other : ℕ → ℕ) → GroupingOf file other → (k : ℕ) → k ≤ fileN file
+    → coveredFirst k (at (fileOrder file)) other ≤ coveredFirst k (at (fileOrder file)) g)
+    × ChokeDifference (fileN file) (common (fileT file)) (linked (fileLinks file)) s (count (fileN file) (λ v. not (covered g v)))
+
+-- It holds of what is written for every accepted file.
 unfoldable pub FilePlan : Type 0
 FilePlan =
     (file leaders choke : List ℕ) → planRefusal file (length leaders) (length choke) ≡ 0
-    → GroupingOf file (at (planLeaders file leaders choke))
-    × ((other : ℕ → ℕ) → GroupingOf file other → (k : ℕ) → k ≤ fileN file
-    → coveredFirst k (at (fileOrder file)) other ≤ coveredFirst k (at (fileOrder file)) (at (planLeaders file leaders choke)))
-    × ChokeDifference (fileN file) (common (fileT file)) (linked (fileLinks file)) (λ v. eqb (at (planChoke file leaders choke) v) 1)
-    (count (fileN file) (λ v. not (covered (at (planLeaders file leaders choke)) v)))
+    → PlanOf file (at (planLeaders file leaders choke)) (λ v. eqb (at (planChoke file leaders choke) v) 1)
