@@ -2,3 +2,4 @@
 pub mod LowFirst
 pub mod Groups
 pub mod Turns
+pub mod Claim

@@ -1,4 +1,5 @@
 -- The calls from C: numbers and bytes.
 pub mod Groups
 pub mod Turns
+pub mod Claim
 pub mod Pre

@@ -33,7 +33,7 @@ number-later before l i = rw (one, getD-append-add before l i 0, getD-append-add
     one = omega arith
 
 -- number i of a list of numbers as bytes
-number-low : (l : List ℕ) (i : ℕ) → number (lowFirst l) (2 * i) ≡ at l i
+pub number-low : (l : List ℕ) (i : ℕ) → number (lowFirst l) (2 * i) ≡ at l i
 unfolding lowFirst number
 number-low [] i = refl
 number-low (x ∷ l) zero = low-high x

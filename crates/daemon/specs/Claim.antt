@@ -1,0 +1,30 @@
+-- 00, demands 2 and 3, of the bytes that the call from C writes. proofs/Claim.antt proves it.
+use Prim.Native.Nat.{ℕ, _+_, _*_, _<_, _≤_}
+use mathlib.Core.Path.{_≡_}
+use mathlib.Core.List.{List}
+use lib.Dec.{eqb}
+use lib.ListN.{length, drop}
+use Rattle.packing.specs.Plant.{at}
+use Rattle.plant_file.specs.PlantFile.{fileN}
+use Rattle.plan.specs.Claim.{PlanOf}
+use Rattle.daemon.specs.Groups.{groupsRefusal, groupsOut}
+
+-- "n leaders of two bytes, then n choke bytes", "numbers low byte first": gateway v's leader and its choke byte, as a caller reads them
+abbrev pub leaderAt : List ℕ → ℕ → ℕ
+leaderAt out v = at out (2 * v) + 256 * at out (2 * v + 1)
+
+abbrev pub chokeAt : ℕ → List ℕ → ℕ → ℕ
+chokeAt n out v = at out (2 * n + v)
+
+-- An accepted call: the leaders that the bytes say are a grouping of the file's plant, no grouping covers more of the first k in its order for any k up to n,
+-- and the choke set that they say has demand 2's difference. Each choke byte is 0 or 1, and nothing past 3n is written.
+unfoldable pub BytesPlan : Type 0
+BytesPlan =
+    (file out : List ℕ) → groupsRefusal file (length out) ≡ 0
+    → PlanOf file (leaderAt (groupsOut file out)) (λ v. eqb (chokeAt (fileN file) (groupsOut file out) v) 1)
+    × ((v : ℕ) → v < fileN file → chokeAt (fileN file) (groupsOut file out) v ≤ 1)
+    × (drop (3 * fileN file) (groupsOut file out) ≡ drop (3 * fileN file) out)
+
+-- A refused one writes nothing.
+unfoldable pub BytesRefused : Type 0
+BytesRefused = (file out : List ℕ) → (groupsRefusal file (length out) ≡ 0 → ⊥) → groupsOut file out ≡ out
