@@ -2,11 +2,15 @@
 mod text;
 
 use libc::STDOUT_FILENO;
-ghost use Prim.Native.Nat.{_≤_};
-ghost use lib.ListN.{length};
+ghost use mathlib.Core.Path.{_≡_};
+ghost use Prim.Native.Nat.{_+_, _≤_};
+ghost use lib.ListN.{length, replicate};
+ghost use Rattle.plant_file.specs.PlantFile.{LONGEST};
 
 // One byte more than the longest plant file, so that a longer one is refused for its length.
-fn room() -> [u8; 34827] {
+fn room() -> [u8; 34827]
+    ensures { λ r. ⌜ r ≡ replicate (LONGEST + 1) 0 ⌝ }
+{
     [0u8; 34827]
 }
 

@@ -7,4 +7,5 @@ pub mod Filled
 pub mod Refusing
 pub mod Loading
 pub mod Accepted
+pub mod Cut
 pub mod Examples
