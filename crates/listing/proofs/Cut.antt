@@ -13,7 +13,8 @@ use Rattle.plant_file.proofs.Refusing.{then-file}
 use Rattle.plant_file.proofs.Cut.{cut-refusal, cut-accepted}
 use Rattle.plan.specs.Plan.{planRefusal}
 use Rattle.report.specs.Text as text
-use Rattle.listing.specs.Listed.{textBy, fileText, SameWhenCut}
+use Rattle.listing.specs.Listed.{textBy, fileText}
+use Rattle.listing.specs.Reading.{SameWhenCut}
 use Rattle.listing.proofs.Texts.{text-refused}
 
 -- a refused file's text goes by its number alone

@@ -1,10 +1,9 @@
 -- 01, "The plant file and the listing": the text for a file's bytes.
-use Prim.Native.Nat.{ℕ, zero, suc, _+_}
-use mathlib.Core.Path.{_≡_}
+use Prim.Native.Nat.{ℕ, zero, suc}
 use mathlib.Core.List.{List}
-use lib.ListN.{take, replicate}
+use lib.ListN.{replicate}
 use Rattle.packing.specs.Plant.{GATEWAYS}
-use Rattle.plant_file.specs.PlantFile.{LONGEST, fileN, fileT}
+use Rattle.plant_file.specs.PlantFile.{fileN, fileT}
 use Rattle.plan.specs.Plan.{planRefusal, planLeaders, planChoke}
 use Rattle.report.specs.Text as text
 
@@ -18,7 +17,3 @@ unfoldable pub fileText : List ℕ → List ℕ
 fileText file =
     textBy (planRefusal file GATEWAYS GATEWAYS)
     (text.listing (fileN file) (fileT file) (planLeaders file (replicate GATEWAYS 0) (replicate GATEWAYS 0)) (planChoke file (replicate GATEWAYS 0) (replicate GATEWAYS 0)))
-
--- No byte past one more than the longest file changes the text, so the program reads no more. proofs/Cut.antt proves it.
-unfoldable pub SameWhenCut : Type 0
-SameWhenCut = (file : List ℕ) → fileText (take (LONGEST + 1) file) ≡ fileText file
