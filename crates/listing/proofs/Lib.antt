@@ -1,2 +1,3 @@
 -- Laws of the text.
 pub mod Texts
+pub mod Cut

@@ -52,7 +52,7 @@ pub plan-small : (file : List ℕ) (ls cs : ℕ) {e : ℕ} → e ≡ planRefusal
 unfolding planRefusal fileThenShort
 plan-small file ls cs g = rw g (first-small (fileRefusal file) (file-small file) (refuse-small (ltb ls (fileN file) || ltb cs (fileN file)) (omega arith) (omega arith)))
 
-text-refused : (e : ℕ) (listing : List ℕ) → (e ≡ 0 → ⊥) → textBy e listing ≡ text.refusedLine e
+pub text-refused : (e : ℕ) (listing : List ℕ) → (e ≡ 0 → ⊥) → textBy e listing ≡ text.refusedLine e
 text-refused zero listing h = absurd (h refl)
 text-refused (suc e) listing h = refl
 

@@ -1,2 +1,3 @@
--- What the program prints.
+-- What the program prints, and what it reads.
 pub mod Listed
+pub mod Reading

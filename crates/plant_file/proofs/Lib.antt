@@ -11,4 +11,5 @@ pub mod EveryPlant
 pub mod Largest
 pub mod Loading
 pub mod Accepted
+pub mod Cut
 pub mod Examples

@@ -9,7 +9,7 @@ use Rattle.packing.specs.Plant.{at}
 use Rattle.packing.proofs.Lists.{listOf-length, listOf-at}
 use Rattle.plant_file.specs.declared.reader.Step.the-variants.{Link, End}
 use Rattle.plant_file.specs.PlantFile.{number, fileN, fileM, fileLinks, fileOrder}
-use Rattle.plant_file.specs.Reader.{linkAt}
+use Rattle.plant_file.specs.Reader.{linkAt, nextIndex}
 
 -- the numbers of the links, and those of the order, as the file has them
 abbrev pub linkNumber : List ℕ → ℕ → ℕ
@@ -38,6 +38,15 @@ module _ (file : List ℕ) (i : ℕ) where
   pub step-past : {m : ℕ} → m ≡ fileM file → m ≤ i → End ≡ linkAt file i
   unfolding linkAt
   step-past e l = rw (le-ltb i (fileM file) (omega arith))
+
+  -- the index after it
+  pub index-here : {m : ℕ} → m ≡ fileM file → i < m → i + 1 ≡ nextIndex file i
+  unfolding nextIndex
+  index-here e l = rw (lt-ltb i (fileM file) (omega arith))
+
+  pub index-past : {m : ℕ} → m ≡ fileM file → m ≤ i → i ≡ nextIndex file i
+  unfolding nextIndex
+  index-past e l = rw (le-ltb i (fileM file) (omega arith))
 
   low : 10 + 2 * (2 * i) ≡ 10 + 4 * i
   low = omega arith

@@ -10,6 +10,10 @@ use Rattle.packing.specs.Plant.{GATEWAYS, LINKS, LOWEST, HIGHEST, at, linked}
 use Rattle.packing.specs.Orders.{repeatsOrOutside}
 use Rattle.packing.specs.Refusals.{refuse, firstOf}
 
+-- the length of the longest plant file: 10 + 4 · 8,192 + 2 · 1,024
+abbrev pub LONGEST : ℕ
+LONGEST = 34826
+
 -- a 16-bit number at a place, low byte first
 unfoldable pub number : List ℕ → ℕ → ℕ
 number file i = at file i + 256 * at file (i + 1)

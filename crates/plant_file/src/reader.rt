@@ -1,7 +1,7 @@
 // 01, "The plant file and the listing": "a reader that keeps the file together with the index of its next link".
 use crate::bytes::number_at;
 ghost use mathlib.Core.Path.{_≡_};
-ghost use Rattle.plant_file.specs.Reader.{linkAt};
+ghost use Rattle.plant_file.specs.Reader.{linkAt, nextIndex};
 
 // The file, and the index of its next link.
 pub struct Reader<'a> {
@@ -25,6 +25,16 @@ pub fn link_at(file: &[u8], i: usize) -> Step
     Step::End
 }
 
+// The work: the index of the link after it. At the end of the links it stays, so that it never runs past the largest number.
+pub fn next_index(file: &[u8], i: usize) -> usize
+    ensures { λ r. ⌜ r ≡ nextIndex (now (file .entry)) i ⌝ }
+{
+    if i < crate::link_count(file) as usize {
+        return i + 1;
+    }
+    i
+}
+
 // A reader whose next link is the one at an index.
 pub fn new<'a>(src: &'a [u8], at: usize) -> Reader<'a>
     ensures { λ r. ⌜ (r .src ≡ src .entry) × (r .at ≡ at) ⌝ }
@@ -37,6 +47,14 @@ pub fn next<'a>(r: Reader<'a>) -> Step
     ensures { λ s. ⌜ s ≡ linkAt (now (r .entry .src)) (r .entry .at) ⌝ }
 {
     link_at(r.src, r.at)
+}
+
+// The reader moved past its next link.
+pub fn moved<'a>(r: Reader<'a>) -> Reader<'a>
+    ensures { λ q. ⌜ (q .src ≡ r .entry .src) × (q .at ≡ nextIndex (now (r .entry .src)) (r .entry .at)) ⌝ }
+{
+    let at = next_index(r.src, r.at);
+    Reader { src: r.src, at }
 }
 
 // The link at an index, by a reader. All that go through the links call this.
