@@ -20,6 +20,7 @@ use Rattle.plant_file.specs.Load.{loadRefusal}
 use Rattle.plant_file.specs.Turns.{eachLink, fileTurn, FileExactly, LoadExactly}
 use Rattle.plant_file.proofs.LinksByIndex.{orderNumber, links-long, order-at, link-first, link-second}
 use Rattle.plant_file.proofs.LinkChecks.{onward, onward-at, onward-end}
+use Rattle.plant_file.proofs.Refusing.{bodyRefusal}
 
 -- a test, the rest of a call's tests, and what comes after them all
 then-named : (b : Bool) (e x rest : ℕ) {Condition : Type 0} (later : Turn) → Says b Condition → (b ≡ false → FirstNamed later (firstOf x rest))
@@ -86,6 +87,14 @@ module _ (file : List ℕ) where
       says-as (repeats-as (fileN file) (at (fileOrder file)) (orderNumber file) (order-at file))
       (repeats-as (fileN file) (orderNumber file) (at (fileOrder file)) (λ i l. sym (order-at file i l))) (says-order (fileN file) (fileOrder file))
 
+  body-then : (later : Turn) (rest : ℕ) → FirstNamed later rest
+      → FirstNamed (eachLink (fileN file) (λ i. number file (10 + 4 * i)) (λ i. number file (12 + 4 * i)) 0 (fileM file) (named 6 (RepeatsOrOutside (fileN file) (orderNumber file)) later))
+      (firstOf (bodyRefusal file) rest)
+  body-then later rest f =
+      rw first-assoc
+      (links-turn (fileN file) (fileM file) (fileLinks file) (links-long file) _ _ (λ i l. (link-first file i l, link-second file i l)) 0 (fileM file) _ _ (omega arith)
+      (then-named _ _ 0 rest later says-disorder (λ _. f)))
+
   pub file-then : (later : Turn) (rest : ℕ) → FirstNamed later rest → FirstNamed (fileTurn file later) (firstOf (fileRefusal file) rest)
   unfolding fileTurn fileRefusal
   file-then later rest f =
@@ -96,9 +105,7 @@ module _ (file : List ℕ) where
       (λ _. then-named _ _ _ _ _ (says-either _ _ (says-less (fileT file) LOWEST) (says-less HIGHEST (fileT file)))
       (λ _. then-named _ _ _ _ _ (says-less LINKS (fileM file))
       (λ _. then-named _ _ _ _ _ (says-not _ (says-same (length file) (10 + 4 * fileM file + 2 * fileN file)))
-      (λ _. rw first-assoc
-      (links-turn (fileN file) (fileM file) (fileLinks file) (links-long file) _ _ (λ i l. (link-first file i l, link-second file i l)) 0 (fileM file) _ _ (omega arith)
-      (then-named _ _ 0 rest later says-disorder (λ _. f))))))))))
+      (λ _. body-then later rest f)))))))
 
 -- the file's number alone
 pub file-exactly : FileExactly
