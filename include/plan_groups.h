@@ -66,12 +66,12 @@ extern "C" {
  *
  * What it uses. The call is reentrant and keeps nothing: the library has no writable data and allocates
  * none. Calls may run at once in any threads, each with an out of its own; they may share a file that
- * nobody changes meanwhile. Its lists stand on the stack: about 62 KB, nearly the same for every file. A
+ * nobody changes meanwhile. Its lists stand on the stack: about 61 KB, nearly the same for every file. A
  * thread whose stack has PLAN_GROUPS_STACK bytes, with what the thread itself takes of them, can make
  * the call; what the thread does besides needs more.
  *
  * Its time grows as n * n * (n + m) at worst. With 1,024 gateways most plants take well under a second;
- * one with thousands of links that leaves hundreds alone can take some seconds.
+ * one with thousands of links that leaves hundreds alone can take a few seconds.
  *
  * The plant file: "PLT", version, n, T, m, then m links of two ends, then the n numbers of the order.
  * T has one byte; every other number has two, low byte first.

@@ -24,6 +24,7 @@ script_lists_what_comes_in() {
 first_run_folder() {
     local name=$1 status=$2
     first=$folder/$name
+    rm -rf "$first"
     mkdir -p "$first/tests" "$first/crates" "$first/rt" || return
     cp -R scripts data "$first" && cp tests/build.sh "$first/tests" || return
     printf '%s\n' '# crates' 'low:' 'mid: low' 'other: low' 'listing: mid io libc' >"$first/crates.txt"
