@@ -12,13 +12,28 @@ extern "C" {
 /* The leader entry of a gateway that is alone. */
 #define PLAN_GROUPS_ALONE 65535
 
+/* The most gateways and links of a plant. */
+#define PLAN_GROUPS_GATEWAYS_MAX 1024
+#define PLAN_GROUPS_LINKS_MAX 8192
+
+/* The bytes of out that n gateways need, and those that are enough for every plant. */
+#define PLAN_GROUPS_OUT(n) ((size_t)3 * (size_t)(n))
+#define PLAN_GROUPS_OUT_MAX PLAN_GROUPS_OUT(PLAN_GROUPS_GATEWAYS_MAX)
+
+/* The bytes of the longest plant file; a longer one is refused. */
+#define PLAN_GROUPS_FILE_MAX \
+    ((size_t)10 + 4 * (size_t)PLAN_GROUPS_LINKS_MAX + 2 * (size_t)PLAN_GROUPS_GATEWAYS_MAX)
+
+/* The bytes of stack that are enough for a thread that makes the call: see below. */
+#define PLAN_GROUPS_STACK 81920
+
 /*
  * Plans the groups of the plant that a plant file describes.
  *
  * What the caller lends:
  *   file     file_len bytes that may be read: the plant file.
- *   out      out_len bytes that may be written. 3n are needed for n gateways; 3,072 are enough for
- *            every plant.
+ *   out      out_len bytes that may be written. PLAN_GROUPS_OUT(n), that is 3n, are needed for n
+ *            gateways; PLAN_GROUPS_OUT_MAX are enough for every plant.
  * Any bytes and any lengths may be handed in. Both areas must be what they are said to be for the
  * whole call, and they must not overlap. Nothing outside them is read or written, nothing of the file
  * is changed, and neither pointer is kept. No alignment is needed.
@@ -48,6 +63,15 @@ extern "C" {
  *   20   a link stands there already, either way round
  *    6   the order repeats a number or has one not below n
  *   10   out_len is below 3n
+ *
+ * What it uses. The call is reentrant and keeps nothing: the library has no writable data and allocates
+ * none. Calls may run at once in any threads, each with an out of its own; they may share a file that
+ * nobody changes meanwhile. Its lists stand on the stack: about 61 KB, nearly the same for every file. A
+ * thread whose stack has PLAN_GROUPS_STACK bytes, with what the thread itself takes of them, can make
+ * the call; what the thread does besides needs more.
+ *
+ * Its time grows as n * n * (n + m) at worst. With 1,024 gateways most plants take well under a second;
+ * one with thousands of links that leaves hundreds alone can take a few seconds.
  *
  * The plant file: "PLT", version, n, T, m, then m links of two ends, then the n numbers of the order.
  * T has one byte; every other number has two, low byte first.

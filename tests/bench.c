@@ -15,7 +15,7 @@
 enum { ROUNDS = 3 };
 
 static struct plant plant;
-static uint8_t file[MAX_FILE], out[3 * MAX_GATEWAYS];
+static uint8_t file[MAX_FILE], out[PLAN_GROUPS_OUT_MAX];
 static size_t len;
 static long sum; /* what the work gave, so that none of it is left out */
 
@@ -102,10 +102,24 @@ static void make_crowd(struct rng *r, int n)
     rng_shuffle(r, plant.order, n);
 }
 
+/*
+ * One hub for each 32, which holds sixteen; all others at eight of the hubs. The hubs are full when half of
+ * them are held, and each of the rest is left alone after a search through all that is held. The slowest known.
+ */
+static void make_full(struct rng *r, int n)
+{
+    int hubs = n / 32;
+    plant_open(&plant, n, 16);
+    for (int v = hubs; v < n; v++)
+        for (int i = 0; i < 8; i++)
+            plant_link(&plant, rng_below(r, hubs), v);
+    rng_shuffle(r, plant.order, n);
+}
+
 static const struct {
     const char *name;
     void (*make)(struct rng *, int);
-} kinds[] = {{"random", make_random}, {"tree", make_tree}, {"hubs", make_hubs}, {"crowd", make_crowd}};
+} kinds[] = {{"random", make_random}, {"tree", make_tree}, {"hubs", make_hubs}, {"crowd", make_crowd}, {"full", make_full}};
 
 static void print_growth(double now_taken, double before)
 {

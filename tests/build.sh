@@ -18,7 +18,7 @@ build_program() {
 
 # compiles the given C files with all that they share: target/tests/NAME for NAME.c
 compile_tests() {
-    local flags=(-std=c11 -Wall -Wextra -O2 -Iinclude -Itests/common) objects=() file object
+    local flags=(-std=c11 -Wall -Wextra -O2 -pthread -Iinclude -Itests/common) objects=() file object
     mkdir -p target/tests/objects || return
     for file in tests/common/*.c; do
         object=target/tests/objects/$(basename "$file" .c).o

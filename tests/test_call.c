@@ -1,4 +1,5 @@
-/* The call as a program in C makes it: lengths, bounds, NULL, and no memory of earlier calls. */
+/* The call as a program in C makes it: sizes, lengths, bounds, NULL, and no memory of earlier calls. */
+#include <limits.h>
 #include <string.h>
 
 #include "families.h"
@@ -27,11 +28,11 @@ static bool is_as_expected(const struct plant *p)
 /* An out of any length from 3n on: the same answer, and nothing past it. */
 static void check_lengths(const struct plant *p, const char *name)
 {
-    static const size_t more[] = {0, 1, 2, 63, 64, 1000, MAX_OUT - 3 * MAX_GATEWAYS};
+    static const size_t more[] = {0, 1, 2, 63, 64, 1000, MAX_OUT - PLAN_GROUPS_OUT_MAX};
     size_t len = plant_write(p, file);
     for (size_t i = 0; i < sizeof more / sizeof more[0]; i++) {
         for (int side = AT_START; side <= AT_END; side++) {
-            lent_call(file, len, 3 * (size_t)p->n + more[i], side, &outcome);
+            lent_call(file, len, PLAN_GROUPS_OUT(p->n) + more[i], side, &outcome);
             bool ok = is_accepted() && is_as_expected(p);
             tally(ok, "%s, %d gateways, %zu bytes more: number %u, %s", name, p->n, more[i],
                   (unsigned)outcome.number, outcome.fault ? outcome.fault : "the answer");
@@ -75,27 +76,60 @@ static void repeated(struct rng *r)
         lent_plan(&other, AT_END, &outcome);
         lent_call(file, 3, 3, AT_END, &outcome);
         lent_plan(&plant, AT_END, &outcome);
-        tally(is_accepted() && memcmp(first.out, outcome.out, 3 * (size_t)plant.n) == 0, "the same plant again, %d", i);
+        tally(is_accepted() && memcmp(first.out, outcome.out, PLAN_GROUPS_OUT(plant.n)) == 0,
+              "the same plant again, %d", i);
     }
 }
 
 /* Every address is good: the areas begin at odd and even ones. */
 static void alignments(struct rng *r)
 {
-    static uint8_t moved[MAX_FILE + 8], out[3 * 32 + 8];
-    family_make(family_named("sparse"), &plant, r, 32, 2);
-    size_t len = plant_write(&plant, file);
-    lent_call(file, len, 3 * 32, AT_START, &outcome);
+    enum { COUNT = 32 };
+    static uint8_t moved[MAX_FILE + 8], out[PLAN_GROUPS_OUT(COUNT) + 8];
+    family_make(family_named("sparse"), &plant, r, COUNT, 2);
+    size_t len = plant_write(&plant, file), out_len = PLAN_GROUPS_OUT(COUNT);
+    lent_call(file, len, out_len, AT_START, &outcome);
     for (int i = 0; i < 8; i++) {
         memcpy(moved + i, file, len);
-        uint32_t number = plan_groups(moved + i, len, out + 7 - i, 3 * 32);
-        tally(number == 0 && memcmp(out + 7 - i, outcome.out, 3 * 32) == 0, "areas %d bytes on", i);
+        uint32_t number = plan_groups(moved + i, len, out + 7 - i, out_len);
+        tally(number == 0 && memcmp(out + 7 - i, outcome.out, out_len) == 0, "areas %d bytes on", i);
     }
+}
+
+/* The header's sizes, in numbers of our own. */
+static void sizes(void)
+{
+    int i = 4;
+    tally(PLAN_GROUPS_GATEWAYS_MAX == 1024, "the most gateways");
+    tally(PLAN_GROUPS_LINKS_MAX == 8192, "the most links");
+    tally(PLAN_GROUPS_ALONE == 65535, "the entry of one alone");
+    tally(PLAN_GROUPS_OUT_MAX == 3072, "the longest out");
+    tally(PLAN_GROUPS_FILE_MAX == 34826, "the longest file");
+    tally(PLAN_GROUPS_OUT(0) == 0 && PLAN_GROUPS_OUT(5) == 15, "the out of 0 and of 5 gateways");
+    tally(sizeof PLAN_GROUPS_OUT(i) == sizeof(size_t), "an out's length is a size_t");
+    tally(PLAN_GROUPS_OUT((uint8_t)200) == 600 && PLAN_GROUPS_OUT(INT_MAX) == 6442450941, "a length is not cut off");
+    tally(60 / PLAN_GROUPS_OUT(i ? 1 + 1 : 0) == 10 && PLAN_GROUPS_OUT(i | 1) == 15, "any expression is an argument");
+    tally(PLAN_GROUPS_OUT(i++) == 12 && i == 5, "the argument is taken once");
+}
+
+/* The longest file and out are those of the largest plant, and just enough for it. */
+static void longest(struct rng *r)
+{
+    plant_open(&plant, PLAN_GROUPS_GATEWAYS_MAX, 2);
+    family_fill(&plant, r, PLAN_GROUPS_LINKS_MAX);
+    size_t len = plant_write(&plant, file);
+    tally(len == PLAN_GROUPS_FILE_MAX, "the largest plant's file has %zu bytes", len);
+    lent_call(file, len, PLAN_GROUPS_OUT_MAX, AT_END, &outcome);
+    tally(is_accepted() && is_as_expected(&plant), "the largest plant and the longest out");
+    lent_call(file, len, PLAN_GROUPS_OUT_MAX - 1, AT_END, &outcome);
+    tally(outcome.number == 10 && outcome.fault == NULL, "the largest plant and one byte less");
 }
 
 int main(void)
 {
     struct rng r = {2};
+    sizes();
+    longest(&r);
     lengths(&r);
     no_area();
     repeated(&r);

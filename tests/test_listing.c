@@ -14,6 +14,7 @@
 #include "file_rules.h"
 #include "judge.h"
 #include "listing_text.h"
+#include "plan_groups.h"
 #include "tally.h"
 
 enum { MAX_PLANT = 1 << 20 };
@@ -128,7 +129,7 @@ static void refused_files(void)
     for (size_t i = 0; i < full; i++) {
         fill_document_plant();
         file[i] = (uint8_t)(file[i] ^ 0x40);
-        expect_refused(file_refusal(file, len, 3 * MAX_GATEWAYS, &unused), "changed byte", (int)i);
+        expect_refused(file_refusal(file, len, PLAN_GROUPS_OUT_MAX, &unused), "changed byte", (int)i);
     }
 }
 

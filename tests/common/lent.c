@@ -100,5 +100,5 @@ void lent_plan(const struct plant *p, enum side side, struct outcome *o)
 {
     static uint8_t file[MAX_FILE];
     size_t len = plant_write(p, file);
-    lent_call(file, len, 3 * (size_t)p->n, side, o);
+    lent_call(file, len, PLAN_GROUPS_OUT(p->n), side, o);
 }
