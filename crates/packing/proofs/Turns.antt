@@ -1,7 +1,7 @@
 -- Laws of turns: a test is its condition in words, a chain of tests is a turn, and a turn names one number.
 use Prim.Native.Nat.{ℕ, zero, suc, _+_, _*_, _<_, _≤_}
 use mathlib.Core.Path.{_≡_, refl, sym, _∙_}
-use mathlib.Core.Logic.{_⊎_, inl, inr, ⊎-elim}
+use mathlib.Core.Logic.{_⊎_, inl, inr, ⊎-elim, _↔_}
 use mathlib.Core.Bool.{Bool, true, false, not, _&&_, _||_, true≢false, false≢true}
 use mathlib.Core.List.{List, [], _∷_}
 use native.Mathlib.Nat.{not-suc-le-zero}
@@ -40,6 +40,10 @@ named-once done d e f g = f ∙ sym g
 named-once (named x Condition later) d e f g =
     ⊎-elim (λ p. ⊎-elim (λ q. p .1 ∙ sym (q .1)) (λ q. absurd (q .0 (p .0))) g)
     (λ p. ⊎-elim (λ q. absurd (p .0 (q .0))) (λ q. named-once later d e (p .1) (q .1)) g) f
+
+-- so a number is given exactly if it is the first whose condition holds
+pub given-exactly : (turn : Turn) (d e : ℕ) → FirstNamed turn e → (e ≡ d) ↔ FirstNamed turn d
+given-exactly turn d e f = (λ q. rw q at f, λ g. named-once turn e d f g)
 
 -- Tests, and what they say in words.
 pub says-less : (a b : ℕ) → Says (ltb a b) (a < b)
