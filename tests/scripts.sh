@@ -127,6 +127,14 @@ readme_text() {
     scripts/pack "$folder/readme.txt" - | scripts/list - | diff - "$folder/readme.listing"
 }
 
+# what README.md shows of crates/example stands in it, line by line in one piece, and so does what it prints
+readme_rattle() {
+    local code
+    code=$(readme_block 'From Rattle' rust 1)
+    [ -n "$code" ] && [[ "$(cat crates/example/src/main.rt)" == *"$code"* ]] || return
+    readme_block 'From Rattle' text 1 | diff - crates/example/stdout
+}
+
 run_script_tests() {
     run_one 'scripts/list' script_lists
     run_one 'scripts/list with a file' script_lists data/sample.plt
@@ -150,4 +158,5 @@ run_script_tests() {
     run_one 'a packed plant listed' packed_is_listed
     run_one 'the C example of README.md' readme_example
     run_one 'the text and the listing of README.md' readme_text
+    run_one 'the Rattle example of README.md' readme_rattle
 }

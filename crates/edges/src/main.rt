@@ -5,6 +5,7 @@ mod full;
 mod lines;
 mod linking;
 mod membering;
+mod membering_large;
 mod opening;
 mod ordering;
 mod parts;
@@ -14,8 +15,8 @@ mod script;
 mod soundness;
 
 // Room for a script more than twice as long.
-fn room() -> [u8; 8192] {
-    [0u8; 8192]
+fn room() -> [u8; 16384] {
+    [0u8; 16384]
 }
 
 fn main() {

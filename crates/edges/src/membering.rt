@@ -1,17 +1,20 @@
 // Members: its refusals, the part handed back, and the lent list after it. The leader list of 01's listing.
+// No contract can speak of the lent list behind the part, so every entry is shown, and four that no case lends.
 use crate::lines;
 use crate::parts;
 use planner::members;
 
-fn show(leaders: &[u16], leader: u16, out: &mut [u16]) {
+// Prints the part and returns its length.
+pub(crate) fn show(leaders: &[u16], leader: u16, out: &mut [u16]) -> usize {
     let part = members::members(leaders, leader, out);
     lines::list(part);
+    part.len()
 }
 
 // the leader and the room
 pub(crate) fn case(label: &[u8], a: &[u16]) {
     let leaders = [0u16, 1, 1, 0, 0];
-    let came = [9u16; 3];
+    let came = [9u16; 16];
     let mut out = came;
     let room = parts::place(a, 3);
     lines::refusal(

@@ -2,6 +2,7 @@
 use crate::full;
 use crate::linking;
 use crate::membering;
+use crate::membering_large;
 use crate::opening;
 use crate::ordering;
 use crate::placing;
@@ -74,6 +75,8 @@ fn call(label: &[u8], a: &[u16]) {
         9 => soundness::case(label, a),
         10 => soundness::large(label, lists::entry(a, 2), 0),
         11 => soundness::large(label, 4, lists::entry(a, 2)),
+        12 => membering_large::case(label, a),
+        13 => membering_large::most(label, a),
         _ => full::run(),
     }
 }
