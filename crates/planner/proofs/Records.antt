@@ -47,17 +47,17 @@ open-gives n t ls os hs z =
       holdersPast = written-past n (replicate n NONE) hs (length-replicate n NONE);
     })
 
-pub open-refused : OpenRefused
+pub refused-open : OpenRefused
 unfolding OpenRefused openCall
-open-refused n t ls os hs h = sym (refused (opened n t ls os hs) (stateOf (smallOpened 0 2) ls os hs) refl h)
+refused-open n t ls os hs h = sym (refused (opened n t ls os hs) (stateOf (smallOpened 0 2) ls os hs) refl h)
 
-pub refused-unchanged : RefusedUnchanged
+pub refused-call : RefusedUnchanged
 unfolding RefusedUnchanged call
-refused-unchanged s c h = sym (refused (changed s c) s refl h)
+refused-call s c h = sym (refused (changed s c) s refl h)
 
-pub read-refused : ReadRefused
+pub refused-read : ReadRefused
 unfolding ReadRefused call readLeaders readChoke
-read-refused s leaders choke h = (sym (refused _ leaders refl h), sym (refused _ choke refl h))
+refused-read s leaders choke h = (sym (refused _ leaders refl h), sym (refused _ choke refl h))
 
 -- a record whose call was accepted is sound, and no later condition holds
 pub accepted-sound : (s : State) (c : Call) → callRefusal s c ≡ 0 → SoundState s × (conditions s c ≡ 0)
