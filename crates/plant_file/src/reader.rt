@@ -63,3 +63,11 @@ pub fn link_of(file: &[u8], i: usize) -> Step
 {
     next(new(file, i))
 }
+
+// The index after it, by a reader that moved. All that go through the links call this too.
+pub fn index_after(file: &[u8], i: usize) -> usize
+    ensures { λ r. ⌜ r ≡ nextIndex (now (file .entry)) i ⌝ }
+{
+    let r = moved(new(file, i));
+    r.at
+}
