@@ -1,19 +1,17 @@
 -- The text of a file that is cut off one byte after the length of the longest plant file.
 use Prim.Native.Nat.{ℕ, _+_}
 use mathlib.Core.Path.{_≡_, refl, sym, ap, _∙_}
-use mathlib.Core.Bool.{Bool, true, false}
 use mathlib.Core.List.{List}
 use lib.Dec.{eqb}
 use lib.ListN.{take}
 use borrow.Author.Tests.{eqb-true, eqb-false}
-use Rattle.packing.specs.Plant.{GATEWAYS}
 use Rattle.packing.proofs.Tests.{by-bool}
 use Rattle.plant_file.specs.PlantFile.{LONGEST, fileRefusal}
 use Rattle.plant_file.proofs.Refusing.{then-file}
 use Rattle.plant_file.proofs.Cut.{cut-refusal, cut-accepted}
 use Rattle.plan.specs.Plan.{planRefusal}
 use Rattle.report.specs.Text as text
-use Rattle.listing.specs.Listed.{textBy, fileText}
+use Rattle.listing.specs.Listed.{fileText}
 use Rattle.listing.specs.Reading.{SameWhenCut}
 use Rattle.listing.proofs.Texts.{text-refused}
 

@@ -11,15 +11,15 @@ use Rattle.packing.proofs.Lists.{Listed, written-front, list-turn}
 use Rattle.sound.specs.Sound.{onceEach, isOrder}
 use Rattle.sound.proofs.Meaning.{order-is}
 use Rattle.plant_file.specs.PlantFile.{number, fileN, fileM, fileOrder}
-use Rattle.plant_file.specs.Reader.{linkAt}
+use Rattle.plant_file.specs.Reader.{linkAt, nextIndex}
 use Rattle.plant_file.specs.Pre.{withEnds}
-use Rattle.plant_file.proofs.LinksByIndex.{linkNumber, orderNumber, order-long, step-is}
+use Rattle.plant_file.proofs.LinksByIndex.{linkNumber, orderNumber, order-long, index-on, step-is}
 
 -- with the first i links written, link i is written next
-pub links-turn : (file lent : List ℕ) {links new : List ℕ} {i : ℕ} → 2 * fileM file ≤ length lent → Listed (2 * fileM file) (linkNumber file) lent links (2 * i) → i < fileM file
-    → new ≡ withEnds (linkAt file i) (2 * i) links → Listed (2 * fileM file) (linkNumber file) lent new (2 * (i + 1))
-links-turn file lent {i = i} room f l e =
-    rw (e, step-is file i l, twice) (list-turn _ _ _ room (list-turn _ _ _ room f (omega arith) refl) (omega arith) refl)
+pub links-turn : (file lent : List ℕ) {links new : List ℕ} {i j : ℕ} → 2 * fileM file ≤ length lent → Listed (2 * fileM file) (linkNumber file) lent links (2 * i) → i < fileM file
+    → new ≡ withEnds (linkAt file i) (2 * i) links → j ≡ nextIndex file i → Listed (2 * fileM file) (linkNumber file) lent new (2 * j)
+links-turn file lent {i = i} room f l e on =
+    rw (index-on file i on l, e, step-is file i l, twice) (list-turn _ _ _ room (list-turn _ _ _ room f (omega arith) refl) (omega arith) refl)
   where
     twice : 2 * (i + 1) ≡ 2 * i + 1 + 1
     twice = omega arith

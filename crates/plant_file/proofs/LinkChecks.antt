@@ -14,9 +14,9 @@ use Rattle.plant_file.specs.declared.reader.Step.the-variants.{Link}
 use Rattle.plant_file.specs.PlantFile.{fileN, fileM, fileLinks, endsRefusal, linksRefusal}
 use Rattle.packing.specs.Refusals.{firstOf}
 use Rattle.packing.proofs.Refusals.{first-refused, first-passed}
-use Rattle.plant_file.specs.Reader.{linkAt}
+use Rattle.plant_file.specs.Reader.{linkAt, nextIndex}
 use Rattle.plant_file.specs.Pre.{stepRefusal}
-use Rattle.plant_file.proofs.LinksByIndex.{links-long, step-at}
+use Rattle.plant_file.proofs.LinksByIndex.{links-long, index-on, step-at}
 use Rattle.plant_file.proofs.LinkedBefore.{earlier}
 
 -- two numbers more of a list
@@ -62,8 +62,8 @@ module _ (n : ℕ) (file : List ℕ) where
   pub checked-start : Checked n file 0
   checked-start = record { upto = omega arith; rest = refl }
 
-  pub checked-turn : {i r : ℕ} → Checked n file i → i < fileM file → r ≡ stepRefusal n (earlier file i) (linkAt file i) → r ≡ 0 → Checked n file (i + 1)
-  checked-turn {i} c h e z = record { upto = omega arith; rest = first-passed e z refl ∙ sym (link-at i h) ∙ c .rest }
+  pub checked-turn : {i j r : ℕ} → Checked n file i → i < fileM file → r ≡ stepRefusal n (earlier file i) (linkAt file i) → r ≡ 0 → j ≡ nextIndex file i → Checked n file j
+  checked-turn {i} c h e z on = rw (index-on file i on h) (record { upto = omega arith; rest = first-passed e z refl ∙ sym (link-at i h) ∙ c .rest })
 
   module _ (is : n ≡ fileN file) where
     pub checked-refused : {i r : ℕ} → Checked n file i → i < fileM file → r ≡ stepRefusal n (earlier file i) (linkAt file i) → (r ≡ 0 → ⊥) → r ≡ linksRefusal (fileN file) [] (fileLinks file)

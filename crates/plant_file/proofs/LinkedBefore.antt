@@ -10,9 +10,9 @@ use lib.Seq.{getD-take, length-take-le}
 use Rattle.packing.specs.Plant.{at, joins, linked}
 use Rattle.sound.proofs.Lookup.{Looked, looked-start, looked-found, looked-turn, looked-end}
 use Rattle.plant_file.specs.PlantFile.{fileM, fileLinks}
-use Rattle.plant_file.specs.Reader.{linkAt}
+use Rattle.plant_file.specs.Reader.{linkAt, nextIndex}
 use Rattle.plant_file.specs.Pre.{endsOf}
-use Rattle.plant_file.proofs.LinksByIndex.{links-long, step-at}
+use Rattle.plant_file.proofs.LinksByIndex.{links-long, index-on, step-at}
 
 -- one link as a list
 linked-one : (x y a b : ℕ) → linked (x ∷ y ∷ []) a b ≡ joins x y a b
@@ -39,8 +39,9 @@ module _ (file : List ℕ) (i a b : ℕ) (h : i ≤ fileM file) where
   pub before-found : {j : ℕ} {r : Bool} → Looked (earlier file i) a b (2 * j) → j < i → r ≡ linked (endsOf (linkAt file j)) a b → r ≡ true → true ≡ linked (earlier file i) a b
   before-found {j} k l e = looked-found (earlier file i) a b k (omega (arith, earlier-long file i h)) (test-is l e)
 
-  pub before-turn : {j : ℕ} {r : Bool} → Looked (earlier file i) a b (2 * j) → j < i → r ≡ linked (endsOf (linkAt file j)) a b → r ≡ false → Looked (earlier file i) a b (2 * (j + 1))
-  before-turn {j} k l e f = rw (mul-add 2 j 1) (looked-turn (earlier file i) a b k (omega (arith, earlier-long file i h)) (test-is l e) f)
+  pub before-turn : {j j' : ℕ} {r : Bool} → Looked (earlier file i) a b (2 * j) → j < i → r ≡ linked (endsOf (linkAt file j)) a b → r ≡ false → j' ≡ nextIndex file j
+      → Looked (earlier file i) a b (2 * j')
+  before-turn {j} k l e f on = rw (index-on file j on (omega arith), mul-add 2 j 1) (looked-turn (earlier file i) a b k (omega (arith, earlier-long file i h)) (test-is l e) f)
 
   pub before-end : {j : ℕ} → Looked (earlier file i) a b (2 * j) → i ≤ j → false ≡ linked (earlier file i) a b
   before-end {j} k l = looked-end (earlier file i) a b k (omega (arith, earlier-long file i h))

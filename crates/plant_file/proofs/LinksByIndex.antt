@@ -1,6 +1,6 @@
 -- The links by index: what the code reads there, and that it is what the list of links holds.
-use Prim.Native.Nat.{ℕ, _+_, _*_, _<_, _≤_}
-use mathlib.Core.Path.{_≡_, _∙_}
+use Prim.Native.Nat.{ℕ, _+_, _-_, _*_, _<_, _≤_}
+use mathlib.Core.Path.{_≡_, refl, sym, _∙_}
 use mathlib.Core.List.{List}
 use native.Mathlib.Omega.{arith}
 use lib.ListN.{length}
@@ -47,6 +47,12 @@ module _ (file : List ℕ) (i : ℕ) where
   pub index-past : {m : ℕ} → m ≡ fileM file → m ≤ i → i ≡ nextIndex file i
   unfolding nextIndex
   index-past e l = rw (le-ltb i (fileM file) (omega arith))
+
+  pub index-on : {j : ℕ} → j ≡ nextIndex file i → i < fileM file → j ≡ i + 1
+  index-on e l = e ∙ sym (index-here refl l)
+
+  pub index-less : {j m : ℕ} → j ≡ nextIndex file i → i < m → m ≤ fileM file → m - j < m - i
+  index-less e l h = omega (arith, index-on e (omega arith))
 
   low : 10 + 2 * (2 * i) ≡ 10 + 4 * i
   low = omega arith

@@ -89,7 +89,7 @@ fn linked_before(file: &[u8], i: usize, a: u16, b: u16) -> bool
         if joins_at(file, j, a, b) {
             return true;
         }
-        j += 1;
+        j = crate::reader::index_after(file, j);
     }
     false
 }
@@ -129,7 +129,7 @@ pub(crate) fn of_links(file: &[u8]) -> u32
         if refusal != 0 {
             return refusal;
         }
-        i += 1;
+        i = crate::reader::index_after(file, i);
     }
     0
 }

@@ -30,7 +30,7 @@ pub(crate) fn with_links(file: &[u8], links: &mut [u16])
     let mut i: usize = 0;
     while i < m {
         with_link(file, i, links);
-        i += 1;
+        i = crate::reader::index_after(file, i);
     }
 }
 

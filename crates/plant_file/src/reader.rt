@@ -25,7 +25,7 @@ pub fn link_at(file: &[u8], i: usize) -> Step
     Step::End
 }
 
-// The work: the index of the link after it. At the end of the links it stays, so that it never runs past the largest number.
+// The work: the index after a link's. Where there is no link it stays, so that it can't run past the largest number.
 pub fn next_index(file: &[u8], i: usize) -> usize
     ensures { λ r. ⌜ r ≡ nextIndex (now (file .entry)) i ⌝ }
 {
@@ -62,4 +62,12 @@ pub fn link_of(file: &[u8], i: usize) -> Step
     ensures { λ r. ⌜ r ≡ linkAt (now (file .entry)) i ⌝ }
 {
     next(new(file, i))
+}
+
+// The index after a link's, by a reader that moved. All that go through the links call this too.
+pub fn index_after(file: &[u8], i: usize) -> usize
+    ensures { λ r. ⌜ r ≡ nextIndex (now (file .entry)) i ⌝ }
+{
+    let r = moved(new(file, i));
+    r.at
 }

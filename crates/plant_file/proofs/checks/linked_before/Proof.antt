@@ -1,6 +1,7 @@
 use borrow.Author.Needs.{needs}
 use Prim.Native.Nat.{_*_, _-_}
 use Rattle.sound.proofs.Lookup.{Looked}
+use Rattle.plant_file.proofs.LinksByIndex.{index-less}
 use Rattle.plant_file.proofs.LinkedBefore.{earlier, before-start, before-found, before-turn, before-end}
 use Rattle.plant_file.proofs.checks.linked_before.Statement.{statement}
 use Rattle.plant_file.proofs.checks.linked_before.Tie as tie
@@ -21,15 +22,16 @@ returns : tie.Need-returns Inv-loop μ-loop
 returns c = let turn = c .before .before in
     before-found _ _ _ _ (turn .before .before .before .pre) (turn .before .loop .inv) (turn .loop-test .taken) (c .before .joins-at .ensures) (c .if1 .taken)
 
-add-j : tie.Need-add-j Inv-loop μ-loop
-add-j c = search needs
+index-after-requires : tie.Need-index-after-requires Inv-loop μ-loop
+index-after-requires c κs = search needs
 
 loop-less : tie.Need-loop-less Inv-loop μ-loop
-loop-less c = search needs
+loop-less c = let turn = c .before .before .before in
+    index-less _ _ (c .index-after .ensures) (turn .loop-test .taken) (turn .before .before .before .pre)
 
 loop-again : tie.Need-loop-again Inv-loop μ-loop
-loop-again c = let turn = c .before .before in
-    before-turn _ _ _ _ (turn .before .before .before .pre) (turn .before .loop .inv) (turn .loop-test .taken) (c .before .joins-at .ensures) (c .if1 .left)
+loop-again c = let turn = c .before .before .before in
+    before-turn _ _ _ _ (turn .before .before .before .pre) (turn .before .loop .inv) (turn .loop-test .taken) (c .before .before .joins-at .ensures) (c .before .if1 .left) (c .index-after .ensures)
 
 returns-2 : tie.Need-returns-2 Inv-loop μ-loop
 returns-2 c = before-end _ _ _ _ (c .before .before .before .pre) (c .before .loop .inv) (c .loop-test .left)
@@ -43,7 +45,7 @@ linked-before-spec =
     loop-holds
     joins-at-requires
     returns
-    add-j
+    index-after-requires
     loop-less
     loop-again
     returns-2)

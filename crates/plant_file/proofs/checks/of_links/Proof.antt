@@ -1,6 +1,7 @@
 use borrow.Author.Needs.{needs}
 use Prim.Native.Nat.{_-_}
 use native.Mathlib.Omega.{arith}
+use Rattle.plant_file.proofs.LinksByIndex.{index-less}
 use Rattle.plant_file.proofs.LinkChecks.{Checked, checked-start, checked-refused, checked-turn, checked-end}
 use Rattle.plant_file.proofs.checks.of_links.Statement.{statement}
 use Rattle.plant_file.proofs.checks.of_links.Tie as tie
@@ -29,14 +30,14 @@ of-link-requires c κs = search needs
 returns : tie.Need-returns Inv-loop μ-loop
 returns c = checked-refused _ _ (c .before .before .before .before .before .gateways .ensures) (c .before .before .before .loop .inv) (omega arith) (c .before .of-link .ensures) (c .if1 .taken)
 
-add-i : tie.Need-add-i Inv-loop μ-loop
-add-i c = search needs
+index-after-requires : tie.Need-index-after-requires Inv-loop μ-loop
+index-after-requires c κs = search needs
 
 loop-less : tie.Need-loop-less Inv-loop μ-loop
-loop-less c = search needs
+loop-less c = index-less _ _ (c .index-after .ensures) (omega arith) (omega arith)
 
 loop-again : tie.Need-loop-again Inv-loop μ-loop
-loop-again c = checked-turn _ _ (c .before .before .before .loop .inv) (omega arith) (c .before .of-link .ensures) (c .if1 .left)
+loop-again c = checked-turn _ _ (c .before .before .before .before .loop .inv) (omega arith) (c .before .before .of-link .ensures) (c .before .if1 .left) (c .index-after .ensures)
 
 returns-2 : tie.Need-returns-2 Inv-loop μ-loop
 returns-2 c = checked-end _ _ (c .before .before .before .gateways .ensures) (c .before .loop .inv) (omega arith)
@@ -53,7 +54,7 @@ of-links-spec =
     loop-holds
     of-link-requires
     returns
-    add-i
+    index-after-requires
     loop-less
     loop-again
     returns-2)

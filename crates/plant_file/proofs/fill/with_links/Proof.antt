@@ -4,7 +4,7 @@ use borrow.Author.Needs.{needs}
 use Prim.Native.Nat.{_*_, _-_}
 use Rattle.packing.proofs.Lists.{Listed, list-start, list-end}
 use Rattle.plant_file.specs.PlantFile.{fileM, fileLinks}
-use Rattle.plant_file.proofs.LinksByIndex.{linkNumber}
+use Rattle.plant_file.proofs.LinksByIndex.{linkNumber, index-less}
 use Rattle.plant_file.proofs.Filled.{links-turn}
 use Rattle.plant_file.proofs.fill.with_links.Statement.{statement}
 use Rattle.plant_file.proofs.fill.with_links.Tie as tie
@@ -27,15 +27,15 @@ loop-holds c = list-start _ _ _
 with-link-requires : tie.Need-with-link-requires Inv-loop μ-loop
 with-link-requires c κs = search needs
 
-add-i : tie.Need-add-i Inv-loop μ-loop
-add-i c = search needs
+index-after-requires : tie.Need-index-after-requires Inv-loop μ-loop
+index-after-requires c κs = search needs
 
 loop-less : tie.Need-loop-less Inv-loop μ-loop
-loop-less c = search needs
+loop-less c = index-less _ _ (c .index-after .ensures) (omega arith) (omega arith)
 
 loop-again : tie.Need-loop-again Inv-loop μ-loop
-loop-again c = let turn = c .before .before .before .before in
-    links-turn _ _ (turn .before .before .before .before .before .pre) (turn .before .loop .inv) (omega arith) (c .before .before .with-link .ensures)
+loop-again c = let turn = c .before .before .before .before .before in
+    links-turn _ _ (turn .before .before .before .before .before .pre) (turn .before .loop .inv) (omega arith) (c .before .before .before .with-link .ensures) (c .index-after .ensures)
 
 same-length : tie.Need-same-length Inv-loop μ-loop
 same-length c = search needs
@@ -54,7 +54,7 @@ with-links-spec =
     cast-m
     loop-holds
     with-link-requires
-    add-i
+    index-after-requires
     loop-less
     loop-again
     same-length
