@@ -1,16 +1,16 @@
 -- What the bytes say is the plan of the file, so they carry its claim.
-use Prim.Native.Nat.{ℕ, _+_, _*_, _<_, _≤_}
-use mathlib.Core.Path.{_≡_, refl, sym, ap, _∙_}
+use Prim.Native.Nat.{ℕ, _+_, _*_, _<_}
+use mathlib.Core.Path.{_≡_, refl, sym, ap}
 use mathlib.Core.List.{List, _++_, append-assoc}
 use native.Mathlib.Omega.{arith}
-use lib.Dec.{eqb, ltb}
+use lib.Dec.{eqb}
 use lib.ListN.{length, drop, length-append, List·getD-append}
 use lib.Seq.{getD-append-add}
 use Rattle.packing.specs.Lists.{written}
 use Rattle.packing.specs.Plant.{at}
 use Rattle.packing.proofs.Lists.{written-past}
 use Rattle.packing.proofs.Refusals.{refused}
-use Rattle.plant_file.specs.PlantFile.{number, fileN, fileRefusal, fileThenShort}
+use Rattle.plant_file.specs.PlantFile.{number, fileN, fileRefusal}
 use Rattle.plant_file.specs.Encode.{lowFirst}
 use Rattle.plant_file.proofs.Encode.{low-long, number-low}
 use Rattle.plant_file.proofs.Refusing.{then-none}

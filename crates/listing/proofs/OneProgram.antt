@@ -4,7 +4,7 @@ use mathlib.Core.Path.{_≡_, refl, sym, ap, _∙_}
 use mathlib.Core.List.{List}
 use native.Mathlib.Omega.{arith}
 use lib.Dec.{ltb}
-use lib.ListN.{length, take, replicate}
+use lib.ListN.{length, replicate}
 use lib.Seq.{getD-take}
 use borrow.Author.Tests.{le-ltb}
 use Rattle.packing.specs.Lists.{listOf}
@@ -13,7 +13,7 @@ use Rattle.packing.proofs.Lists.{listOf-at}
 use Rattle.plant_file.specs.PlantFile.{fileN, fileT, fileRefusal, fileThenShort}
 use Rattle.plant_file.proofs.Accepted.{file-allowed}
 use Rattle.plant_file.proofs.Refusing.{then-file, then-alone}
-use Rattle.plan.specs.Plan.{planRefusal, planLeaders, planChoke, fileLeaders, fileChoke}
+use Rattle.plan.specs.Plan.{planRefusal, planLeaders, planChoke}
 use Rattle.plan.proofs.FilePlan.{plan-own, leaders-front, choke-front}
 use Rattle.report.specs.Text as text
 use Rattle.report.proofs.Alike.{listing-alike}

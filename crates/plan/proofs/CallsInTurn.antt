@@ -13,7 +13,7 @@ use Rattle.packing.proofs.Lists.{written-room, written-front}
 use Rattle.planner.specs.declared.Small.{Small}
 use Rattle.planner.specs.declared.Answer.{Answer}
 use Rattle.planner.specs.State.{State, stateOf}
-use Rattle.planner.specs.Calls.{answerOf, openCall, Call, link, order, place, call, readLeaders, readChoke}
+use Rattle.planner.specs.Calls.{answerOf, openCall, link, order, place, call, readLeaders, readChoke}
 use Rattle.planner.specs.Run.{afterOpen, run, linkCalls, placeCalls, plantCalls}
 use Rattle.planner.specs.Claims.{madeBy}
 use Rattle.planner.proofs.Agree.{run-append}

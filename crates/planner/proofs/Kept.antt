@@ -1,12 +1,11 @@
 -- Kept stays kept: what an accepted placing does to who is held, and so what any list of calls does.
-use Prim.Native.Nat.{ℕ, zero, suc, _+_, _<_, _≤_}
+use Prim.Native.Nat.{ℕ, zero, suc, _<_, _≤_}
 use mathlib.Core.Path.{_≡_, refl, sym, ap, _∙_}
 use mathlib.Core.Logic.{_⊎_, inl, inr, ⊎-elim}
 use mathlib.Core.Bool.{Bool, true, false, _||_}
-use mathlib.Core.List.{List, [], _∷_, _++_}
+use mathlib.Core.List.{List, [], _∷_}
 use native.Mathlib.Omega.{arith}
 use lib.Dec.{eqb}
-use lib.ListN.{length}
 use borrow.Author.Tests.{eqb-true, ne-eqb}
 use Rattle.packing.specs.Plant.{at, linked}
 use Rattle.packing.specs.Holders.{held}
@@ -15,15 +14,14 @@ use Rattle.packing.proofs.Tests.{or-l, or-cases}
 use Rattle.packing.proofs.Placing.{Placing}
 use Rattle.search.proofs.Placing.{place-is}
 use Rattle.planner.specs.declared.Small.{Small}
-use Rattle.planner.specs.Refusals.{openRefusal}
 use Rattle.planner.specs.State.{State, linksOf, limitOf}
 use Rattle.planner.specs.Calls.{Call, link, order, place, read, conditions, callRefusal, changed, call}
-use Rattle.planner.specs.Told.{Told, beginning, refuses, accepted, tellOne, tell}
+use Rattle.planner.specs.Told.{Told, refuses, accepted, tellOne}
 use Rattle.planner.specs.Run.{afterOpen, run}
 use Rattle.planner.specs.Claims.{toldBy, madeBy}
 use Rattle.planner.specs.Kept.{heldIn, PlacingKeeps, OthersKeep, HeldSince}
 use Rattle.planner.proofs.Conditions.{order-allowed, place-allowed}
-use Rattle.planner.proofs.Next.{SoundState, next-placeable}
+use Rattle.planner.proofs.Next.{next-placeable}
 use Rattle.planner.proofs.Records.{accepted-sound}
 use Rattle.planner.proofs.Agree.{Agrees, run-append, call-agrees, run-agrees, open-agrees}
 use Rattle.planner.proofs.Demands.{tells-n}

@@ -1,20 +1,19 @@
 -- Members gives 11 and 10 exactly on their conditions, hands back just the members, and looks at the first 1,024 entries only.
-use Prim.Native.Nat.{ℕ, _<_, _≤_, min}
+use Prim.Native.Nat.{ℕ, _<_, min}
 use mathlib.Core.Path.{_≡_, refl, sym, ap, _∙_}
 use mathlib.Core.Logic.{_⊎_, inl, inr, ⊎-elim}
-use mathlib.Core.Bool.{Bool, true, false, not, _&&_, _||_, true≢false}
-use mathlib.Core.List.{List, []}
+use mathlib.Core.Bool.{true, false, not, _&&_, _||_, true≢false}
+use mathlib.Core.List.{List}
 use native.Mathlib.Omega.{arith}
 use lib.Dec.{eqb, ltb}
 use lib.ListN.{length, take, length-take}
 use lib.Seq.{getD-take, take-all}
-use borrow.Author.Tests.{eqb-true, eqb-false, eq-eqb, ne-eqb, ltb-true, ltb-false, lt-ltb, not-true, not-false}
+use borrow.Author.Tests.{eqb-true, eqb-false, eq-eqb, ne-eqb, ltb-true, not-true, not-false}
 use Rattle.packing.specs.Count.{count}
-use Rattle.packing.specs.Lists.{listWhere, memberOf}
+use Rattle.packing.specs.Lists.{listWhere}
 use Rattle.packing.specs.Plant.{GATEWAYS, at}
 use Rattle.packing.specs.Grouping.{follows, memberCount, membersOf}
-use Rattle.packing.specs.Refusals.{byNumber}
-use Rattle.packing.specs.Turns.{Turn, done, named, FirstNamed}
+use Rattle.packing.specs.Turns.{FirstNamed}
 use Rattle.packing.proofs.Lists.{listWhere-length, listWhere-in, listWhere-out, listWhere-ascending}
 use Rattle.packing.proofs.Sums.{count-ext, count-some, count-find, count-bound}
 use Rattle.packing.proofs.Tests.{by-bool, and-l, and-r, and-i, or-cases, or-false-l, or-false-r, not-i}

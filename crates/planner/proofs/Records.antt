@@ -1,32 +1,28 @@
 -- The statements of specs/Records.antt: what holds of any call on any record.
-use Prim.Native.Nat.{ℕ, zero, suc, _+_, _*_, _<_}
-use mathlib.Core.Path.{_≡_, refl, sym, ap, _∙_}
-use mathlib.Core.Logic.{_⊎_, ⊎-elim}
-use mathlib.Core.Bool.{true, false, not}
+use Prim.Native.Nat.{ℕ, zero, suc, _+_, _*_}
+use mathlib.Core.Path.{_≡_, refl, sym, _∙_}
+use mathlib.Core.Bool.{not}
 use mathlib.Core.List.{List, []}
 use native.Mathlib.Omega.{arith}
-use lib.Dec.{eqb}
 use lib.ListN.{length, drop, set, replicate, length-replicate, getD-replicate}
 use lib.Seq.{drop-set-lt}
 use borrow.Author.Tests.{not-false}
 use Rattle.packing.specs.Lists.{listOf, written}
 use Rattle.packing.specs.Orders.{upTo}
-use Rattle.packing.specs.Plant.{NONE, at, linked}
-use Rattle.packing.specs.Grouping.{Grouping, covered, membersOf}
-use Rattle.packing.specs.Holders.{held}
+use Rattle.packing.specs.Plant.{NONE, at}
+use Rattle.packing.specs.Grouping.{membersOf}
 use Rattle.packing.specs.Refusals.{byNumber}
-use Rattle.packing.proofs.Below.{grouping-below}
 use Rattle.packing.proofs.Lists.{listOf-length, written-at, written-past, listed-at}
 use Rattle.packing.proofs.Refusals.{refuse-none, refused}
 use Rattle.search.proofs.Placing.{placed-past}
-use Rattle.search.specs.ChokeSet.{chokeByte}
+use Rattle.sound.specs.Facts.{SoundMeans}
+use Rattle.sound.proofs.Facts.{sound-means-facts}
 use Rattle.sound.proofs.Meaning.{sound-means}
 use Rattle.stars.specs.Stars.{leaderList}
-use Rattle.planner.specs.Refusals.{openRefusal}
 use Rattle.planner.specs.State.{State, stateOf, linksOf, limitOf, soundState}
 use Rattle.planner.specs.Calls.{smallOpened, opened, openCall, Call, link, order, place, read, conditions, callRefusal, changed, call, readLeaders, readChoke}
 use Rattle.planner.specs.Members.{listedLeaders, membersRefusal, membersPart, membersList}
-use Rattle.planner.specs.Records.{Opened, OpenGives, OpenRefused, RefusedUnchanged, ReadRefused, Past, PastUnchanged, ReadPast, MembersPast, HeldCovered}
+use Rattle.planner.specs.Records.{OpenGives, OpenRefused, RefusedUnchanged, ReadRefused, Past, PastUnchanged, ReadPast, MembersPast, HeldCovered, ReadWrites}
 use Rattle.planner.proofs.Conditions.{order-allowed, place-allowed}
 use Rattle.planner.proofs.Next.{SoundState, next-placeable}
 use Rattle.planner.proofs.Optimal.{sound-grouping, leaders-cover}
@@ -113,12 +109,13 @@ members-past leaders u lent = by (membersRefusal leaders u (length lent)) (membe
     by (suc e) m = refl
 
 pub held-covered : HeldCovered
-unfolding HeldCovered call readLeaders
-held-covered s leaders choke z =
-    let sound = accepted-sound s (read leaders choke) z .0 in (
-      grouping-below (s .small .n) (limitOf s) (linked (linksOf s)) (leaderList (s .small .n) (s .holders)) (at (readLeaders s leaders choke)) is (sound-grouping sound),
-      λ v l e. rw (← is v l) (leaders-cover sound v l e),
-    )
-  where
-    is : (v : ℕ) → v < s .small .n → leaderList (s .small .n) (s .holders) v ≡ at (readLeaders s leaders choke) v
-    is v l = sym (rw z (listed-at (s .small .n) (leaderList (s .small .n) (s .holders)) leaders v l))
+unfolding HeldCovered SoundMeans
+held-covered s f =
+    let sound : SoundState s = sound-means _ _ _ _ _ _ _ (sound-means-facts (s .small .n) (s .small .t) (s .small .m) (s .small .k) (s .links) (s .order) (s .holders) .1 f) in
+    (sound-grouping sound, leaders-cover sound)
+
+pub read-writes : ReadWrites
+unfolding ReadWrites SoundMeans call callRefusal soundState readLeaders
+read-writes s leaders choke z =
+    let sound = not-false (soundState s) (refuse-none (not (soundState s)) 26 (conditions s (read leaders choke)) (omega arith) z .0) in
+    (sound-means-facts (s .small .n) (s .small .t) (s .small .m) (s .small .k) (s .links) (s .order) (s .holders) .0 sound, λ v l. rw z (listed-at (s .small .n) (leaderList (s .small .n) (s .holders)) leaders v l))

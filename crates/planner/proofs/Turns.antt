@@ -1,19 +1,17 @@
 -- Each call gives the first number of its turn whose condition holds: test by test, what it says in words.
-use Prim.Native.Nat.{ℕ, zero, suc, _+_, _*_, _<_, _≤_, min}
-use mathlib.Core.Path.{_≡_, refl, sym, ap, _∙_}
-use mathlib.Core.Logic.{_⊎_, inl, inr, ⊎-elim}
-use mathlib.Core.Bool.{true, false, not, _||_}
-use mathlib.Core.List.{List, [], _∷_, _++_}
+use Prim.Native.Nat.{ℕ, zero, suc, _+_, _*_}
+use mathlib.Core.Path.{_≡_, refl}
+use mathlib.Core.Bool.{not, _||_}
+use mathlib.Core.List.{List, [], _∷_}
 use native.Mathlib.Omega.{arith}
 use lib.Dec.{eqb, ltb, leb}
 use lib.ListN.{length, length-append}
 use borrow.Author.Tests.{not-false}
-use Rattle.packing.specs.Plant.{GATEWAYS, LINKS, LOWEST, HIGHEST, firstLinks, linked}
+use Rattle.packing.specs.Plant.{GATEWAYS, LINKS, LOWEST, HIGHEST, linked}
 use Rattle.packing.specs.Orders.{repeatsOrOutside}
 use Rattle.packing.specs.Refusals.{byNumber}
-use Rattle.packing.specs.Turns.{Turn, done, FirstNamed, LinkThere, firstEnd, secondEnd}
-use Rattle.packing.proofs.Turns.{Says, turn-done, turn-named, says-less, says-most, says-same, says-either, says-not, says-as, says-linked, says-first, says-order}
-use Rattle.sound.specs.Facts.{Facts}
+use Rattle.packing.specs.Turns.{FirstNamed, LinkThere, firstEnd, secondEnd}
+use Rattle.packing.proofs.Turns.{Says, turn-done, turn-named, says-less, says-most, says-same, says-either, says-not, says-linked, says-first, says-order}
 use Rattle.sound.proofs.Facts.{sound-facts}
 use Rattle.planner.specs.Refusals.{openRefusal, linkConditions, orderConditions, placeConditions, readConditions}
 use Rattle.planner.specs.State.{State, soundState}

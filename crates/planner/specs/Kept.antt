@@ -8,8 +8,7 @@ use Rattle.packing.specs.Plant.{at}
 use Rattle.packing.specs.Holders.{held}
 use Rattle.planner.specs.Refusals.{openRefusal}
 use Rattle.planner.specs.State.{State}
-use Rattle.planner.specs.Calls.{Outcome, Call, link, order, place, read, call}
-use Rattle.planner.specs.Told.{Told}
+use Rattle.planner.specs.Calls.{Call, link, order, place, read, call}
 use Rattle.planner.specs.Claims.{toldBy, madeBy}
 
 -- v has a holder in the record

@@ -7,10 +7,11 @@ use lib.ListN.{length, drop}
 use Rattle.packing.specs.Plant.{at, linked}
 use Rattle.packing.specs.Grouping.{Grouping, covered}
 use Rattle.packing.specs.Holders.{held}
-use Rattle.planner.specs.declared.Small.{Small}
+use Rattle.stars.specs.Stars.{leaderList}
 use Rattle.planner.specs.State.{State, stateOf, linksOf, limitOf}
-use Rattle.planner.specs.Calls.{Outcome, openCall, Call, read, call, readLeaders, readChoke}
+use Rattle.planner.specs.Calls.{openCall, Call, read, call, readLeaders, readChoke}
 use Rattle.planner.specs.Members.{membersPart, membersList}
+use Rattle.planner.specs.Turns.{SoundFacts}
 
 -- Open (n, T, lists): "order 0, 1, .., no holder, m = 0, k = 0", entry by entry, and nothing past n
 pub record Opened (n t : ℕ) (ls os hs : List ℕ) (s : State) : Type 0 where
@@ -60,9 +61,15 @@ MembersPast =
     (leaders : List ℕ) (u : ℕ) (lent : List ℕ)
     → drop (length (membersPart leaders u (length lent))) (membersList leaders u lent) ≡ drop (length (membersPart leaders u (length lent))) lent
 
--- "Every held gateway is covered", by the list that an accepted read writes of any sound record; and that list is a grouping of its plant
+-- "Every held gateway is covered": by the leader list of any sound record, at any k. The list is a grouping of the record's plant.
 unfoldable pub HeldCovered : Type 0
 HeldCovered =
+    (s : State) → SoundFacts s
+    → Grouping (s .small .n) (limitOf s) (linked (linksOf s)) (leaderList (s .small .n) (s .holders))
+    × ((v : ℕ) → v < s .small .n → held (s .small .n) (at (s .holders)) v ≡ true → covered (leaderList (s .small .n) (s .holders)) v ≡ true)
+
+-- .. and it is what an accepted read writes
+unfoldable pub ReadWrites : Type 0
+ReadWrites =
     (s : State) (leaders choke : List ℕ) → call s (read leaders choke) .refusal ≡ 0
-    → Grouping (s .small .n) (limitOf s) (linked (linksOf s)) (at (readLeaders s leaders choke))
-    × ((v : ℕ) → v < s .small .n → held (s .small .n) (at (s .holders)) v ≡ true → covered (at (readLeaders s leaders choke)) v ≡ true)
+    → SoundFacts s × ((v : ℕ) → v < s .small .n → at (readLeaders s leaders choke) v ≡ leaderList (s .small .n) (s .holders) v)

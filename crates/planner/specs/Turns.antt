@@ -12,9 +12,8 @@ use Rattle.packing.specs.Plant.{at}
 use Rattle.packing.specs.Grouping.{memberCount}
 use Rattle.packing.specs.Turns.{Turn, done, named, FirstNamed, LinkThere, firstEnd, secondEnd, RepeatsOrOutside}
 use Rattle.sound.specs.Facts.{Facts}
-use Rattle.planner.specs.declared.Small.{Small}
 use Rattle.planner.specs.State.{State}
-use Rattle.planner.specs.Calls.{Outcome, openCall, Call, link, order, place, read, call}
+use Rattle.planner.specs.Calls.{openCall, Call, link, order, place, read, call}
 use Rattle.planner.specs.Told.{Told, beginning, refuses, tell}
 use Rattle.planner.specs.Members.{membersRefusal, membersPart, membersList}
 

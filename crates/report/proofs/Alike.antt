@@ -1,16 +1,15 @@
 -- The listing goes by the entries of the first n gateways: lists that are alike there have one text.
 use Prim.Native.Nat.{ℕ, zero, suc, _<_, _≤_}
-use mathlib.Core.Path.{_≡_, refl, sym, ap, _∙_}
-use mathlib.Core.Bool.{Bool, not, cond, _&&_}
-use mathlib.Core.List.{List, [], _++_}
+use mathlib.Core.Path.{_≡_, refl, ap}
+use mathlib.Core.Bool.{not, _&&_}
+use mathlib.Core.List.{List}
 use native.Mathlib.Omega.{arith}
 use lib.Dec.{eqb}
-use Rattle.packing.specs.Lists.{listWhere}
 use Rattle.packing.specs.Plant.{NONE, at}
 use Rattle.packing.specs.Grouping.{follows, membersOf, isAlone, covered}
 use Rattle.packing.proofs.Lists.{listWhere-ext}
 use Rattle.packing.proofs.Sums.{count-ext}
-use Rattle.report.specs.Text.{field, line, wordLead, wordMembers, coveredCount, lineOne, leadLine, leadLines, aloneLine, chokeLine, listing}
+use Rattle.report.specs.Text.{coveredCount, lineOne, leadLine, leadLines, aloneLine, chokeLine, listing}
 
 module _ (n : ℕ) (l l' : List ℕ) (same : (v : ℕ) → v < n → at l v ≡ at l' v) where
   members-alike : (u : ℕ) → membersOf n (at l) u ≡ membersOf n (at l') u

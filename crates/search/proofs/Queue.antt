@@ -1,10 +1,9 @@
 -- Laws of lists of gateways: membership by place, and what a gateway holds.
-use Prim.Native.Nat.{ℕ, zero, suc, _+_, _-_, _<_, _≤_}
-use mathlib.Core.Path.{_≡_, refl, ap, _∙_}
+use Prim.Native.Nat.{ℕ, suc, _+_, _-_, _<_, _≤_}
+use mathlib.Core.Path.{_≡_, ap, _∙_}
 use mathlib.Core.Logic.{⊎-elim}
 use mathlib.Core.Bool.{true, false≢true}
 use mathlib.Core.List.{List, [], _∷_, _++_}
-use native.Mathlib.Nat.{not-suc-le-zero}
 use native.Mathlib.Numerals.{add-one}
 use native.Mathlib.Omega.{arith}
 use lib.Dec.{eqb, ltb}
@@ -14,7 +13,7 @@ use borrow.Author.Tests.{eqb-true, eq-eqb, ltb-true, ltb-false}
 use Rattle.packing.specs.Count.{pick}
 use Rattle.packing.specs.Plant.{at}
 use Rattle.packing.specs.Holders.{holds}
-use Rattle.packing.proofs.Tests.{by-bool, or-cases, or-l, or-r}
+use Rattle.packing.proofs.Tests.{by-bool, or-cases}
 use Rattle.packing.proofs.Sums.{count-suc}
 use Rattle.packing.proofs.Lists.{listWhere-length, listWhere-in, listWhere-out}
 use Rattle.packing.specs.Lists.{memberOf}

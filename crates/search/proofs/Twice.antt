@@ -1,22 +1,22 @@
 -- A link listed twice counts where it first stands, whatever the calls are handed: the laws of Repeats where the calls do something.
 use Prim.Native.Nat.{ℕ}
-use mathlib.Core.Path.{_≡_, sym, ap, _∙_}
+use mathlib.Core.Path.{_≡_, ap, _∙_}
 use mathlib.Core.Logic.{⊎-elim}
-use mathlib.Core.Bool.{Bool, true, _&&_, _||_}
-use mathlib.Core.List.{List, [], _∷_, _++_}
+use mathlib.Core.Bool.{true, _&&_}
+use mathlib.Core.List.{List, _∷_, _++_}
 use lib.Dec.{eqb}
 use lib.ListN.{length}
 use borrow.Author.Tests.{eqb-true}
 use Rattle.packing.specs.Count.{pick}
-use Rattle.packing.specs.Lists.{listOf, written}
+use Rattle.packing.specs.Lists.{written}
 use Rattle.packing.specs.Plant.{common, joins, linked}
 use Rattle.packing.proofs.Links.{linked-sym, linked-parts}
 use Rattle.packing.proofs.Lists.{listOf-ext}
 use Rattle.packing.proofs.Tests.{by-bool, and-l, and-r, or-cases}
 use Rattle.search.specs.Search.{Search, placeable, holdersAfter}
-use Rattle.search.specs.ChokeSet.{chokeWalk, seenIn, walkSaw, withoutHolder, inChoke, chokeByte, chokeable, chokeWritten}
+use Rattle.search.specs.ChokeSet.{chokeWalk, seenIn, walkSaw, inChoke, chokeByte, chokeable, chokeWritten}
 use Rattle.search.specs.Twice.{CountsFirst}
-use Rattle.search.proofs.Tested.{placeable-means, holders-placed, chokeable-means}
+use Rattle.search.proofs.Tested.{placeable-means, chokeable-means}
 use Rattle.search.proofs.Repeats.{walk-repeat, place-repeat}
 use Rattle.search.proofs.Unheld.{unheld-startable}
 

@@ -5,12 +5,12 @@ use mathlib.Core.Logic.{_⊎_, inl, inr, ⊎-elim}
 use mathlib.Core.Bool.{true}
 use mathlib.Core.List.{List}
 use native.Mathlib.Omega.{arith}
-use lib.Dec.{eqb, ltb}
+use lib.Dec.{eqb}
 use borrow.Author.Tests.{eqb-true, eq-eqb, ltb-true, lt-ltb}
 use Rattle.packing.specs.Count.{count}
 use Rattle.packing.specs.Plant.{NONE, at, common, firstLinks, linked}
-use Rattle.packing.specs.Holders.{held, Feasible}
-use Rattle.packing.specs.Turns.{SameLink, LinkThere, firstEnd, secondEnd}
+use Rattle.packing.specs.Holders.{Feasible}
+use Rattle.packing.specs.Turns.{LinkThere, firstEnd, secondEnd}
 use Rattle.packing.proofs.Prefixes.{IsOrder, order-place}
 use Rattle.packing.proofs.Tests.{by-bool, clash, all-intro}
 use Rattle.packing.proofs.Sums.{count-some, count-unique}
