@@ -1,6 +1,7 @@
 -- Laws of the plant file, by subject.
 pub mod Numbers
 pub mod LinksByIndex
+pub mod Places
 pub mod Encode
 pub mod LinkedBefore
 pub mod LinkChecks
