@@ -13,6 +13,7 @@ pub mod Repeats
 pub mod Twice
 pub mod Limits
 pub mod Unheld
+pub mod Ascending
 pub mod Seen
 pub mod ChokeLaws
 pub mod ChokeExamples

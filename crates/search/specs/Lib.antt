@@ -3,4 +3,5 @@ pub mod Search
 pub mod Pre
 pub mod ChokeSet
 pub mod Twice
+pub mod Ascending
 pub mod ChokePre
