@@ -11,7 +11,7 @@ use base.Logic.{ent}
 use base.Fml.{Lft, Share, fat}
 use prog.Wp.{Heap, WpFn, Tables}
 use ghost.Atoms.{Atoms}
-use contract.Running.{givenOf, tables, tablesOf}
+use contract.Running.{givenOf}
 use types.Kit.{Given, ‵, raw, _⊛_, ⋆, _$_, _∵_, !, qed, by, move, drop, use1, use2, rewrite, split}
 use types.Part.{whole, sub, look-in}
 use types.Run.{look, init, forget, stop, fld, from, load, of-opd, and-then, no-more, assigns, land, returns, enter, alloc1, alloc0, params1, pass1, pass0, free1, free0}
@@ -21,11 +21,10 @@ use denote.Plain.{uint-makes}
 use denote.Builtin.{u8, usize}
 use denote.Ref.{RefT, now}
 use denote.Slice.{ShrSlice, shr-slice-lawful}
-use denote.Steps.{only, owned}
+use denote.Steps.{owned}
 use denote.Triple.Statement.{Triple}
-use denote.Triple.Table.{entered, cited}
 use Rattle.plant_file.specs.Reader.{nextIndex}
-use Rattle.plant_file.proofs.ReaderParts.{Saying, calls-said, B, of-reader, of-parts, index, says-new, says-moved, says-index, at-slice, own-slice, token, parts-in, parts-out, to-parts, to-reader, parts-kept, asks-reader, in-local, told-local, parts-ends, parts-meet}
+use Rattle.plant_file.proofs.ReaderParts.{Saying, calls-said, B, of-reader, of-parts, index, says-new, says-moved, says-index, at-slice, own-slice, token, parts-in, parts-out, to-parts, to-reader, parts-kept, asks-reader, in-local, told-local, parts-ends, parts-stand, machine, knows}
 use Rattle.plant_file.proofs.reader.Reader.Laws as T′
 use Rattle.plant_file.proofs.reader.new.Symbol as new-def
 use Rattle.plant_file.proofs.reader.new.Symbol.{name as #plant-file·reader·new}
@@ -63,10 +62,8 @@ module _ {M : Type 1} (𝓤 : URA M) (H : Heap 𝓤) (A : Atoms 𝓤) (W : Given
       drop ! $ by ! (exits (t .at) (e′ .1 ∙ (ap (λ (x : RefT (List ℕ)). nextIndex (now x) (r .at)) (e .0) ∙ ap (nextIndex (now s)) (e .1))) (is′ .1 .1 .1 .0 .1)))))))))
 
 pub index-after-spec : {M : Type 1} → stated.statement M
-unfolding code.routine tablesOf
+unfolding code.routine
 index-after-spec 𝓤 H 𝓜 𝓖 𝓡 =
-    let 𝓣 : Tables 𝓤 H = tablesOf 𝓤 H 𝓜 (tables 𝓤 H 𝓜 𝓡 code.env) in
-    entered 𝓤 H (Saying 𝓤 H (𝓖 .A) (of-parts index) says-index) (𝓣 .C) (𝓣 .Λ) #plant-file·reader·index-after code.function (code.unfolded 𝓤 H 𝓜 𝓡)
-    (parts-meet 𝓤 H (𝓖 .A) (givenOf 𝓤 H 𝓜 𝓖) 𝓣 code.function index says-index (body 𝓤 H (𝓖 .A) (givenOf 𝓤 H 𝓜 𝓖) 𝓣
-    (cited 𝓤 H (Saying 𝓤 H (𝓖 .A) (of-parts B) says-new) 𝓜 𝓡 code.env #plant-file·reader·new new-def.routine code.calls-plant-file·reader·new (new-thm.met 𝓤 H 𝓜 𝓖 𝓡))
-    (cited 𝓤 H (Saying 𝓤 H (𝓖 .A) (of-reader B) says-moved) 𝓜 𝓡 code.env #plant-file·reader·moved moved-def.routine code.calls-plant-file·reader·moved (moved-thm.met 𝓤 H 𝓜 𝓖 𝓡))))
+    parts-stand 𝓤 H 𝓜 𝓖 𝓡 code.env #plant-file·reader·index-after code.function (code.unfolded 𝓤 H 𝓜 𝓡) index says-index (body 𝓤 H (𝓖 .A) (givenOf 𝓤 H 𝓜 𝓖) (machine 𝓤 H 𝓜 𝓖 𝓡 code.env)
+    (knows 𝓤 H 𝓜 𝓖 𝓡 code.env (of-parts B) says-new #plant-file·reader·new new-def.routine code.calls-plant-file·reader·new (new-thm.met 𝓤 H 𝓜 𝓖 𝓡))
+    (knows 𝓤 H 𝓜 𝓖 𝓡 code.env (of-reader B) says-moved #plant-file·reader·moved moved-def.routine code.calls-plant-file·reader·moved (moved-thm.met 𝓤 H 𝓜 𝓖 𝓡)))

@@ -10,7 +10,7 @@ use base.Logic.{ent}
 use base.Fml.{Lft, Share}
 use prog.Wp.{Heap, WpFn, Tables}
 use ghost.Atoms.{Atoms}
-use contract.Running.{givenOf, tables, tablesOf}
+use contract.Running.{givenOf}
 use types.Kit.{Given, ‵, raw, _⊛_, _$_, _∵_, !, qed, by, move, use1, use2, split}
 use types.Run.{look, init, forget, stop, from, load, and-then, no-more, land, returns, enter, alloc1, alloc0, params1, pass1, pass0, free1, free0}
 use sound.WpLaws.{fmOf}
@@ -20,9 +20,8 @@ use denote.Ref.{RefT, now}
 use denote.Slice.{ShrSlice, shr-slice-lawful}
 use denote.Enum.Laws as EL
 use denote.Triple.Statement.{Triple}
-use denote.Triple.Table.{entered, cited}
 use Rattle.plant_file.specs.Reader.{linkAt}
-use Rattle.plant_file.proofs.ReaderParts.{Saying, calls-said, B, of-reader, of-parts, link, says-new, says-next, says-link, at-slice, own-slice, parts-in, parts-out, to-parts, to-reader, parts-kept, asks-reader, in-local, parts-ends, parts-meet}
+use Rattle.plant_file.proofs.ReaderParts.{Saying, calls-said, B, of-reader, of-parts, link, says-new, says-next, says-link, at-slice, own-slice, parts-in, parts-out, to-parts, to-reader, parts-kept, asks-reader, in-local, parts-ends, parts-stand, machine, knows}
 use Rattle.plant_file.proofs.reader.Step as S
 use Rattle.plant_file.proofs.reader.Step.Laws as S′
 use Rattle.plant_file.proofs.reader.new.Symbol as new-def
@@ -55,10 +54,8 @@ module _ {M : Type 1} (𝓤 : URA M) (H : Heap 𝓤) (A : Atoms 𝓤) (W : Given
       by ! (parts-ends 𝓤 H A W κ q link says-link s n ok t u′ (e′ ∙ (ap (λ (x : RefT (List ℕ)). linkAt (now x) (r .at)) (e .0) ∙ ap (linkAt (now s)) (e .1))))))))))
 
 pub link-of-spec : {M : Type 1} → stated.statement M
-unfolding code.routine tablesOf
+unfolding code.routine
 link-of-spec 𝓤 H 𝓜 𝓖 𝓡 =
-    let 𝓣 : Tables 𝓤 H = tablesOf 𝓤 H 𝓜 (tables 𝓤 H 𝓜 𝓡 code.env) in
-    entered 𝓤 H (Saying 𝓤 H (𝓖 .A) (of-parts link) says-link) (𝓣 .C) (𝓣 .Λ) #plant-file·reader·link-of code.function (code.unfolded 𝓤 H 𝓜 𝓡)
-    (parts-meet 𝓤 H (𝓖 .A) (givenOf 𝓤 H 𝓜 𝓖) 𝓣 code.function link says-link (body 𝓤 H (𝓖 .A) (givenOf 𝓤 H 𝓜 𝓖) 𝓣
-    (cited 𝓤 H (Saying 𝓤 H (𝓖 .A) (of-parts B) says-new) 𝓜 𝓡 code.env #plant-file·reader·new new-def.routine code.calls-plant-file·reader·new (new-thm.met 𝓤 H 𝓜 𝓖 𝓡))
-    (cited 𝓤 H (Saying 𝓤 H (𝓖 .A) (of-reader link) says-next) 𝓜 𝓡 code.env #plant-file·reader·next next-def.routine code.calls-plant-file·reader·next (next-thm.met 𝓤 H 𝓜 𝓖 𝓡))))
+    parts-stand 𝓤 H 𝓜 𝓖 𝓡 code.env #plant-file·reader·link-of code.function (code.unfolded 𝓤 H 𝓜 𝓡) link says-link (body 𝓤 H (𝓖 .A) (givenOf 𝓤 H 𝓜 𝓖) (machine 𝓤 H 𝓜 𝓖 𝓡 code.env)
+    (knows 𝓤 H 𝓜 𝓖 𝓡 code.env (of-parts B) says-new #plant-file·reader·new new-def.routine code.calls-plant-file·reader·new (new-thm.met 𝓤 H 𝓜 𝓖 𝓡))
+    (knows 𝓤 H 𝓜 𝓖 𝓡 code.env (of-reader link) says-next #plant-file·reader·next next-def.routine code.calls-plant-file·reader·next (next-thm.met 𝓤 H 𝓜 𝓖 𝓡)))

@@ -12,7 +12,7 @@ use base.Logic.{ent}
 use base.Fml.{Lft, Share, Fml, fat}
 use prog.Wp.{Heap, WpFn, Tables}
 use ghost.Atoms.{Atoms}
-use contract.Running.{givenOf, tables, tablesOf}
+use contract.Running.{givenOf}
 use types.Kit.{Given, ‵, raw, _⊛_, ⋆, _$_, _∵_, !, qed, by, move, drop, use1, use2, rewrite, split}
 use types.Part.{whole, sub, look-in, agg}
 use types.Run.{look, init, forget, stop, fld, from, load, of-opd, and-then, no-more, assigns, land, returns, enter, alloc1, alloc0, params1, pass1, pass0, free1, free0}
@@ -26,10 +26,9 @@ use denote.Steps.{only, owned}
 use denote.Struct.Laws as LL
 use denote.Struct.Rest.{own-put}
 use denote.Triple.Statement.{Triple}
-use denote.Triple.Table.{entered, cited}
 use Rattle.plant_file.specs.Reader.{nextIndex}
 use Rattle.plant_file.specs.declared.reader.Reader.{Reader}
-use Rattle.plant_file.proofs.ReaderParts.{Saying, calls-said, B, of-reader, of-parts, index, says-index, says-moved, own-reader, token, reader-in, reader-out, to-parts, reader-kept, reader-ends, reader-meets}
+use Rattle.plant_file.proofs.ReaderParts.{Saying, calls-said, B, of-parts, index, says-index, says-moved, own-reader, token, reader-in, reader-out, to-parts, reader-kept, reader-ends, reader-stands, machine, knows}
 use Rattle.plant_file.proofs.reader.Reader as T
 use Rattle.plant_file.proofs.reader.Reader.Laws as T′
 use Rattle.plant_file.proofs.reader.next_index.Symbol as index-def
@@ -81,9 +80,7 @@ module _ {M : Type 1} (𝓤 : URA M) (H : Heap 𝓤) (A : Atoms 𝓤) (W : Given
         drop ! $ by ! (exits r e (is .1)))))))))
 
 pub moved-spec : {M : Type 1} → stated.statement M
-unfolding code.routine tablesOf
+unfolding code.routine
 moved-spec 𝓤 H 𝓜 𝓖 𝓡 =
-    let 𝓣 : Tables 𝓤 H = tablesOf 𝓤 H 𝓜 (tables 𝓤 H 𝓜 𝓡 code.env) in
-    entered 𝓤 H (Saying 𝓤 H (𝓖 .A) (of-reader B) says-moved) (𝓣 .C) (𝓣 .Λ) #plant-file·reader·moved code.function (code.unfolded 𝓤 H 𝓜 𝓡)
-    (reader-meets 𝓤 H (𝓖 .A) (givenOf 𝓤 H 𝓜 𝓖) 𝓣 code.function B says-moved (λ κ q d. body 𝓤 H (𝓖 .A) (givenOf 𝓤 H 𝓜 𝓖) κ q d 𝓣
-    (cited 𝓤 H (Saying 𝓤 H (𝓖 .A) (of-parts index) says-index) 𝓜 𝓡 code.env #plant-file·reader·next-index index-def.routine code.calls-plant-file·reader·next-index (index-thm.met 𝓤 H 𝓜 𝓖 𝓡))))
+    reader-stands 𝓤 H 𝓜 𝓖 𝓡 code.env #plant-file·reader·moved code.function (code.unfolded 𝓤 H 𝓜 𝓡) B says-moved (λ κ q d. body 𝓤 H (𝓖 .A) (givenOf 𝓤 H 𝓜 𝓖) κ q d (machine 𝓤 H 𝓜 𝓖 𝓡 code.env)
+    (knows 𝓤 H 𝓜 𝓖 𝓡 code.env (of-parts index) says-index #plant-file·reader·next-index index-def.routine code.calls-plant-file·reader·next-index (index-thm.met 𝓤 H 𝓜 𝓖 𝓡)))

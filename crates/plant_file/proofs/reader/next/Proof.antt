@@ -10,16 +10,15 @@ use base.Logic.{ent}
 use base.Fml.{Lft, Share}
 use prog.Wp.{Heap, WpFn, Tables}
 use ghost.Atoms.{Atoms}
-use contract.Running.{givenOf, tables, tablesOf}
+use contract.Running.{givenOf}
 use types.Kit.{Given, ‵, raw, _⊛_, _$_, _∵_, !, qed, by, move, use1, split}
 use types.Part.{whole, sub, look-in}
 use types.Run.{look, init, forget, stop, fld, from, load, of-opd, and-then, no-more, assigns, land, returns, enter, alloc1, alloc0, params1, pass1, pass0, free1, free0}
 use sound.WpLaws.{fmOf}
 use denote.Enum.Laws as EL
 use denote.Triple.Statement.{Triple}
-use denote.Triple.Table.{entered, cited}
 use Rattle.plant_file.specs.declared.reader.Reader.{Reader}
-use Rattle.plant_file.proofs.ReaderParts.{Saying, calls-said, of-reader, of-parts, link, says-link, says-next, own-reader, reader-in, reader-out, to-parts, reader-kept, reader-ends, reader-meets}
+use Rattle.plant_file.proofs.ReaderParts.{Saying, calls-said, of-parts, link, says-link, says-next, own-reader, reader-in, reader-out, to-parts, reader-kept, reader-ends, reader-stands, machine, knows}
 use Rattle.plant_file.proofs.reader.Reader.Laws as T′
 use Rattle.plant_file.proofs.reader.Step as S
 use Rattle.plant_file.proofs.reader.Step.Laws as S′
@@ -51,9 +50,7 @@ module _ {M : Type 1} (𝓤 : URA M) (H : Heap 𝓤) (A : Atoms 𝓤) (W : Given
       move ! (9 ∷ 10 ∷ []) $ free1 ! $ move ! (7 ∷ 8 ∷ []) $ free1 ! $ move ! (5 ∷ 6 ∷ []) $ free1 ! $ move ! (3 ∷ 4 ∷ []) $ free1 ! $ free0 ! $ by ! (reader-ends 𝓤 H A W κ q link says-next d mach r u e))))))
 
 pub next-spec : {M : Type 1} → stated.statement M
-unfolding code.routine tablesOf
+unfolding code.routine
 next-spec 𝓤 H 𝓜 𝓖 𝓡 =
-    let 𝓣 : Tables 𝓤 H = tablesOf 𝓤 H 𝓜 (tables 𝓤 H 𝓜 𝓡 code.env) in
-    entered 𝓤 H (Saying 𝓤 H (𝓖 .A) (of-reader link) says-next) (𝓣 .C) (𝓣 .Λ) #plant-file·reader·next code.function (code.unfolded 𝓤 H 𝓜 𝓡)
-    (reader-meets 𝓤 H (𝓖 .A) (givenOf 𝓤 H 𝓜 𝓖) 𝓣 code.function link says-next (body 𝓤 H (𝓖 .A) (givenOf 𝓤 H 𝓜 𝓖) 𝓣
-    (cited 𝓤 H (Saying 𝓤 H (𝓖 .A) (of-parts link) says-link) 𝓜 𝓡 code.env #plant-file·reader·link-at link-def.routine code.calls-plant-file·reader·link-at (link-thm.met 𝓤 H 𝓜 𝓖 𝓡))))
+    reader-stands 𝓤 H 𝓜 𝓖 𝓡 code.env #plant-file·reader·next code.function (code.unfolded 𝓤 H 𝓜 𝓡) link says-next (body 𝓤 H (𝓖 .A) (givenOf 𝓤 H 𝓜 𝓖) (machine 𝓤 H 𝓜 𝓖 𝓡 code.env)
+    (knows 𝓤 H 𝓜 𝓖 𝓡 code.env (of-parts link) says-link #plant-file·reader·link-at link-def.routine code.calls-plant-file·reader·link-at (link-thm.met 𝓤 H 𝓜 𝓖 𝓡)))
