@@ -1,4 +1,4 @@
--- What the walks by hand over a Reader share. `next` and `moved` take a Reader and call a function of its slice and its number; `link_of` and `index_after` take a slice and a number, make a Reader of them, and call one of those.
+-- What the walks by hand over a Reader share. `new` makes a Reader of a slice and a number; `next` and `moved` take a Reader and call a function of its slice and its number; `link_of` and `index_after` take a slice and a number, make a Reader of them by `new`, and call one of those.
 --     Says T, Saying T φ      what a function says of its result, and the contract that says φ and asks nothing beside what the parameters own. Every contract here is one
 --     calls-said              the call of such a function: its result is had, with what is said of it
 --     of-reader R, of-parts R     a function of a Reader, and of a slice and a number, with a result of the type R
@@ -93,7 +93,7 @@ of-reader R = record { signature = record { lifetimes = 1; outlives = []; params
 abbrev pub of-parts : (Lfts 1 → RattleType) → Ended
 of-parts R = record { signature = record { lifetimes = 1; outlives = []; params = shrSliceOf (0 ∷ []) tt (plain (λ _. u8)) ∷ plain (λ _. usize) ∷ []; result = plain R }; kept = (yes, (yes, tt)) }
 
--- what each function of the reader says of its result: a link, an index, or a Reader
+-- what each function of the reader says of its result: a link, an index, or a Reader. Each is the clause of `src/reader.rt`: its theorem is stated by that, and compared with this
 abbrev pub link : Lfts 1 → RattleType
 link κs = S.the-row
 
@@ -141,9 +141,11 @@ module _ {M : Type 1} (𝓤 : URA M) (H : Heap 𝓤) (A : Atoms 𝓤) (κ : Lft)
   abbrev pub token : SProp 𝓤
   token = alive 𝓤 H A (of-reader B .signature) (κ, tt) (q, tt)
 
+  -- a Reader, at its machine value
   abbrev pub reader-in : Reader → Val → SProp 𝓤
   reader-in d u = sep 𝓤 token (sem 𝓤 H A (owns (B (κ, tt) ∷ []) (d, tt) (u ∷ [], tt)))
 
+  -- a slice and a number
   abbrev pub parts-in : RefT (List ℕ) → ℕ → SProp 𝓤
   parts-in s n = sep 𝓤 token (sem 𝓤 H A (own-parts κ s n))
 
@@ -164,6 +166,7 @@ module _ {M : Type 1} (𝓤 : URA M) (H : Heap 𝓤) (A : Atoms 𝓤) (κ : Lft)
 -- ---- what is had gives what is asked, and how a walk ends
 module _ {M : Type 1} (𝓤 : URA M) (H : Heap 𝓤) (A : Atoms 𝓤) (W : Given 𝓤 H A) (κ : Lft) (q : Share) where
   module _ (R : Lfts 1 → RattleType) (φ : Says (of-reader R)) (d : Reader) (u : Val) where
+    -- a Reader that a call returned is handed on
     pub asks-reader : ent 𝓤 (⋆ 𝓤 H A (‵ (own-reader κ d u) ∷ raw (token 𝓤 H A κ q) ∷ [])) (Saying 𝓤 H A (of-reader R) φ .pre (to-reader 𝓤 H A κ q R φ d u))
     asks-reader = qed W (‵ (own-reader κ d u) ∷ raw (token 𝓤 H A κ q) ∷ []) ∵ nothing ! $ move ! (1 ∷ 0 ∷ []) $ fjoin ! $ move ! (1 ∷ 0 ∷ []) $ join ! $ frame ! $ done !
 
@@ -183,6 +186,7 @@ module _ {M : Type 1} (𝓤 : URA M) (H : Heap 𝓤) (A : Atoms 𝓤) (W : Given
       keep ! (0 ∷ 3 ∷ 1 ∷ []) $ done !
 
   module _ (R : Lfts 1 → RattleType) (φ : Says (of-parts R)) (s : RefT (List ℕ)) (n : ℕ) (ok : n < 2 ^ 64) where
+    -- a slice and a number are handed on: of the number nothing is owned but that it fits
     asks-parts : ent 𝓤 (⋆ 𝓤 H A (‵ (own-slice κ s) ∷ raw (token 𝓤 H A κ q) ∷ [])) (Saying 𝓤 H A (of-parts R) φ .pre (to-parts 𝓤 H A κ q R φ s n))
     asks-parts =
         qed W (‵ (own-slice κ s) ∷ raw (token 𝓤 H A κ q) ∷ []) ∵ nothing ! $ owned ! usize (Is usize) (uint-makes 𝓤 H A W w64) n _ (refl, ok) $ fjoin ! $ move ! (1 ∷ 0 ∷ []) $ fjoin ! $
