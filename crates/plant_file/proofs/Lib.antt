@@ -13,4 +13,5 @@ pub mod Largest
 pub mod Loading
 pub mod Accepted
 pub mod Cut
+pub mod ReaderParts
 pub mod Examples
