@@ -1,7 +1,5 @@
 -- What joins the queue ascends: both lists are of those below n with a property.
-use Prim.Native.Nat.{ℕ}
 use mathlib.Core.Bool.{not}
-use mathlib.Core.List.{List}
 use lib.Dec.{eqb}
 use Rattle.packing.specs.Plant.{at}
 use Rattle.packing.specs.Holders.{held}
