@@ -19,7 +19,7 @@ use Rattle.packing.proofs.Sums.{count-ext, count-some, count-find, count-bound}
 use Rattle.packing.proofs.Tests.{by-bool, and-l, and-r, and-i, or-cases, or-false-l, or-false-r, not-i}
 use Rattle.packing.proofs.Turns.{Says, turn-done, turn-named, says-less, says-as}
 use Rattle.planner.specs.Members.{listedLeaders, membersConditions, membersRefusal, membersPart, membersList}
-use Rattle.planner.specs.Turns.{Looked, MemberIn, membersTurn, MembersExactly, MembersAre, FirstEntriesOnly, LastEntryCounts}
+use Rattle.planner.specs.MembersTurn.{Looked, MemberIn, membersTurn, MembersExactly, MembersAre, FirstEntriesOnly, LastEntryCounts}
 
 module _ (leaders : List ℕ) (u : ℕ) where
   l : List ℕ

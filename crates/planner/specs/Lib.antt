@@ -6,6 +6,7 @@ pub mod Members
 pub mod Told
 pub mod Run
 pub mod Turns
+pub mod MembersTurn
 pub mod Records
 pub mod Claims
 pub mod Kept

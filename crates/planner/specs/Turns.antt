@@ -1,21 +1,17 @@
 -- 01, "Refused for what was handed in", "Refused for where the record is", "First to be named" and "Each is given on its condition only":
--- each call's numbers in their turn, each with its condition in 01's words and numbers. They are not the tests of Refusals.antt and Members.antt.
+-- each call's numbers in their turn, each with its condition in 01's words and numbers. They are not the tests of Refusals.antt.
 -- proofs/Turns.antt: each call gives the first number whose condition holds, and 0 where none does.
-use Prim.Native.Nat.{ℕ, _+_, _*_, _<_, _≤_, min}
+use Prim.Native.Nat.{ℕ, _+_, _*_, _<_, _≤_}
 use mathlib.Core.Path.{_≡_}
-use mathlib.Core.Logic.{_⊎_, _↔_}
-use mathlib.Core.Bool.{true}
+use mathlib.Core.Logic.{_⊎_}
 use mathlib.Core.List.{List}
-use lib.ListN.{length, take}
-use Rattle.packing.specs.Lists.{Ascending, memberOf}
+use lib.ListN.{length}
 use Rattle.packing.specs.Plant.{at}
-use Rattle.packing.specs.Grouping.{memberCount}
 use Rattle.packing.specs.Turns.{Turn, done, named, FirstNamed, LinkThere, firstEnd, secondEnd, RepeatsOrOutside}
 use Rattle.sound.specs.Facts.{Facts}
 use Rattle.planner.specs.State.{State}
 use Rattle.planner.specs.Calls.{openCall, Call, link, order, place, read, call}
 use Rattle.planner.specs.Told.{Told, beginning, refuses, tell}
-use Rattle.planner.specs.Members.{membersRefusal, membersPart, membersList}
 
 -- "open 1, 2, 10": "n above 1,024"; "T below 2 or above 16"; "open needs n in order and holders"
 unfoldable pub openTurn : ℕ → ℕ → List ℕ → List ℕ → Turn
@@ -70,20 +66,6 @@ toldTurn p (order numbers) = orderTurn (p .n) (p .placed) numbers
 toldTurn p place = placeTurn (p .n) (p .placed)
 toldTurn p (read leaders choke) = readTurn (p .n) (p .placed) leaders choke
 
--- w is one of the entries that members looks at: "the first 1,024 entries of the leader list, or at all if there are fewer"
-abbrev pub Looked : List ℕ → ℕ → Type 0
-Looked leaders w = (w < 1024) × (w < length leaders)
-
--- .. and one of u's members
-abbrev pub MemberIn : List ℕ → ℕ → ℕ → Type 0
-MemberIn leaders u w = Looked leaders w × (at leaders w ≡ u) × (w ≡ u → ⊥)
-
--- "Members 11, 10": "The number is outside the leader list, doesn't lead itself there, or has no members"; "members needs their count"
-unfoldable pub membersTurn : List ℕ → ℕ → ℕ → Turn
-membersTurn leaders u room =
-    named 11 ((Looked leaders u → ⊥) ⊎ (at leaders u ≡ u → ⊥) ⊎ ((w : ℕ) → MemberIn leaders u w → ⊥))
-    (named 10 (room < memberCount (min 1024 (length leaders)) (at leaders) u) done)
-
 -- The statements. Open, for anything handed in:
 unfoldable pub OpenExactly : Type 0
 OpenExactly = (n t : ℕ) (ls os hs : List ℕ) → FirstNamed (openTurn n t os hs) (openCall n t ls os hs .refusal)
@@ -95,27 +77,3 @@ CallExactly = (s : State) (c : Call) → FirstNamed (callTurn s c) (call s c .re
 -- what the calls tell, for any list of calls
 unfoldable pub ToldExactly : Type 0
 ToldExactly = (n t room : ℕ) (calls : List Call) (c : Call) → FirstNamed (toldTurn (tell (beginning n t room) calls) c) (refuses (tell (beginning n t room) calls) c)
-
--- members
-unfoldable pub MembersExactly : Type 0
-MembersExactly = (leaders : List ℕ) (u room : ℕ) → FirstNamed (membersTurn leaders u room) (membersRefusal leaders u room)
-
--- "its members ascending": of an accepted call the part handed back has just u's members, and they ascend
-unfoldable pub MembersAre : Type 0
-MembersAre =
-    (leaders : List ℕ) (u room : ℕ) → membersRefusal leaders u room ≡ 0
-    → ((w : ℕ) → (memberOf (membersPart leaders u room) w ≡ true) ↔ MemberIn leaders u w) × Ascending (membersPart leaders u room)
-
--- "and takes those as the list": a list and its first 1,024 entries give the same answers
-unfoldable pub FirstEntriesOnly : Type 0
-FirstEntriesOnly =
-    (leaders : List ℕ) (u : ℕ) (lent : List ℕ)
-    → (membersRefusal (take 1024 leaders) u (length lent) ≡ membersRefusal leaders u (length lent))
-    × (membersPart (take 1024 leaders) u (length lent) ≡ membersPart leaders u (length lent))
-    × (membersList (take 1024 leaders) u lent ≡ membersList leaders u lent)
-
--- .. and the last of these counts: where there is room for all, entry 1,023 is a member
-unfoldable pub LastEntryCounts : Type 0
-LastEntryCounts =
-    (leaders : List ℕ) (u room : ℕ) → 1023 < length leaders → u < 1023 → at leaders u ≡ u → at leaders 1023 ≡ u → 1024 ≤ room
-    → (membersRefusal leaders u room ≡ 0) × (memberOf (membersPart leaders u room) 1023 ≡ true)
