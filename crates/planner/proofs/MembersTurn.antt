@@ -3,7 +3,7 @@ use Prim.Native.Nat.{ℕ, _<_, min}
 use mathlib.Core.Path.{_≡_, refl, sym, ap, _∙_}
 use mathlib.Core.Logic.{_⊎_, inl, inr, ⊎-elim}
 use mathlib.Core.Bool.{true, false, not, _&&_, _||_, true≢false}
-use mathlib.Core.List.{List}
+use mathlib.Core.List.{List, []}
 use native.Mathlib.Omega.{arith}
 use lib.Dec.{eqb, ltb}
 use lib.ListN.{length, take, length-take}
@@ -17,9 +17,11 @@ use Rattle.packing.specs.Turns.{FirstNamed}
 use Rattle.packing.proofs.Lists.{listWhere-length, listWhere-in, listWhere-out, listWhere-ascending}
 use Rattle.packing.proofs.Sums.{count-ext, count-some, count-find, count-bound}
 use Rattle.packing.proofs.Tests.{by-bool, and-l, and-r, and-i, or-cases, or-false-l, or-false-r, not-i}
+use Rattle.packing.proofs.Refusals.{refused}
 use Rattle.packing.proofs.Turns.{Says, turn-done, turn-named, says-less, says-as}
 use Rattle.planner.specs.Members.{listedLeaders, membersConditions, membersRefusal, membersPart, membersList}
-use Rattle.planner.specs.MembersTurn.{Looked, MemberIn, membersTurn, MembersExactly, MembersAre, FirstEntriesOnly, LastEntryCounts}
+use Rattle.planner.specs.MembersTurn.{Looked, MemberIn, membersTurn, MembersExactly, MembersAre, FirstEntriesOnly, LastEntryCounts, PartWritten}
+use Rattle.planner.proofs.MembersLaws.{part-is}
 
 module _ (leaders : List ℕ) (u : ℕ) where
   l : List ℕ
@@ -143,3 +145,7 @@ last-entry-counts leaders u room there below own last room-for =
     accepted =
         ⊎-elim (λ q. absurd (⊎-elim (λ out. out (omega arith, omega arith)) (⊎-elim (λ other. other own) (λ none. none 1023 member)) (q .0)))
         (λ q. ⊎-elim (λ r. absurd (omega (arith, r .0, count-bound (min 1024 (length leaders)) (follows (at leaders) u)))) (λ r. r .1) (q .1)) (exactly leaders u room)
+
+pub part-written : PartWritten
+unfolding PartWritten membersPart membersList
+part-written leaders u lent = (part-is leaders u lent refl refl, λ h. (sym (refused _ [] refl h), sym (refused _ lent refl h)))

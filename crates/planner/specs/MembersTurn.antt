@@ -3,7 +3,7 @@ use Prim.Native.Nat.{ℕ, _<_, _≤_, min}
 use mathlib.Core.Path.{_≡_}
 use mathlib.Core.Logic.{_⊎_, _↔_}
 use mathlib.Core.Bool.{true}
-use mathlib.Core.List.{List}
+use mathlib.Core.List.{List, []}
 use lib.ListN.{length, take}
 use Rattle.packing.specs.Lists.{Ascending, memberOf}
 use Rattle.packing.specs.Plant.{at}
@@ -48,3 +48,10 @@ unfoldable pub LastEntryCounts : Type 0
 LastEntryCounts =
     (leaders : List ℕ) (u room : ℕ) → 1023 < length leaders → u < 1023 → at leaders u ≡ u → at leaders 1023 ≡ u → 1024 ≤ room
     → (membersRefusal leaders u room ≡ 0) × (memberOf (membersPart leaders u room) 1023 ≡ true)
+
+-- "Members hands back the written part of the lent list; on refusal that part is empty", and the list is as it came
+unfoldable pub PartWritten : Type 0
+PartWritten =
+    (leaders : List ℕ) (u : ℕ) (lent : List ℕ)
+    → (take (length (membersPart leaders u (length lent))) (membersList leaders u lent) ≡ membersPart leaders u (length lent))
+    × ((membersRefusal leaders u (length lent) ≡ 0 → ⊥) → (membersPart leaders u (length lent) ≡ []) × (membersList leaders u lent ≡ lent))
