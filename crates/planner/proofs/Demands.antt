@@ -1,8 +1,8 @@
 -- The claims of specs/Claims.antt.
-use Prim.Native.Nat.{ℕ, zero, suc, _<_, _≤_}
-use mathlib.Core.Path.{_≡_, refl, sym, ap, subst, _∙_}
+use Prim.Native.Nat.{ℕ, _<_, _≤_}
+use mathlib.Core.Path.{_≡_, sym, ap, subst, _∙_}
 use mathlib.Core.Bool.{Bool, not}
-use mathlib.Core.List.{List, [], _∷_}
+use mathlib.Core.List.{List}
 use native.Mathlib.Omega.{arith}
 use lib.Dec.{eqb}
 use lib.ListN.{length}
@@ -19,10 +19,10 @@ use Rattle.packing.proofs.Below.{grouping-below, difference-below, grouping-lim
 use Rattle.stars.specs.Stars.{leaderList}
 use Rattle.search.specs.ChokeSet.{inChoke, chokeByte}
 use Rattle.planner.specs.State.{State, linksOf, limitOf}
-use Rattle.planner.specs.Calls.{Call, link, order, place, read, callRefusal, call, readLeaders, readChoke}
-use Rattle.packing.specs.Refusals.{byNumber}
-use Rattle.planner.specs.Told.{Told, beginning, refuses, accepted, tellOne, tell}
+use Rattle.planner.specs.Calls.{Call, order, read, callRefusal, call, readLeaders, readChoke}
+use Rattle.planner.specs.Told.{Told, beginning, refuses}
 use Rattle.planner.specs.Claims.{toldBy, madeBy, leadersRead, chokeRead, GroupingTold, SameNumbers, OnceRead, DemandThree, DemandThreeOf, MostCovered, MostCoveredOf, DemandTwo, DemandTwoOf}
+use Rattle.planner.proofs.Tells.{onward}
 use Rattle.planner.proofs.Agree.{Agrees, stateTold, by-told, same-number, same-numbers, run-agrees, open-agrees}
 use Rattle.planner.proofs.Optimal.{sound-grouping, most-covered, covered-held, choke-unheld}
 
@@ -31,25 +31,13 @@ unfolding SameNumbers
 same-numbers-told n t ls os hs z calls = same-numbers (open-agrees n t ls os hs z) calls
 
 -- n stays as open was handed it, and each gateway has the limit T: no call sets another
-pub tells-plant : (p : Told) (calls : List Call) → (tell p calls .n ≡ p .n) × (tell p calls .limit ≡ p .limit)
-unfolding tell tellOne accepted
-tells-plant p [] = (refl, refl)
-tells-plant p (c ∷ calls) = let later = tells-plant (tellOne p c) calls in (later .0 ∙ one c (refuses p c) .0, later .1 ∙ one c (refuses p c) .1)
-  where
-    one : (d : Call) (e : ℕ) → (byNumber e (accepted p d) p .n ≡ p .n) × (byNumber e (accepted p d) p .limit ≡ p .limit)
-    one (link x y) zero = (refl, refl)
-    one (order numbers) zero = (refl, refl)
-    one place zero = (refl, refl)
-    one (read leaders choke) zero = (refl, refl)
-    one d (suc e) = (refl, refl)
-
 pub tells-n : (n t : ℕ) (ls : List ℕ) (calls : List Call) → toldBy n t ls calls .n ≡ n
 unfolding beginning
-tells-n n t ls calls = tells-plant (beginning n t (length ls)) calls .0
+tells-n n t ls calls = onward (beginning n t (length ls)) calls .gateways
 
 pub tells-limit : (n t : ℕ) (ls : List ℕ) (calls : List Call) → toldBy n t ls calls .limit ≡ common t
 unfolding beginning
-tells-limit n t ls calls = tells-plant (beginning n t (length ls)) calls .1
+tells-limit n t ls calls = onward (beginning n t (length ls)) calls .limits
 
 -- what a record with the small part told says of an accepted read
 module _ (p : Told) (ls os hs : List ℕ) (a : Agrees p (stateTold p ls os hs)) (leaders choke : List ℕ) (z : refuses p (read leaders choke) ≡ 0) where

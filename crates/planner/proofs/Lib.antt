@@ -1,6 +1,7 @@
 -- Laws of the calls, by subject.
 pub mod Conditions
 pub mod Turns
+pub mod Tells
 pub mod Outcomes
 pub mod Next
 pub mod Made

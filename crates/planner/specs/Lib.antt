@@ -4,6 +4,7 @@ pub mod State
 pub mod Calls
 pub mod Members
 pub mod Told
+pub mod Tells
 pub mod Run
 pub mod Turns
 pub mod MembersTurn
