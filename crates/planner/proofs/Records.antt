@@ -4,8 +4,8 @@ use mathlib.Core.Path.{_≡_, refl, sym, _∙_}
 use mathlib.Core.Bool.{not}
 use mathlib.Core.List.{List, []}
 use native.Mathlib.Omega.{arith}
-use lib.ListN.{length, drop, set, replicate, length-replicate, getD-replicate}
-use lib.Seq.{drop-set-lt}
+use lib.ListN.{length, drop, set, replicate, length-replicate, getD-replicate, length-set}
+use lib.Seq.{drop-set-lt, getD-set-same, getD-set-other}
 use borrow.Author.Tests.{not-false}
 use Rattle.packing.specs.Lists.{listOf, written}
 use Rattle.packing.specs.Orders.{upTo}
@@ -22,8 +22,8 @@ use Rattle.stars.specs.Stars.{leaderList}
 use Rattle.planner.specs.State.{State, stateOf, linksOf, limitOf, soundState}
 use Rattle.planner.specs.Calls.{smallOpened, opened, openCall, Call, link, order, place, read, conditions, callRefusal, changed, call, readLeaders, readChoke}
 use Rattle.planner.specs.Members.{listedLeaders, membersRefusal, membersPart, membersList}
-use Rattle.planner.specs.Records.{OpenGives, OpenRefused, RefusedUnchanged, ReadRefused, Past, PastUnchanged, ReadPast, MembersPast, HeldCovered, ReadWrites}
-use Rattle.planner.proofs.Conditions.{order-allowed, place-allowed}
+use Rattle.planner.specs.Records.{OpenGives, OpenRefused, LinkGives, OrderGives, PlaceGives, ReadGives, RefusedUnchanged, ReadRefused, Past, PastUnchanged, ReadPast, MembersPast, HeldCovered, ReadWrites}
+use Rattle.planner.proofs.Conditions.{link-allowed, order-allowed, place-allowed}
 use Rattle.planner.proofs.Next.{SoundState, next-placeable}
 use Rattle.planner.proofs.Optimal.{sound-grouping, leaders-cover}
 
@@ -61,6 +61,41 @@ unfolding callRefusal soundState
 accepted-sound s c z =
     let first = refuse-none (not (soundState s)) 26 (conditions s c) (omega arith) z in
     (sound-means _ _ _ _ _ _ _ (not-false (soundState s) (first .0)), first .1)
+
+pub link-gives : LinkGives
+unfolding LinkGives call changed conditions
+link-gives s a b z =
+    let (k, below-a, below-b, apart, new, more, room) = link-allowed (s .small .n) (s .small .k) (s .small .m) (linksOf s) (length (s .links)) a b refl (accepted-sound s (link a b) z .1) in
+    rw z
+    (record {
+      gateways = refl;
+      limit = refl;
+      oneMore = refl;
+      placed = refl;
+      before = λ i l. getD-set-other (set (s .links) (2 * s .small .m) a) (2 * s .small .m + 1) i b 0 (λ e. omega arith) ∙ getD-set-other (s .links) (2 * s .small .m) i a 0 (λ e. omega arith);
+      first = getD-set-other (set (s .links) (2 * s .small .m) a) (2 * s .small .m + 1) (2 * s .small .m) b 0 (λ e. omega arith) ∙ getD-set-same (s .links) (2 * s .small .m) a 0 (omega arith);
+      second = getD-set-same (set (s .links) (2 * s .small .m) a) (2 * s .small .m + 1) b 0 (rw length-set (omega arith));
+      order = refl;
+      holders = refl;
+    })
+
+pub order-gives : OrderGives
+unfolding OrderGives call changed conditions
+order-gives s numbers z =
+    let (k, long, right) = order-allowed (s .small .n) (s .small .k) numbers refl (accepted-sound s (order numbers) z .1) in
+    rw z (record { small = refl; links = refl; order = λ i l. written-at (s .small .n) numbers (s .order) long i l; holders = refl })
+
+pub place-gives : PlaceGives
+unfolding PlaceGives call changed
+place-gives s z = rw z (record { gateways = refl; limit = refl; linkCount = refl; oneMore = refl; links = refl; order = refl })
+
+pub read-gives : ReadGives
+unfolding ReadGives call changed
+read-gives s leaders choke = by (callRefusal s (read leaders choke))
+  where
+    by : (e : ℕ) → byNumber e s s ≡ s
+    by zero = refl
+    by (suc e) = refl
 
 -- Entries past the lengths
 same-past : (s : State) → Past s s

@@ -1,5 +1,5 @@
 -- What holds of any call, on any record that it may be handed, sound or not, however it was made. proofs/Records.antt proves it.
-use Prim.Native.Nat.{ℕ, _*_, _<_}
+use Prim.Native.Nat.{ℕ, _+_, _*_, _<_}
 use mathlib.Core.Path.{_≡_}
 use mathlib.Core.Bool.{true}
 use mathlib.Core.List.{List}
@@ -9,7 +9,7 @@ use Rattle.packing.specs.Grouping.{Grouping, covered}
 use Rattle.packing.specs.Holders.{held}
 use Rattle.stars.specs.Stars.{leaderList}
 use Rattle.planner.specs.State.{State, stateOf, linksOf, limitOf}
-use Rattle.planner.specs.Calls.{openCall, Call, read, call, readLeaders, readChoke}
+use Rattle.planner.specs.Calls.{openCall, Call, link, order, place, read, call, readLeaders, readChoke}
 use Rattle.planner.specs.Members.{membersPart, membersList}
 use Rattle.planner.specs.Turns.{SoundFacts}
 
@@ -33,6 +33,47 @@ unfoldable pub OpenRefused : Type 0
 OpenRefused =
     (n t : ℕ) (ls os hs : List ℕ) → (openCall n t ls os hs .refusal ≡ 0 → ⊥)
     → openCall n t ls os hs .state ≡ stateOf (record { n = 0; t = 2; m = 0; k = 0 }) ls os hs
+
+-- "Link (a, b): appended": behind the m links that are there, and m rises by one
+pub record Linked (s : State) (a b : ℕ) (after : State) : Type 0 where
+  pub gateways : after .small .n ≡ s .small .n
+  pub limit : after .small .t ≡ s .small .t
+  pub oneMore : after .small .m ≡ s .small .m + 1
+  pub placed : after .small .k ≡ s .small .k
+  pub before : (i : ℕ) → i < 2 * s .small .m → at (after .links) i ≡ at (s .links) i
+  pub first : at (after .links) (2 * s .small .m) ≡ a
+  pub second : at (after .links) (2 * s .small .m + 1) ≡ b
+  pub order : after .order ≡ s .order
+  pub holders : after .holders ≡ s .holders
+
+unfoldable pub LinkGives : Type 0
+LinkGives = (s : State) (a b : ℕ) → call s (link a b) .refusal ≡ 0 → Linked s a b (call s (link a b) .state)
+
+-- "Order (n numbers): replaces the order"
+pub record Ordered (s : State) (numbers : List ℕ) (after : State) : Type 0 where
+  pub small : after .small ≡ s .small
+  pub links : after .links ≡ s .links
+  pub order : (i : ℕ) → i < s .small .n → at (after .order) i ≡ at numbers i
+  pub holders : after .holders ≡ s .holders
+
+unfoldable pub OrderGives : Type 0
+OrderGives = (s : State) (numbers : List ℕ) → call s (order numbers) .refusal ≡ 0 → Ordered s numbers (call s (order numbers) .state)
+
+-- "Place: .. k rises by one"; what it does to the holders is said in search/specs/Search.antt, and in Kept.antt
+pub record OnePlaced (s after : State) : Type 0 where
+  pub gateways : after .small .n ≡ s .small .n
+  pub limit : after .small .t ≡ s .small .t
+  pub linkCount : after .small .m ≡ s .small .m
+  pub oneMore : after .small .k ≡ s .small .k + 1
+  pub links : after .links ≡ s .links
+  pub order : after .order ≡ s .order
+
+unfoldable pub PlaceGives : Type 0
+PlaceGives = (s : State) → call s place .refusal ≡ 0 → OnePlaced s (call s place .state)
+
+-- Read changes nothing of the record.
+unfoldable pub ReadGives : Type 0
+ReadGives = (s : State) (leaders choke : List ℕ) → call s (read leaders choke) .state ≡ s
 
 -- "A refused call returns its number and the small part as it came" (00: "a refused call changes no lent list and no record")
 unfoldable pub RefusedUnchanged : Type 0
