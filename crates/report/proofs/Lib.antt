@@ -5,3 +5,4 @@ pub mod Digits
 pub mod LineParts
 pub mod Lengths
 pub mod Alike
+pub mod Says

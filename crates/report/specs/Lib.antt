@@ -1,3 +1,4 @@
 -- The listing's text.
 pub mod Text
 pub mod Pre
+pub mod Says
