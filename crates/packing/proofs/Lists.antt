@@ -12,7 +12,7 @@ use lib.ListN.{length, getD, set, take, drop, replicate, length-append, length-d
 use lib.Seq.{getD-at, drop-cons, set-at, take-at, append-snoc, ext-getD, sets, drop-append-seam, getD-append-seam}
 use borrow.Author.Tests.{eqb-true, eq-eqb}
 use Rattle.packing.specs.Count.{pick, sum, count}
-use Rattle.packing.specs.Lists.{listOf, listWhere, written, Ascending, memberOf}
+use Rattle.packing.specs.Lists.{listOf, listWhere, written, Ascending, memberOf, Lists}
 use Rattle.packing.specs.Plant.{at}
 use Rattle.packing.proofs.Tests.{below-suc, or-cases, or-l, or-r}
 use Rattle.packing.proofs.Counting.{Tallied, tally-start, tally-more, tally-same, tally-less, tally-end}
@@ -111,6 +111,11 @@ listWhere-ascending (suc n) p i j l h = by (listWhere-ascending n p i j l) (p n)
         below-suc j (length first) (omega (arith, length-append first (n ∷ [])))
         (λ e. rw (List·getD-append first (n ∷ []) 0 i (omega arith), e, getD-append-seam first n [] 0) (listWhere-out n p (at first i) (member-at first i (omega arith)) .0))
         (λ e. rw (List·getD-append first (n ∷ []) 0 i (omega arith), List·getD-append first (n ∷ []) 0 j e) (before e))
+
+-- .. so it lists just those with a property that the test is
+pub lists-where : (n : ℕ) (p : ℕ → Bool) {Has : ℕ → Type 0} → ((v : ℕ) → p v ≡ true → Has v) → ((v : ℕ) → Has v → p v ≡ true) → Lists n Has (listWhere n p)
+lists-where n p to from =
+    record { just = λ v. (λ e. let (l, t) = listWhere-out n p v e in (l, to v t), λ h. listWhere-in n p v (h .0) (from v (h .1))); ascending = listWhere-ascending n p }
 
 -- .. and one more below n + 1, or none
 listWhere-more : (n : ℕ) (p : ℕ → Bool) → p n ≡ true → listWhere (n + 1) p ≡ listWhere n p ++ (n ∷ [])

@@ -33,6 +33,11 @@ unfolding FirstNamed
 turn-named true e rest later s f = inl (s .holds refl, refl)
 turn-named false e rest later s f = inr (s .fails refl, f refl)
 
+-- a condition that does not hold names nothing
+pub turn-passed : (d : ℕ) {Condition : Type 0} (later : Turn) (e : ℕ) → (Condition → ⊥) → FirstNamed later e → FirstNamed (named d Condition later) e
+unfolding FirstNamed
+turn-passed d later e fails f = inr (fails, f)
+
 -- a turn names one number
 pub named-once : (turn : Turn) (d e : ℕ) → FirstNamed turn d → FirstNamed turn e → d ≡ e
 unfolding FirstNamed

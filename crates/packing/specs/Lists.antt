@@ -1,6 +1,8 @@
 -- Lists of numbers by gateway, and what a lent list holds once its front is written.
 use Prim.Native.Nat.{ℕ, zero, suc, _<_, _≤_}
-use mathlib.Core.Bool.{Bool, false, cond, _&&_, _||_}
+use mathlib.Core.Path.{_≡_}
+use mathlib.Core.Logic.{_↔_}
+use mathlib.Core.Bool.{Bool, true, false, cond, _&&_, _||_}
 use mathlib.Core.List.{List, [], _∷_, _++_}
 use lib.Dec.{eqb, leb}
 use lib.ListN.{length, drop}
@@ -25,6 +27,11 @@ Ascending l = (i j : ℕ) → i < j → j < length l → at l i < at l j
 unfoldable pub memberOf : List ℕ → ℕ → Bool
 memberOf [] y = false
 memberOf (a ∷ l) y = eqb a y || memberOf l y
+
+-- a list of just the gateways below n with a property, ascending
+pub record Lists (n : ℕ) (Has : ℕ → Type 0) (l : List ℕ) : Type 0 where
+  pub just : (v : ℕ) → (memberOf l v ≡ true) ↔ ((v < n) × Has v)
+  pub ascending : Ascending l
 
 -- how often each number below 1,024 stands among the first n entries of a list: by holders, how many each gateway holds
 unfoldable pub tallyOf : ℕ → List ℕ → List ℕ

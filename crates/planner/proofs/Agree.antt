@@ -49,10 +49,7 @@ module _ (p : Told) (ls os hs : List ℕ) (a : Agrees p (stateTold p ls os hs)) 
   -- the record gives the numbers that were told
   number-told : (c : Call) → callRefusal (stateTold p ls os hs) c ≡ refuses p c
   unfolding callRefusal conditions refuses
-  number-told (link x y) = sym (sound-number refl sound refl) ∙ rw (a .links, a .room)
-  number-told (order numbers) = sym (sound-number refl sound refl)
-  number-told place = sym (sound-number refl sound refl)
-  number-told (read leaders choke) = sym (sound-number refl sound refl)
+  number-told c = sym (sound-number refl sound refl) ∙ rw (a .links, a .room)
 
   -- an accepted call takes the record to what it tells
   accepted-told : (c : Call) → refuses p c ≡ 0 → Agrees (accepted p c) (changed (stateTold p ls os hs) c)

@@ -1,26 +1,28 @@
 -- Members gives 11 and 10 exactly on their conditions, hands back just the members, and looks at the first 1,024 entries only.
-use Prim.Native.Nat.{ℕ, _<_, min}
+use Prim.Native.Nat.{ℕ, zero, suc, _<_, min}
 use mathlib.Core.Path.{_≡_, refl, sym, ap, _∙_}
 use mathlib.Core.Logic.{_⊎_, inl, inr, ⊎-elim}
 use mathlib.Core.Bool.{true, false, not, _&&_, _||_, true≢false}
 use mathlib.Core.List.{List, []}
 use native.Mathlib.Omega.{arith}
 use lib.Dec.{eqb, ltb}
-use lib.ListN.{length, take, length-take}
+use lib.ListN.{length, take, drop, length-take}
 use lib.Seq.{getD-take, take-all}
-use borrow.Author.Tests.{eqb-true, eqb-false, eq-eqb, ne-eqb, ltb-true, not-true, not-false}
+use borrow.Author.Tests.{eqb-true, eqb-false, ltb-true, not-true, not-false}
 use Rattle.packing.specs.Count.{count}
-use Rattle.packing.specs.Lists.{listWhere}
+use Rattle.packing.specs.Lists.{listWhere, written}
+use Rattle.packing.specs.Refusals.{byNumber}
 use Rattle.packing.specs.Plant.{GATEWAYS, at}
 use Rattle.packing.specs.Grouping.{follows, memberCount, membersOf}
 use Rattle.packing.specs.Turns.{FirstNamed}
-use Rattle.packing.proofs.Lists.{listWhere-length, listWhere-in, listWhere-out, listWhere-ascending}
+use Rattle.packing.proofs.Groupings.{follows-is, follows-means}
+use Rattle.packing.proofs.Lists.{listWhere-length, listWhere-in, listWhere-out, listWhere-ascending, written-past}
 use Rattle.packing.proofs.Sums.{count-ext, count-some, count-find, count-bound}
-use Rattle.packing.proofs.Tests.{by-bool, and-l, and-r, and-i, or-cases, or-false-l, or-false-r, not-i}
+use Rattle.packing.proofs.Tests.{by-bool, or-cases, or-false-l, or-false-r}
 use Rattle.packing.proofs.Refusals.{refused}
 use Rattle.packing.proofs.Turns.{Says, turn-done, turn-named, says-less, says-as}
 use Rattle.planner.specs.Members.{listedLeaders, membersConditions, membersRefusal, membersPart, membersList}
-use Rattle.planner.specs.MembersTurn.{Looked, MemberIn, membersTurn, MembersExactly, MembersAre, FirstEntriesOnly, LastEntryCounts, PartWritten}
+use Rattle.planner.specs.MembersTurn.{Looked, MemberIn, membersTurn, MembersExactly, MembersAre, FirstEntriesOnly, LastEntryCounts, PartWritten, MembersPast}
 use Rattle.planner.proofs.MembersLaws.{part-is}
 
 module _ (leaders : List ℕ) (u : ℕ) where
@@ -46,13 +48,10 @@ module _ (leaders : List ℕ) (u : ℕ) where
   entry w p = getD-take GATEWAYS leaders w 0 (looked w p .0)
 
   member-test : (w : ℕ) → MemberIn leaders u w → follows (at l) u w ≡ true
-  member-test w p =
-      let k = within w (p .0) in
-      and-i (eqb (at l w) u) (not (eqb w u)) (eq-eqb (at l w) u (entry w k ∙ p .1)) (not-i (eqb w u) (ne-eqb w u (p .2)))
+  member-test w p = follows-is (at l) u w (entry w (within w (p .0)) ∙ p .1) (p .2)
 
   test-member : (w : ℕ) → w < length l → follows (at l) u w ≡ true → MemberIn leaders u w
-  test-member w k e =
-      (looked w k, sym (entry w k) ∙ eqb-true (at l w) u (and-l (eqb (at l w) u) (not (eqb w u)) e), eqb-false w u (not-true (eqb w u) (and-r (eqb (at l w) u) (not (eqb w u)) e)))
+  test-member w k e = let (own, other) = follows-means (at l) u w e in (looked w k, sym (entry w k) ∙ own, other)
 
   many-is : many ≡ count (length l) (follows (at l) u)
   unfolding many membersOf
@@ -149,3 +148,11 @@ last-entry-counts leaders u room there below own last room-for =
 pub part-written : PartWritten
 unfolding PartWritten membersPart membersList
 part-written leaders u lent = (part-is leaders u lent refl refl, λ h. (sym (refused _ [] refl h), sym (refused _ lent refl h)))
+
+pub members-past : MembersPast
+unfolding MembersPast membersPart membersList
+members-past leaders u lent = by (membersRefusal leaders u (length lent)) (membersOf (length (listedLeaders leaders)) (at (listedLeaders leaders)) u)
+  where
+    by : (e : ℕ) (m : List ℕ) → drop (length (byNumber e m [])) (byNumber e (written (length m) m lent) lent) ≡ drop (length (byNumber e m [])) lent
+    by zero m = written-past (length m) m lent refl
+    by (suc e) m = refl

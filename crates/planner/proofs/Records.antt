@@ -2,15 +2,14 @@
 use Prim.Native.Nat.{ℕ, zero, suc, _+_, _*_}
 use mathlib.Core.Path.{_≡_, refl, sym, _∙_}
 use mathlib.Core.Bool.{not}
-use mathlib.Core.List.{List, []}
+use mathlib.Core.List.{List}
 use native.Mathlib.Omega.{arith}
 use lib.ListN.{length, drop, set, replicate, length-replicate, getD-replicate, length-set}
 use lib.Seq.{drop-set-lt, getD-set-same, getD-set-other}
 use borrow.Author.Tests.{not-false}
 use Rattle.packing.specs.Lists.{listOf, written}
 use Rattle.packing.specs.Orders.{upTo}
-use Rattle.packing.specs.Plant.{NONE, at}
-use Rattle.packing.specs.Grouping.{membersOf}
+use Rattle.packing.specs.Plant.{NONE}
 use Rattle.packing.specs.Refusals.{byNumber}
 use Rattle.packing.proofs.Lists.{listOf-length, written-at, written-past, listed-at}
 use Rattle.packing.proofs.Refusals.{refuse-none, refused}
@@ -21,8 +20,7 @@ use Rattle.sound.proofs.Meaning.{sound-means}
 use Rattle.stars.specs.Stars.{leaderList}
 use Rattle.planner.specs.State.{State, stateOf, linksOf, limitOf, soundState}
 use Rattle.planner.specs.Calls.{smallOpened, opened, openCall, Call, link, order, place, read, conditions, callRefusal, changed, call, readLeaders, readChoke}
-use Rattle.planner.specs.Members.{listedLeaders, membersRefusal, membersPart, membersList}
-use Rattle.planner.specs.Records.{OpenGives, OpenRefused, LinkGives, OrderGives, PlaceGives, ReadGives, RefusedUnchanged, ReadRefused, Past, PastUnchanged, ReadPast, MembersPast, HeldCovered, ReadWrites}
+use Rattle.planner.specs.Records.{OpenGives, OpenRefused, LinkGives, OrderGives, PlaceGives, ReadGives, RefusedUnchanged, ReadRefused, Past, PastUnchanged, ReadPast, HeldCovered, ReadWrites}
 use Rattle.planner.proofs.Conditions.{link-allowed, order-allowed, place-allowed}
 use Rattle.planner.proofs.Next.{SoundState, next-placeable}
 use Rattle.planner.proofs.Optimal.{sound-grouping, leaders-cover}
@@ -134,14 +132,6 @@ pub read-past : ReadPast
 unfolding ReadPast readLeaders readChoke
 read-past s leaders choke =
     (part-past (callRefusal s (read leaders choke)) (s .small .n) _ leaders (listOf-length _ _), part-past (callRefusal s (read leaders choke)) (s .small .n) _ choke (listOf-length _ _))
-
-pub members-past : MembersPast
-unfolding MembersPast membersPart membersList
-members-past leaders u lent = by (membersRefusal leaders u (length lent)) (membersOf (length (listedLeaders leaders)) (at (listedLeaders leaders)) u)
-  where
-    by : (e : ℕ) (m : List ℕ) → drop (length (byNumber e m [])) (byNumber e (written (length m) m lent) lent) ≡ drop (length (byNumber e m [])) lent
-    by zero m = written-past (length m) m lent refl
-    by (suc e) m = refl
 
 pub held-covered : HeldCovered
 unfolding HeldCovered SoundMeans

@@ -1,23 +1,23 @@
 -- Each call gives the first number of its turn whose condition holds: test by test, what it says in words.
-use Prim.Native.Nat.{ℕ, zero, suc, _+_, _*_}
-use mathlib.Core.Path.{_≡_, refl}
+use Prim.Native.Nat.{ℕ, _+_, _*_}
+use mathlib.Core.Path.{sym, ap, _∙_}
 use mathlib.Core.Bool.{not, _||_}
-use mathlib.Core.List.{List, [], _∷_}
-use native.Mathlib.Omega.{arith}
+use mathlib.Core.List.{List}
 use lib.Dec.{eqb, ltb, leb}
-use lib.ListN.{length, length-append}
+use lib.ListN.{length}
 use borrow.Author.Tests.{not-false}
 use Rattle.packing.specs.Plant.{GATEWAYS, LINKS, LOWEST, HIGHEST, linked}
 use Rattle.packing.specs.Orders.{repeatsOrOutside}
-use Rattle.packing.specs.Refusals.{byNumber}
 use Rattle.packing.specs.Turns.{FirstNamed, LinkThere, firstEnd, secondEnd}
 use Rattle.packing.proofs.Turns.{Says, turn-done, turn-named, says-less, says-most, says-same, says-either, says-not, says-linked, says-first, says-order}
 use Rattle.sound.proofs.Facts.{sound-facts}
 use Rattle.planner.specs.Refusals.{openRefusal, linkConditions, orderConditions, placeConditions, readConditions}
-use Rattle.planner.specs.State.{State, soundState}
-use Rattle.planner.specs.Calls.{openCall, Call, link, order, place, read, conditions, callRefusal, call}
-use Rattle.planner.specs.Told.{Told, beginning, refuses, accepted, tellOne, tell}
-use Rattle.planner.specs.Turns.{openTurn, linkTurn, orderTurn, placeTurn, readTurn, turnOf, SoundFacts, callTurn, toldTurn, OpenExactly, CallExactly, ToldExactly}
+use Rattle.planner.specs.State.{soundState}
+use Rattle.planner.specs.Calls.{openCall, Call, link, order, place, read, conditionsOf, conditions, callRefusal, call}
+use Rattle.planner.specs.Told.{beginning, refuses, tell}
+use Rattle.planner.specs.Tells.{TellsPlant}
+use Rattle.planner.specs.Turns.{openTurn, linkTurn, orderTurn, placeTurn, readTurn, turnOf, callTurn, toldTurn, OpenExactly, CallExactly, ToldExactly}
+use Rattle.planner.proofs.Tells.{tells-accepted}
 
 pub open-exactly : OpenExactly
 unfolding OpenExactly openTurn openCall openRefusal
@@ -53,44 +53,24 @@ read-exactly n k leaders choke =
     turn-named (ltb k n) 25 _ _ (says-less k n)
     (λ _. turn-named (ltb (length leaders) n || ltb (length choke) n) 10 0 _ (says-either _ _ (says-less (length leaders) n) (says-less (length choke) n)) (λ _. turn-done))
 
--- the calls after 26, of a sound record
-after-sound : (s : State) (c : Call) → SoundFacts s → FirstNamed (turnOf s c) (conditions s c)
-unfolding turnOf conditions
-after-sound s (link a b) f = link-exactly _ _ _ _ _ _ a b (says-first (s .small .m) (s .links) a b (f .linksLong))
-after-sound s (order numbers) f = order-exactly _ _ numbers
-after-sound s place f = place-exactly _ _
-after-sound s (read leaders choke) f = read-exactly _ _ leaders choke
+-- each call after 26, where the test for a link says which of the m links it is
+calls-exactly : (n k m : ℕ) (l ls : List ℕ) (room : ℕ) → ((a b : ℕ) → Says (linked l a b) (LinkThere m (firstEnd ls) (secondEnd ls) a b)) → (c : Call)
+    → FirstNamed (turnOf n k m ls room c) (conditionsOf n k m l room c)
+calls-exactly n k m l ls room there (link a b) = link-exactly n k m l ls room a b (there a b)
+calls-exactly n k m l ls room there (order numbers) = order-exactly n k numbers
+calls-exactly n k m l ls room there place = place-exactly n k
+calls-exactly n k m l ls room there (read leaders choke) = read-exactly n k leaders choke
 
 pub call-exactly : CallExactly
-unfolding CallExactly callTurn call callRefusal soundState
+unfolding CallExactly callTurn call callRefusal conditions soundState
 call-exactly s c =
     let sound = sound-facts (s .small .n) (s .small .t) (s .small .m) (s .small .k) (s .links) (s .order) (s .holders) in
-    turn-named (not (soundState s)) 26 _ _ (says-not _ sound) (λ e. after-sound s c (sound .holds (not-false (soundState s) e)))
+    turn-named (not (soundState s)) 26 _ _ (says-not _ sound) (λ e. calls-exactly _ _ _ _ _ _ (λ a b. says-first (s .small .m) (s .links) a b (sound .holds (not-false (soundState s) e) .linksLong)) c)
 
--- the links told are whole links, two numbers for each of m
-whole-one : (p : Told) (c : Call) → length (p .links) ≡ 2 * p .m → length (tellOne p c .links) ≡ 2 * tellOne p c .m
-unfolding tellOne accepted
-whole-one p c w = by (refuses p c) c
-  where
-    by : (e : ℕ) (c : Call) → length (byNumber e (accepted p c) p .links) ≡ 2 * byNumber e (accepted p c) p .m
-    by zero (link a b) = omega (arith, w, length-append (p .links) (a ∷ b ∷ []))
-    by zero (order numbers) = w
-    by zero place = w
-    by zero (read leaders choke) = w
-    by (suc e) c = w
-
-whole : (p : Told) (calls : List Call) → length (p .links) ≡ 2 * p .m → length (tell p calls .links) ≡ 2 * tell p calls .m
-unfolding tell
-whole p [] w = w
-whole p (c ∷ calls) w = whole (tellOne p c) calls (whole-one p c w)
-
-told-exactly-by : (p : Told) (c : Call) → length (p .links) ≡ 2 * p .m → FirstNamed (toldTurn p c) (refuses p c)
-unfolding toldTurn refuses
-told-exactly-by p (link a b) w = link-exactly _ _ _ _ _ _ a b (says-linked (p .m) (p .links) a b w)
-told-exactly-by p (order numbers) w = order-exactly _ _ numbers
-told-exactly-by p place w = place-exactly _ _
-told-exactly-by p (read leaders choke) w = read-exactly _ _ leaders choke
-
+-- what the calls tell: the links are whole, two numbers for each of m
 pub told-exactly : ToldExactly
-unfolding ToldExactly beginning
-told-exactly n t room calls c = told-exactly-by (tell (beginning n t room) calls) c (whole (beginning n t room) calls refl)
+unfolding ToldExactly TellsPlant toldTurn refuses
+told-exactly n t room calls c =
+    let p = tell (beginning n t room) calls in
+    let plant = tells-accepted n t room calls in
+    calls-exactly _ _ _ _ _ _ (λ a b. says-linked (p .m) (p .links) a b (ap length (plant .links) ∙ sym (plant .count))) c

@@ -46,12 +46,16 @@ pub data Call : Type 0 where
   place : Call
   read : List ℕ → List ℕ → Call
 
--- each call's conditions, in 01's turn after 26
+-- each call's conditions, in 01's turn after 26, by n, the placings k, the links l so far with their number m, and the length room of the lent link list
+abbrev pub conditionsOf : (n k m : ℕ) (l : List ℕ) (room : ℕ) → Call → ℕ
+conditionsOf n k m l room (link a b) = linkConditions n k m l room a b
+conditionsOf n k m l room (order numbers) = orderConditions n k numbers
+conditionsOf n k m l room place = placeConditions n k
+conditionsOf n k m l room (read leaders choke) = readConditions n k (length leaders) (length choke)
+
+-- .. of a record
 unfoldable pub conditions : State → Call → ℕ
-conditions s (link a b) = linkConditions (s .small .n) (s .small .k) (s .small .m) (linksOf s) (length (s .links)) a b
-conditions s (order numbers) = orderConditions (s .small .n) (s .small .k) numbers
-conditions s place = placeConditions (s .small .n) (s .small .k)
-conditions s (read leaders choke) = readConditions (s .small .n) (s .small .k) (length leaders) (length choke)
+conditions s c = conditionsOf (s .small .n) (s .small .k) (s .small .m) (linksOf s) (length (s .links)) c
 
 -- "26. The record is not sound.", the first to be named
 unfoldable pub callRefusal : State → Call → ℕ

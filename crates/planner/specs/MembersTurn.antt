@@ -4,7 +4,7 @@ use mathlib.Core.Path.{_≡_}
 use mathlib.Core.Logic.{_⊎_, _↔_}
 use mathlib.Core.Bool.{true}
 use mathlib.Core.List.{List, []}
-use lib.ListN.{length, take}
+use lib.ListN.{length, take, drop}
 use Rattle.packing.specs.Lists.{Ascending, memberOf}
 use Rattle.packing.specs.Plant.{at}
 use Rattle.packing.specs.Grouping.{memberCount}
@@ -55,3 +55,9 @@ PartWritten =
     (leaders : List ℕ) (u : ℕ) (lent : List ℕ)
     → (take (length (membersPart leaders u (length lent))) (membersList leaders u lent) ≡ membersPart leaders u (length lent))
     × ((membersRefusal leaders u (length lent) ≡ 0 → ⊥) → (membersPart leaders u (length lent) ≡ []) × (membersList leaders u lent ≡ lent))
+
+-- .. and nothing past that part is changed
+unfoldable pub MembersPast : Type 0
+MembersPast =
+    (leaders : List ℕ) (u : ℕ) (lent : List ℕ)
+    → drop (length (membersPart leaders u (length lent))) (membersList leaders u lent) ≡ drop (length (membersPart leaders u (length lent))) lent

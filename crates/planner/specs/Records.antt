@@ -3,14 +3,13 @@ use Prim.Native.Nat.{ℕ, _+_, _*_, _<_}
 use mathlib.Core.Path.{_≡_}
 use mathlib.Core.Bool.{true}
 use mathlib.Core.List.{List}
-use lib.ListN.{length, drop}
+use lib.ListN.{drop}
 use Rattle.packing.specs.Plant.{at, linked}
 use Rattle.packing.specs.Grouping.{Grouping, covered}
 use Rattle.packing.specs.Holders.{held}
 use Rattle.stars.specs.Stars.{leaderList}
 use Rattle.planner.specs.State.{State, stateOf, linksOf, limitOf}
 use Rattle.planner.specs.Calls.{openCall, Call, link, order, place, read, call, readLeaders, readChoke}
-use Rattle.planner.specs.Members.{membersPart, membersList}
 use Rattle.planner.specs.Turns.{SoundFacts}
 
 -- Open (n, T, lists): "order 0, 1, .., no holder, m = 0, k = 0", entry by entry, and nothing past n
@@ -91,16 +90,11 @@ pub record Past (before after : State) : Type 0 where
 unfoldable pub PastUnchanged : Type 0
 PastUnchanged = (s : State) (c : Call) → Past s (call s c .state)
 
--- "Of any other lent list a call changes only what it is said to write": read the first n of both, members their count
+-- "Of any other lent list a call changes only what it is said to write": read the first n of both
 unfoldable pub ReadPast : Type 0
 ReadPast =
     (s : State) (leaders choke : List ℕ)
     → (drop (s .small .n) (readLeaders s leaders choke) ≡ drop (s .small .n) leaders) × (drop (s .small .n) (readChoke s leaders choke) ≡ drop (s .small .n) choke)
-
-unfoldable pub MembersPast : Type 0
-MembersPast =
-    (leaders : List ℕ) (u : ℕ) (lent : List ℕ)
-    → drop (length (membersPart leaders u (length lent))) (membersList leaders u lent) ≡ drop (length (membersPart leaders u (length lent))) lent
 
 -- "Every held gateway is covered": by the leader list of any sound record, at any k. The list is a grouping of the record's plant.
 unfoldable pub HeldCovered : Type 0

@@ -1,12 +1,10 @@
 -- 01, "Demand 3": what the calls alone tell. No record is looked at: only what open was handed, and the calls.
 use Prim.Native.Nat.{ℕ, _+_}
 use mathlib.Core.List.{List, [], _∷_, _++_}
-use lib.ListN.{length}
 use Rattle.packing.specs.Orders.{upTo}
 use Rattle.packing.specs.Plant.{common}
 use Rattle.packing.specs.Refusals.{byNumber}
-use Rattle.planner.specs.Refusals.{linkConditions, orderConditions, placeConditions, readConditions}
-use Rattle.planner.specs.Calls.{Call, link, order, place, read}
+use Rattle.planner.specs.Calls.{Call, link, order, place, read, conditionsOf}
 
 -- n and T as open was handed them, a limit for each gateway, the length of the lent link list, the links accepted so far with their number, the order last accepted, the placings so far
 pub record Told : Type 0 where
@@ -25,10 +23,7 @@ beginning n t room = record { n = n; t = t; limit = common t; room = room; links
 
 -- "The calls alone tell which of them were accepted: those for which no refusal's condition holds." The first number whose condition holds; 26 never does.
 unfoldable pub refuses : Told → Call → ℕ
-refuses p (link a b) = linkConditions (p .n) (p .placed) (p .m) (p .links) (p .room) a b
-refuses p (order numbers) = orderConditions (p .n) (p .placed) numbers
-refuses p place = placeConditions (p .n) (p .placed)
-refuses p (read leaders choke) = readConditions (p .n) (p .placed) (length leaders) (length choke)
+refuses p c = conditionsOf (p .n) (p .placed) (p .m) (p .links) (p .room) c
 
 -- what an accepted call tells
 unfoldable pub accepted : Told → Call → Told

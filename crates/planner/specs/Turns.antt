@@ -45,26 +45,23 @@ placeTurn n k = named 24 (k ≡ n) done
 unfoldable pub readTurn : ℕ → ℕ → List ℕ → List ℕ → Turn
 readTurn n k leaders choke = named 25 (k < n) (named 10 ((length leaders < n) ⊎ (length choke < n)) done)
 
--- .. each of a record
-unfoldable pub turnOf : State → Call → Turn
-turnOf s (link a b) = linkTurn (s .small .n) (s .small .k) (s .small .m) (s .links) (length (s .links)) a b
-turnOf s (order numbers) = orderTurn (s .small .n) (s .small .k) numbers
-turnOf s place = placeTurn (s .small .n) (s .small .k)
-turnOf s (read leaders choke) = readTurn (s .small .n) (s .small .k) leaders choke
+-- .. each by n, the placings k, the m links, and the length of the lent link list
+abbrev pub turnOf : (n k m : ℕ) (ls : List ℕ) (room : ℕ) → Call → Turn
+turnOf n k m ls room (link a b) = linkTurn n k m ls room a b
+turnOf n k m ls room (order numbers) = orderTurn n k numbers
+turnOf n k m ls room place = placeTurn n k
+turnOf n k m ls room (read leaders choke) = readTurn n k leaders choke
 
 -- "26. The record is not sound."
 abbrev pub SoundFacts : State → Type 0
 SoundFacts s = Facts (s .small .n) (s .small .t) (s .small .m) (s .small .k) (s .links) (s .order) (s .holders)
 
 unfoldable pub callTurn : State → Call → Turn
-callTurn s c = named 26 (SoundFacts s → ⊥) (turnOf s c)
+callTurn s c = named 26 (SoundFacts s → ⊥) (turnOf (s .small .n) (s .small .k) (s .small .m) (s .links) (length (s .links)) c)
 
 -- .. and of what the calls alone tell: "the links, m and k are the links accepted so far, their number, and the placings so far; 26 never holds"
 unfoldable pub toldTurn : Told → Call → Turn
-toldTurn p (link a b) = linkTurn (p .n) (p .placed) (p .m) (p .links) (p .room) a b
-toldTurn p (order numbers) = orderTurn (p .n) (p .placed) numbers
-toldTurn p place = placeTurn (p .n) (p .placed)
-toldTurn p (read leaders choke) = readTurn (p .n) (p .placed) leaders choke
+toldTurn p c = turnOf (p .n) (p .placed) (p .m) (p .links) (p .room) c
 
 -- The statements. Open, for anything handed in:
 unfoldable pub OpenExactly : Type 0

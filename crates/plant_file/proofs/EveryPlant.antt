@@ -1,16 +1,16 @@
 -- The file of a plant is accepted: no condition of its turn holds.
 use Prim.Native.Nat.{ℕ, zero, suc, _+_, _*_, _/_, _%_, _<_}
 use mathlib.Core.Path.{_≡_, refl, sym, ap, _∙_}
-use mathlib.Core.Logic.{inr, ⊎-elim}
+use mathlib.Core.Logic.{⊎-elim}
 use mathlib.Core.List.{List}
 use native.Mathlib.Omega.{arith}
 use lib.ListN.{length}
 use lib.Dec.{eqb}
 use borrow.Author.Tests.{eqb-true, eqb-false}
 use Rattle.packing.specs.Plant.{at}
-use Rattle.packing.specs.Turns.{Turn, done, named, FirstNamed, LinkThere, firstEnd, secondEnd, RepeatsOrOutside}
+use Rattle.packing.specs.Turns.{Turn, done, FirstNamed, LinkThere, firstEnd, secondEnd, RepeatsOrOutside}
 use Rattle.packing.proofs.Tests.{by-bool}
-use Rattle.packing.proofs.Turns.{turn-done, named-once}
+use Rattle.packing.proofs.Turns.{turn-done, turn-passed, named-once}
 use Rattle.plant_file.specs.PlantFile.{number, fileN, fileT, fileM, fileLinks, fileOrder}
 use Rattle.plant_file.specs.Turns.{eachLink, fileTurn, FileExactly}
 use Rattle.plant_file.specs.Encode.{encode, lowFirst}
@@ -18,11 +18,6 @@ use Rattle.plant_file.specs.EveryPlant.{InRange, FileOf, EveryPlant}
 use Rattle.plant_file.proofs.LinksByIndex.{orderNumber, order-at, link-first, link-second}
 use Rattle.plant_file.proofs.Encode.{encode-long, encode-n, encode-t, encode-m, encode-links, encode-order, encode-bytes}
 use Rattle.plant_file.proofs.Turns.{file-exactly}
-
--- a condition that does not hold names nothing
-turn-passed : (d : ℕ) {Condition : Type 0} (later : Turn) (e : ℕ) → (Condition → ⊥) → FirstNamed later e → FirstNamed (named d Condition later) e
-unfolding FirstNamed
-turn-passed d later e fails f = inr (fails, f)
 
 -- link j is not refused
 record LinkFine (n : ℕ) (first second : ℕ → ℕ) (j : ℕ) : Type 0 where

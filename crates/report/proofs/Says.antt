@@ -1,26 +1,21 @@
 -- The listing says what 01 says of it.
 use Prim.Native.Nat.{ℕ, zero, suc, _+_}
 use mathlib.Core.Path.{_≡_, refl, sym, ap, _∙_}
-use mathlib.Core.Bool.{Bool, true, false, not, cond}
+use mathlib.Core.Bool.{Bool, true, false, cond}
 use mathlib.Core.List.{List, [], _∷_, _++_, append-nil, append-assoc}
 use native.Mathlib.Omega.{arith}
 use lib.Dec.{eqb}
 use lib.ListN.{length}
-use borrow.Author.Tests.{eqb-true, eqb-false, eq-eqb, ne-eqb, not-true}
+use borrow.Author.Tests.{eqb-true, eq-eqb}
 use Rattle.packing.specs.Lists.{listWhere}
 use Rattle.packing.specs.Plant.{NONE, at}
 use Rattle.packing.specs.Grouping.{follows, membersOf, isAlone, covered}
-use Rattle.packing.proofs.Lists.{listWhere-length, listWhere-in, listWhere-out, listWhere-ascending}
+use Rattle.packing.proofs.Lists.{listWhere-length, lists-where}
+use Rattle.packing.proofs.Groupings.{follows-is, follows-means}
 use Rattle.packing.proofs.Sums.{count-bound}
-use Rattle.packing.proofs.Tests.{and-l, and-r, and-i, not-i}
 use Rattle.report.specs.Text.{field, line, wordLead, wordMembers, coveredCount, lineOne, leadLine, leadLines, aloneLine, chokeLine, listing}
-use Rattle.report.specs.Says.{Lists, groupLines, ListingSays}
+use Rattle.report.specs.Says.{groupLines, ListingSays}
 use Rattle.report.proofs.LineParts.{covered-rest}
-
--- those below n with a test, where the test is a property in words
-lists-where : (n : ℕ) (p : ℕ → Bool) {Has : ℕ → Type 0} → ((v : ℕ) → p v ≡ true → Has v) → ((v : ℕ) → Has v → p v ≡ true) → Lists n Has (listWhere n p)
-lists-where n p to from =
-    record { just = λ v. (λ e. let (l, t) = listWhere-out n p v e in (l, to v t), λ h. listWhere-in n p v (h .0) (from v (h .1))); ascending = listWhere-ascending n p }
 
 -- the lines of the groups
 group-append : (a b : List ℕ) (members : ℕ → List ℕ) → groupLines (a ++ b) members ≡ groupLines a members ++ groupLines b members
@@ -40,13 +35,6 @@ module _ (n : ℕ) (leaders : List ℕ) where
   groups zero = refl
   groups (suc i) = ap (λ (l : List ℕ). l ++ leadLine n leaders i) (groups i) ∙ group-step (eqb (at leaders i) i) (listWhere i (λ u. eqb (at leaders u) u)) i (membersOf n (at leaders))
 
-  -- a member by its two facts
-  member-test : (u w : ℕ) → follows (at leaders) u w ≡ true → (at leaders w ≡ u) × (w ≡ u → ⊥)
-  member-test u w e = (eqb-true (at leaders w) u (and-l (eqb (at leaders w) u) (not (eqb w u)) e), eqb-false w u (not-true (eqb w u) (and-r (eqb (at leaders w) u) (not (eqb w u)) e)))
-
-  test-member : (u w : ℕ) → (at leaders w ≡ u) × (w ≡ u → ⊥) → follows (at leaders) u w ≡ true
-  test-member u w h = and-i (eqb (at leaders w) u) (not (eqb w u)) (eq-eqb (at leaders w) u (h .0)) (not-i (eqb w u) (ne-eqb w u (h .1)))
-
   all-but : coveredCount n leaders + length (listWhere n (isAlone (at leaders))) ≡ n
   all-but = omega (arith, covered-rest n leaders refl, listWhere-length n (isAlone (at leaders)), count-bound n (isAlone (at leaders)))
 
@@ -61,7 +49,7 @@ listing-says n t leaders choke =
       chokes = listWhere n (λ v. eqb (at choke v) 1);
       counted = all-but n leaders;
       leads = lists-where n (λ u. eqb (at leaders u) u) (λ u. eqb-true (at leaders u) u) (λ u. eq-eqb (at leaders u) u);
-      led = λ u. lists-where n (follows (at leaders) u) (member-test n leaders u) (test-member n leaders u);
+      led = λ u. lists-where n (follows (at leaders) u) (λ w. follows-means (at leaders) u w) (λ w h. follows-is (at leaders) u w (h .0) (h .1));
       unled = lists-where n (isAlone (at leaders)) (λ v. eqb-true (at leaders v) NONE) (λ v. eq-eqb (at leaders v) NONE);
       choked = lists-where n (λ v. eqb (at choke v) 1) (λ v. eqb-true (at choke v) 1) (λ v. eq-eqb (at choke v) 1);
       is = rw (groups n leaders n);

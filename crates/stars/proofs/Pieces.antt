@@ -169,6 +169,7 @@ pub pieces : (n : ℕ) (hs : List ℕ) → n ≤ NONE → Pieces n hs
 pieces n hs few =
     record {
       sorted = connected-sorts n hs;
+      ends = way-ends n hs few;
       each = λ v l. let (i, _, below, end) = way-ends n hs few v l in let here = back-connected n hs few v i below in
           ⊎-elim (λ top. inl (tree n hs few _ top v here (i, refl))) (λ on. inr (one-cycle n hs few _ below on v here (i, refl))) end;
       circles = circle-cycle n hs few;

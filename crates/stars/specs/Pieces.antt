@@ -68,8 +68,10 @@ pub record Circle (n : ℕ) (hs : List ℕ) (length : ℕ) (c : ℕ → ℕ) : T
   pub apart : (i j : ℕ) → i < j → j < length → c i ≡ c j → ⊥
 
 -- "Each connected piece of arcs is a tree, or one cycle with trees hanging from it."
+-- `ends`: every way back from a gateway ends at a root or on a cycle, after fewer than n arcs.
 -- `circles`: nothing goes round but cycles, whichever way arcs are taken; so a tree has no circle either. (Two that hold each other, and one that holds itself, are on a cycle as they stand.)
 pub record Pieces (n : ℕ) (hs : List ℕ) : Type 0 where
   pub sorted : Sorts n hs
+  pub ends : (v : ℕ) → v < n → (i : ℕ) × (i < n) × (back n hs i v < n) × (Root n hs (back n hs i v) ⊎ (onCycle n hs (back n hs i v) ≡ true))
   pub each : (v : ℕ) → v < n → Tree n hs v ⊎ OneCycle n hs v
   pub circles : (length : ℕ) (c : ℕ → ℕ) → Circle n hs length c → (i : ℕ) → i < length → onCycle n hs (c i) ≡ true
