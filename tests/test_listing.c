@@ -3,17 +3,15 @@
  * Arguments: the program, an empty folder to work in, the plant file of document 01's listing.
  */
 #define _POSIX_C_SOURCE 200809L
-#include <fcntl.h>
 #include <stdio.h>
-#include <stdlib.h>
 #include <string.h>
-#include <sys/wait.h>
 #include <unistd.h>
 
 #include "families.h"
 #include "file_rules.h"
 #include "judge.h"
 #include "listing_text.h"
+#include "outside.h"
 #include "plan_groups.h"
 #include "tally.h"
 
@@ -25,44 +23,16 @@ static uint8_t file[MAX_PLANT];
 static size_t len;
 static char listed[MAX_TEXT + 1], expected[MAX_TEXT + 1];
 
-static size_t load(const char *name, void *at, size_t most)
-{
-    FILE *f = fopen(name, "rb");
-    if (f == NULL)
-        return 0;
-    size_t got = fread(at, 1, most, f);
-    fclose(f);
-    return got;
-}
-
 static void store_plant(void)
 {
-    FILE *f = fopen("plant.plt", "wb");
-    if (f == NULL || fwrite(file, 1, len, f) != len || fclose(f) != 0) {
-        perror("plant.plt");
-        exit(2);
-    }
-}
-
-static void run_program(void)
-{
-    int in = open("/dev/null", O_RDONLY);
-    int out = open("listed", O_WRONLY | O_CREAT | O_TRUNC, 0666);
-    if (in < 0 || out < 0 || dup2(in, 0) < 0 || dup2(out, 1) < 0)
-        _exit(126);
-    execl(program, program, (char *)NULL);
-    _exit(127);
+    store("plant.plt", file, len);
 }
 
 /* Runs the program; false where it ends badly. What it printed is then in listed. */
 static bool list(size_t *length)
 {
-    int status;
-    fflush(stdout);
-    pid_t child = fork();
-    if (child == 0)
-        run_program();
-    if (child < 0 || waitpid(child, &status, 0) != child || !WIFEXITED(status) || WEXITSTATUS(status) != 0)
+    char *const words[] = {(char *)program, NULL};
+    if (run_said(words, "listed", false) != 0)
         return false;
     *length = load("listed", listed, MAX_TEXT);
     return true;

@@ -3,14 +3,12 @@
  * Arguments: the script, an empty folder to work in. The last plant packed is left in plant.plt.
  */
 #define _POSIX_C_SOURCE 200809L
-#include <fcntl.h>
 #include <stdio.h>
-#include <stdlib.h>
 #include <string.h>
-#include <sys/wait.h>
 #include <unistd.h>
 
 #include "families.h"
+#include "outside.h"
 #include "plan_groups.h"
 #include "tally.h"
 
@@ -20,45 +18,16 @@ static const char *script;
 static struct plant plant;
 static uint8_t file[MAX_FILE], packed[MAX_FILE + 1], out[PLAN_GROUPS_OUT_MAX];
 
-static void must(bool ok, const char *what)
-{
-    if (ok)
-        return;
-    perror(what);
-    exit(2);
-}
-
-static size_t load(const char *name, void *at, size_t most)
-{
-    FILE *f = fopen(name, "rb");
-    if (f == NULL)
-        return 0;
-    size_t got = fread(at, 1, most, f);
-    fclose(f);
-    return got;
-}
-
 /* Packs plant.txt into plant.plt; what is said goes to the file said. The script's status. */
 static int pack(void)
 {
-    int status;
-    fflush(stdout);
-    pid_t child = fork();
-    if (child == 0) {
-        int said = open("said", O_WRONLY | O_CREAT | O_TRUNC, 0666);
-        if (said < 0 || dup2(said, 1) < 0 || dup2(said, 2) < 0)
-            _exit(126);
-        execl(script, script, "plant.txt", "plant.plt", (char *)NULL);
-        _exit(127);
-    }
-    must(child > 0 && waitpid(child, &status, 0) == child, "no process");
-    return WIFEXITED(status) ? WEXITSTATUS(status) : -1;
+    char *const words[] = {(char *)script, "plant.txt", "plant.plt", NULL};
+    return run_said(words, "said", true);
 }
 
 static void write_text(const char *text)
 {
-    FILE *f = fopen("plant.txt", "w");
-    must(f != NULL && fputs(text, f) >= 0 && fclose(f) == 0, "plant.txt");
+    store("plant.txt", text, strlen(text));
 }
 
 /* A text that is refused: the words that are said, and no plant file. */

@@ -2,11 +2,11 @@
 #define _DEFAULT_SOURCE /* for MAP_ANONYMOUS */
 #include <pthread.h>
 #include <stdio.h>
-#include <stdlib.h>
 #include <string.h>
 #include <sys/mman.h>
 
 #include "families.h"
+#include "outside.h"
 #include "plan_groups.h"
 #include "tally.h"
 
@@ -20,14 +20,6 @@ struct job {
 };
 
 static struct plant plant;
-
-static void must(bool ok, const char *what)
-{
-    if (ok)
-        return;
-    perror(what);
-    exit(2);
-}
 
 static void job_of(struct job *j)
 {

@@ -34,7 +34,7 @@ OpenRefused =
     → openCall n t ls os hs .state ≡ stateOf (record { n = 0; t = 2; m = 0; k = 0 }) ls os hs
 
 -- "Link (a, b): appended": behind the m links that are there, and m rises by one
-pub record Linked (s : State) (a b : ℕ) (after : State) : Type 0 where
+pub record AfterLink (s : State) (a b : ℕ) (after : State) : Type 0 where
   pub gateways : after .small .n ≡ s .small .n
   pub limit : after .small .t ≡ s .small .t
   pub oneMore : after .small .m ≡ s .small .m + 1
@@ -46,20 +46,20 @@ pub record Linked (s : State) (a b : ℕ) (after : State) : Type 0 where
   pub holders : after .holders ≡ s .holders
 
 unfoldable pub LinkGives : Type 0
-LinkGives = (s : State) (a b : ℕ) → call s (link a b) .refusal ≡ 0 → Linked s a b (call s (link a b) .state)
+LinkGives = (s : State) (a b : ℕ) → call s (link a b) .refusal ≡ 0 → AfterLink s a b (call s (link a b) .state)
 
 -- "Order (n numbers): replaces the order"
-pub record Ordered (s : State) (numbers : List ℕ) (after : State) : Type 0 where
+pub record AfterOrder (s : State) (numbers : List ℕ) (after : State) : Type 0 where
   pub small : after .small ≡ s .small
   pub links : after .links ≡ s .links
   pub order : (i : ℕ) → i < s .small .n → at (after .order) i ≡ at numbers i
   pub holders : after .holders ≡ s .holders
 
 unfoldable pub OrderGives : Type 0
-OrderGives = (s : State) (numbers : List ℕ) → call s (order numbers) .refusal ≡ 0 → Ordered s numbers (call s (order numbers) .state)
+OrderGives = (s : State) (numbers : List ℕ) → call s (order numbers) .refusal ≡ 0 → AfterOrder s numbers (call s (order numbers) .state)
 
 -- "Place: .. k rises by one"; what it does to the holders is said in search/specs/Search.antt, and in Kept.antt
-pub record OnePlaced (s after : State) : Type 0 where
+pub record AfterPlace (s after : State) : Type 0 where
   pub gateways : after .small .n ≡ s .small .n
   pub limit : after .small .t ≡ s .small .t
   pub linkCount : after .small .m ≡ s .small .m
@@ -68,7 +68,7 @@ pub record OnePlaced (s after : State) : Type 0 where
   pub order : after .order ≡ s .order
 
 unfoldable pub PlaceGives : Type 0
-PlaceGives = (s : State) → call s place .refusal ≡ 0 → OnePlaced s (call s place .state)
+PlaceGives = (s : State) → call s place .refusal ≡ 0 → AfterPlace s (call s place .state)
 
 -- Read changes nothing of the record.
 unfoldable pub ReadGives : Type 0

@@ -40,7 +40,7 @@ placings (place ∷ calls) = 1 + placings calls
 placings (read leaders choke ∷ calls) = placings calls
 
 -- what was told is the plant of the accepted calls
-pub record PlantOf (n t : ℕ) (accepted : List Call) (told : Told) : Type 0 where
+pub record PlantTold (n t : ℕ) (accepted : List Call) (told : Told) : Type 0 where
   pub gateways : told .n ≡ n
   pub limit : told .t ≡ t
   pub limits : (u : ℕ) → told .limit u ≡ t
@@ -51,4 +51,4 @@ pub record PlantOf (n t : ℕ) (accepted : List Call) (told : Told) : Type 0 whe
 
 -- by any list of calls; room is the length of the lent link list
 unfoldable pub TellsPlant : Type 0
-TellsPlant = (n t room : ℕ) (calls : List Call) → PlantOf n t (acceptedBy (toldNumbers (beginning n t room) calls) calls) (tell (beginning n t room) calls)
+TellsPlant = (n t room : ℕ) (calls : List Call) → PlantTold n t (acceptedBy (toldNumbers (beginning n t room) calls) calls) (tell (beginning n t room) calls)
