@@ -6,3 +6,4 @@ pub mod LineParts
 pub mod Lengths
 pub mod Alike
 pub mod Says
+pub mod Decimal

@@ -2,3 +2,4 @@
 pub mod Text
 pub mod Pre
 pub mod Says
+pub mod Decimal
