@@ -1,4 +1,4 @@
-/* Partner groups of a plant, by T-star packing: the one call for programs in C. */
+/* Partner groups of a plant, by T-star packing: the calls for programs in C. */
 #ifndef PLAN_GROUPS_H
 #define PLAN_GROUPS_H
 
@@ -77,6 +77,29 @@ extern "C" {
  * T has one byte; every other number has two, low byte first.
  */
 uint32_t plan_groups(const uint8_t *file, size_t file_len, uint8_t *out, size_t out_len);
+
+/*
+ * Plans the groups of the plant while it is being placed: after so many placings.
+ *
+ *   placings   how many gateways are placed, from the front of the order: 0 to n.
+ *
+ * All else is as for plan_groups: what is lent, what is written, what is used, and the refusals. One more
+ * refusal stands after the file's own and before 10:
+ *
+ *   24   placings is above n
+ *
+ * With placings = n the answer is that of plan_groups, byte for byte.
+ *
+ * The leaders are the groups for the holders so far, a packing as ever. Of the first placings gateways in
+ * the order those that are kept are covered and those that are left are alone, and for every j up to
+ * placings no grouping covers more of the first j in the order. Who is alone of these stays alone, and
+ * who is covered stays covered, as more are placed; who leads whom may change. A gateway that is not
+ * yet placed may be covered too, where a placed one needs it for a partner, and may be alone later.
+ *
+ * The choke set is that of the holders so far, and starts from all gateways without one, placed or not.
+ * Take it away and count: the difference is the number alone where placings = n, and need not be before.
+ */
+uint32_t plan_groups_after(const uint8_t *file, size_t file_len, uint32_t placings, uint8_t *out, size_t out_len);
 
 #ifdef __cplusplus
 }

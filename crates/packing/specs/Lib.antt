@@ -7,4 +7,5 @@ pub mod Refusals
 pub mod Turns
 pub mod Grouping
 pub mod Holders
+pub mod SoFar
 pub mod Choke
