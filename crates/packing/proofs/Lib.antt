@@ -14,5 +14,6 @@ pub mod Placing
 pub mod Groupings
 pub mod Below
 pub mod Prefixes
+pub mod SoFar
 pub mod Barrier
 pub mod Links

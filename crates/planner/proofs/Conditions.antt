@@ -72,9 +72,8 @@ unfolding placeConditions
 place-next n k h = rw (ne-eqb k n h)
 
 -- .. of read
-pub read-allowed : (n k leaders choke : ℕ) → readConditions n k leaders choke ≡ 0 → (n ≤ k) × (n ≤ leaders) × (n ≤ choke)
+pub read-allowed : (n leaders choke : ℕ) → readConditions n leaders choke ≡ 0 → (n ≤ leaders) × (n ≤ choke)
 unfolding readConditions
-read-allowed n k leaders choke z =
-    let f25 = refuse-none (ltb k n) 25 _ (omega arith) z in
-    let f10 = refuse-none (ltb leaders n || ltb choke n) 10 0 (omega arith) (f25 .1) in
-    (ltb-false k n (f25 .0), ltb-false leaders n (or-false-l _ _ (f10 .0)), ltb-false choke n (or-false-r (ltb leaders n) _ (f10 .0)))
+read-allowed n leaders choke z =
+    let f10 = refuse-none (ltb leaders n || ltb choke n) 10 0 (omega arith) z in
+    (ltb-false leaders n (or-false-l _ _ (f10 .0)), ltb-false choke n (or-false-r (ltb leaders n) _ (f10 .0)))

@@ -12,5 +12,6 @@ pub mod Demands
 pub mod Kept
 pub mod LeftNext
 pub mod Table
+pub mod Early
 pub mod MembersLaws
 pub mod MembersTurn

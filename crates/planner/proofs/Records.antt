@@ -18,6 +18,7 @@ use Rattle.sound.specs.Facts.{SoundMeans}
 use Rattle.sound.proofs.Facts.{sound-means-facts}
 use Rattle.sound.proofs.Meaning.{sound-means}
 use Rattle.stars.specs.Stars.{leaderList}
+use Rattle.search.specs.ChokeSet.{chokeByte}
 use Rattle.planner.specs.State.{State, stateOf, linksOf, limitOf, soundState}
 use Rattle.planner.specs.Calls.{smallOpened, opened, openCall, Call, link, order, place, read, conditions, callRefusal, changed, call, readLeaders, readChoke}
 use Rattle.planner.specs.Records.{OpenGives, OpenRefused, LinkGives, OrderGives, PlaceGives, ReadGives, RefusedUnchanged, ReadRefused, Past, PastUnchanged, ReadPast, HeldCovered, ReadWrites}
@@ -140,7 +141,10 @@ held-covered s f =
     (sound-grouping sound, leaders-cover sound)
 
 pub read-writes : ReadWrites
-unfolding ReadWrites SoundMeans call callRefusal soundState readLeaders
+unfolding ReadWrites SoundMeans call callRefusal soundState readLeaders readChoke
 read-writes s leaders choke z =
-    let sound = not-false (soundState s) (refuse-none (not (soundState s)) 26 (conditions s (read leaders choke)) (omega arith) z .0) in
-    (sound-means-facts (s .small .n) (s .small .t) (s .small .m) (s .small .k) (s .links) (s .order) (s .holders) .0 sound, λ v l. rw z (listed-at (s .small .n) (leaderList (s .small .n) (s .holders)) leaders v l))
+    let sound = not-false (soundState s) (refuse-none (not (soundState s)) 26 (conditions s (read leaders choke)) (omega arith) z .0) in (
+      sound-means-facts (s .small .n) (s .small .t) (s .small .m) (s .small .k) (s .links) (s .order) (s .holders) .0 sound,
+      λ v l. rw z (listed-at (s .small .n) (leaderList (s .small .n) (s .holders)) leaders v l),
+      λ v l. rw z (listed-at (s .small .n) (chokeByte (s .small .n) (linksOf s) (s .holders)) choke v l),
+    )

@@ -1,7 +1,7 @@
--- The table of the cases marked P: the checker computes that every row holds, and what a row that holds means.
+-- The tables of specs/Cases.antt: the checker computes that every row holds, and what a row that holds means.
 use Prim.Native.Nat.{ℕ, zero, suc, _<_}
 use mathlib.Core.Path.{_≡_, refl, ap, _∙_}
-use mathlib.Core.Bool.{true, false≢true}
+use mathlib.Core.Bool.{true, _&&_, false≢true}
 use mathlib.Core.List.{List, [], _∷_}
 use native.Mathlib.Nat.{not-suc-le-zero, le-of-suc-le-suc}
 use lib.ListN.{length, getD, replicate}
@@ -23,13 +23,12 @@ use Rattle.planner.specs.Refusals.{openRefusal, linkConditions, orderCon
 use Rattle.planner.specs.State.{limitOf, soundState}
 use Rattle.planner.specs.Calls.{opened, openCall, conditions, callRefusal, changed, call, readLeaders, readChoke}
 use Rattle.planner.specs.Run.{run, linkCalls, placeCalls}
-use Rattle.planner.specs.Cases.{Row, stands, reads, holds, gives, differs, after, leadersOf, chokeOf, sameList, rowHolds, empty, one, two, path, star, starBack, star4, listed, ring, table, rowsHold, Means}
-use Rattle.planner.specs.Claims.{chokeRead}
+use Rattle.planner.specs.Cases.{Row, stands, reads, holds, gives, differs, after, leadersOf, chokeOf, withoutLink, limitsOf, aloneOf, sameList, rowHolds, empty, one, two, path, star, starBack, star4, listed, ring, table, early, rowsHold, Means}
 
--- the whole table, computed
-pub table-holds : rowsHold table ≡ true
-unfolding sum count sumOver all any listOf listWhere common firstLinks linked neighbours memberCount heldCount stranded numbersSound listsLong endsSound onceEach holdersLinked holdersWithin onlyPlacedHeld isSound heldBy look visit turn turns walk shift settled placedHolders firstWith holder back onCycle nextOnCycle leadsIn leadsInTrees begins cut leads leaderOf pairLeader partner ruleFive leaderListBy leaderList withoutHolder chokeWalk seenIn walkSaw inChoke chokeByte upTo written repeatsOrOutside openRefusal linkConditions orderConditions placeConditions readConditions limitOf soundState opened openCall conditions callRefusal changed call readLeaders readChoke run linkCalls placeCalls after leadersOf chokeOf sameList rowHolds empty one two path star starBack star4 listed ring table rowsHold
-table-holds = refl
+-- the whole of both, computed
+pub tables-hold : (rowsHold table ≡ true) × (rowsHold early ≡ true)
+unfolding sum count sumOver all any listOf listWhere common firstLinks linked neighbours memberCount heldCount stranded numbersSound listsLong endsSound onceEach holdersLinked holdersWithin onlyPlacedHeld isSound heldBy look visit turn turns walk shift settled placedHolders firstWith holder back onCycle nextOnCycle leadsIn leadsInTrees begins cut leads leaderOf pairLeader partner ruleFive leaderListBy leaderList withoutHolder chokeWalk seenIn walkSaw inChoke chokeByte upTo written repeatsOrOutside openRefusal linkConditions orderConditions placeConditions readConditions limitOf soundState opened openCall conditions callRefusal changed call readLeaders readChoke run linkCalls placeCalls after leadersOf chokeOf withoutLink limitsOf aloneOf sameList rowHolds empty one two path star starBack star4 listed ring table early rowsHold
+tables-hold = (refl, refl)
 
 same-list : (l r : List ℕ) → sameList l r ≡ true → l ≡ r
 unfolding sameList
@@ -42,17 +41,18 @@ same-list (x ∷ xs) (y ∷ ys) e =
 row-means : (r : Row) → rowHolds r ≡ true → Means r
 unfolding rowHolds
 row-means (stands p numbers) e = same-list (after p 0 .order) numbers e
-row-means (reads p leaders choke) e = (
-  same-list (leadersOf p) leaders (and-l (sameList (leadersOf p) leaders) (sameList (chokeOf p) choke) e),
-  same-list (chokeOf p) choke (and-r (sameList (leadersOf p) leaders) (sameList (chokeOf p) choke) e),
+row-means (reads p k leaders choke) e = (
+  same-list (leadersOf p k) leaders (and-l (sameList (leadersOf p k) leaders) (sameList (chokeOf p k) choke) e),
+  same-list (chokeOf p k) choke (and-r (sameList (leadersOf p k) leaders) (sameList (chokeOf p k) choke) e),
 )
 row-means (holds p k holders) e = same-list (after p k .holders) holders e
 row-means (gives p k c e) f = eqb-true (call (after p k) c .refusal) e f
-row-means (differs p without limits) e =
-    let s = chokeRead (after p (p .n)) (replicate (p .n) 0) (replicate (p .n) 0) in
-    let a = count (p .n) (stranded (p .n) (linked (p .links)) s) in
-    let b = sumOver (p .n) s (common (p .t)) in
-    (eqb-true a without (and-l (eqb a without) (eqb b limits) e), eqb-true b limits (and-r (eqb a without) (eqb b limits) e))
+row-means (differs p k without limits alone) e =
+    let both = and-l (eqb (withoutLink p k) without && eqb (limitsOf p k) limits) (eqb (aloneOf p k) alone) e in (
+      eqb-true _ without (and-l (eqb (withoutLink p k) without) (eqb (limitsOf p k) limits) both),
+      eqb-true _ limits (and-r (eqb (withoutLink p k) without) (eqb (limitsOf p k) limits) both),
+      eqb-true _ alone (and-r (eqb (withoutLink p k) without && eqb (limitsOf p k) limits) (eqb (aloneOf p k) alone) e),
+    )
 
 rows-mean : (rows : List Row) → rowsHold rows ≡ true → (i : ℕ) → i < length rows → (d : Row) → Means (getD rows i d)
 unfolding rowsHold
@@ -60,6 +60,9 @@ rows-mean [] e i l d = absurd (not-suc-le-zero l)
 rows-mean (r ∷ rows) e zero l d = row-means r (and-l (rowHolds r) (rowsHold rows) e)
 rows-mean (r ∷ rows) e (suc i) l d = rows-mean rows (and-r (rowHolds r) (rowsHold rows) e) i (le-of-suc-le-suc l) d
 
--- each row of the table means what it says
+-- each row of both means what it says
 pub case : (i : ℕ) → i < length table → (d : Row) → Means (getD table i d)
-case = rows-mean table table-holds
+case = rows-mean table (tables-hold .0)
+
+pub early-case : (i : ℕ) → i < length early → (d : Row) → Means (getD early i d)
+early-case = rows-mean early (tables-hold .1)

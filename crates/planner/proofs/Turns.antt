@@ -47,11 +47,10 @@ place-exactly : (n k : ℕ) → FirstNamed (placeTurn n k) (placeConditions n k)
 unfolding placeTurn placeConditions
 place-exactly n k = turn-named (eqb k n) 24 0 _ (says-same k n) (λ _. turn-done)
 
-read-exactly : (n k : ℕ) (leaders choke : List ℕ) → FirstNamed (readTurn n k leaders choke) (readConditions n k (length leaders) (length choke))
+read-exactly : (n : ℕ) (leaders choke : List ℕ) → FirstNamed (readTurn n leaders choke) (readConditions n (length leaders) (length choke))
 unfolding readTurn readConditions
-read-exactly n k leaders choke =
-    turn-named (ltb k n) 25 _ _ (says-less k n)
-    (λ _. turn-named (ltb (length leaders) n || ltb (length choke) n) 10 0 _ (says-either _ _ (says-less (length leaders) n) (says-less (length choke) n)) (λ _. turn-done))
+read-exactly n leaders choke =
+    turn-named (ltb (length leaders) n || ltb (length choke) n) 10 0 _ (says-either _ _ (says-less (length leaders) n) (says-less (length choke) n)) (λ _. turn-done)
 
 -- each call after 26, where the test for a link says which of the m links it is
 calls-exactly : (n k m : ℕ) (l ls : List ℕ) (room : ℕ) → ((a b : ℕ) → Says (linked l a b) (LinkThere m (firstEnd ls) (secondEnd ls) a b)) → (c : Call)
@@ -59,7 +58,7 @@ calls-exactly : (n k m : ℕ) (l ls : List ℕ) (room : ℕ) → ((a b : ℕ) �
 calls-exactly n k m l ls room there (link a b) = link-exactly n k m l ls room a b (there a b)
 calls-exactly n k m l ls room there (order numbers) = order-exactly n k numbers
 calls-exactly n k m l ls room there place = place-exactly n k
-calls-exactly n k m l ls room there (read leaders choke) = read-exactly n k leaders choke
+calls-exactly n k m l ls room there (read leaders choke) = read-exactly n leaders choke
 
 pub call-exactly : CallExactly
 unfolding CallExactly callTurn call callRefusal conditions soundState

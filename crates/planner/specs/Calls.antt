@@ -51,7 +51,7 @@ abbrev pub conditionsOf : (n k m : ℕ) (l : List ℕ) (room : ℕ) → Call →
 conditionsOf n k m l room (link a b) = linkConditions n k m l room a b
 conditionsOf n k m l room (order numbers) = orderConditions n k numbers
 conditionsOf n k m l room place = placeConditions n k
-conditionsOf n k m l room (read leaders choke) = readConditions n k (length leaders) (length choke)
+conditionsOf n k m l room (read leaders choke) = readConditions n (length leaders) (length choke)
 
 -- .. of a record
 unfoldable pub conditions : State → Call → ℕ
@@ -81,7 +81,7 @@ changed s (read leaders choke) = s
 unfoldable pub call : State → Call → Outcome
 call s c = outcome (callRefusal s c) (changed s c) s
 
--- Read: "leaders and choke set", in the lists lent for them
+-- Read: "leaders and choke set", in the lists lent for them, at any k: "It gives groups for the holders so far" (02, change 1)
 unfoldable pub readLeaders : State → List ℕ → List ℕ → List ℕ
 readLeaders s leaders choke =
     byNumber (callRefusal s (read leaders choke)) (written (s .small .n) (listOf (s .small .n) (leaderList (s .small .n) (s .holders))) leaders) leaders

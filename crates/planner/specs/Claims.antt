@@ -1,4 +1,4 @@
--- The claims of 00 and 01 about records made by calls, each as a statement. proofs/Demands.antt and proofs/LeftNext.antt prove them.
+-- The claims of 00, 01 and 02 about records made by calls, each as a statement. proofs/Demands.antt, proofs/LeftNext.antt and proofs/Early.antt prove them.
 use Prim.Native.Nat.{ℕ, _<_, _≤_}
 use mathlib.Core.Path.{_≡_}
 use mathlib.Core.Logic.{_↔_}
@@ -11,6 +11,7 @@ use Rattle.packing.specs.Plant.{at, linked}
 use Rattle.packing.specs.Grouping.{Grouping, covered, coveredFirst}
 use Rattle.packing.specs.Holders.{held, Feasible}
 use Rattle.packing.specs.Choke.{ChokeDifference}
+use Rattle.packing.specs.SoFar.{SoFar}
 use Rattle.planner.specs.Refusals.{openRefusal}
 use Rattle.planner.specs.State.{State}
 use Rattle.planner.specs.Calls.{Call, place, read, call, readLeaders, readChoke}
@@ -75,6 +76,36 @@ DemandTwoOf n told made leaders choke =
 
 unfoldable pub DemandTwo : Type 0
 DemandTwo = OnceRead DemandTwoOf
+
+-- 02, change 1: "Read is now allowed at any k." An open accepted, any list of calls, and a read accepted after it, whatever number is placed.
+abbrev pub AnyRead : ((n : ℕ) (told : Told) (made : State) (leaders choke : List ℕ) → Type 0) → Type 0
+AnyRead claim =
+    (n t : ℕ) (ls os hs : List ℕ) → openRefusal n t os hs ≡ 0 → (calls : List Call)
+    → (leaders choke : List ℕ) → refuses (toldBy n t ls calls) (read leaders choke) ≡ 0
+    → claim n (toldBy n t ls calls) (madeBy n t ls os hs calls) leaders choke
+
+-- The list read is a grouping of the plant told, every held gateway is covered, those left are alone, and for every j up to the number placed no grouping covers more of the first j in the order told.
+abbrev pub SoFarRead : (n : ℕ) (told : Told) (made : State) (leaders choke : List ℕ) → Type 0
+SoFarRead n told made leaders choke = SoFar n (told .limit) (linked (told .links)) (at (told .order)) (told .placed) (at (made .holders)) (leadersRead made leaders choke)
+
+unfoldable pub ReadAnyTime : Type 0
+ReadAnyTime = AnyRead SoFarRead
+
+-- Two things that are not claimed of any read, for they would be false: proofs/Early.antt has a plant and a k < n for each.
+-- "gateways not yet placed may be covered too": not only placed ones are.
+abbrev pub OnlyPlacedCovered : (n : ℕ) (told : Told) (made : State) (leaders choke : List ℕ) → Type 0
+OnlyPlacedCovered n told made leaders choke = (i : ℕ) → told .placed ≤ i → i < n → covered (leadersRead made leaders choke) (at (told .order) i) ≡ false
+
+unfoldable pub UnplacedMayBeCovered : Type 0
+UnplacedMayBeCovered = AnyRead OnlyPlacedCovered → ⊥
+
+-- "The choke difference is stated only at k = n": before, it may be another number than that of the gateways alone.
+abbrev pub DifferenceIsAlone : (n : ℕ) (told : Told) (made : State) (leaders choke : List ℕ) → Type 0
+DifferenceIsAlone n told made leaders choke =
+    ChokeDifference n (told .limit) (linked (told .links)) (chokeRead made leaders choke) (count n (λ v. not (covered (leadersRead made leaders choke) v)))
+
+unfoldable pub DifferenceMayBeOff : Type 0
+DifferenceMayBeOff = AnyRead DifferenceIsAlone → ⊥
 
 -- An open accepted and any list of calls after which a gateway is yet to be placed: a claim about the plant told and the record made.
 abbrev pub BeforePlacing : ((n : ℕ) (told : Told) (made : State) → Type 0) → Type 0

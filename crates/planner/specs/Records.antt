@@ -8,6 +8,7 @@ use Rattle.packing.specs.Plant.{at, linked}
 use Rattle.packing.specs.Grouping.{Grouping, covered}
 use Rattle.packing.specs.Holders.{held}
 use Rattle.stars.specs.Stars.{leaderList}
+use Rattle.search.specs.ChokeSet.{chokeByte}
 use Rattle.planner.specs.State.{State, stateOf, linksOf, limitOf}
 use Rattle.planner.specs.Calls.{openCall, Call, link, order, place, read, call, readLeaders, readChoke}
 use Rattle.planner.specs.Turns.{SoundFacts}
@@ -103,8 +104,10 @@ HeldCovered =
     → Grouping (s .small .n) (limitOf s) (linked (linksOf s)) (leaderList (s .small .n) (s .holders))
     × ((v : ℕ) → v < s .small .n → held (s .small .n) (at (s .holders)) v ≡ true → covered (leaderList (s .small .n) (s .holders)) v ≡ true)
 
--- .. and it is what an accepted read writes
+-- .. and it is what an accepted read writes, with the choke bytes of the same holders
 unfoldable pub ReadWrites : Type 0
 ReadWrites =
     (s : State) (leaders choke : List ℕ) → call s (read leaders choke) .refusal ≡ 0
-    → SoundFacts s × ((v : ℕ) → v < s .small .n → at (readLeaders s leaders choke) v ≡ leaderList (s .small .n) (s .holders) v)
+    → SoundFacts s
+    × ((v : ℕ) → v < s .small .n → at (readLeaders s leaders choke) v ≡ leaderList (s .small .n) (s .holders) v)
+    × ((v : ℕ) → v < s .small .n → at (readChoke s leaders choke) v ≡ chokeByte (s .small .n) (linksOf s) (s .holders) v)

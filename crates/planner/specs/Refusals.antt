@@ -36,6 +36,6 @@ orderConditions n k numbers =
 unfoldable pub placeConditions : ℕ → ℕ → ℕ
 placeConditions n k = refuse (eqb k n) 24 0
 
--- read, after 26: 25, 10. The lengths are those of the lent lists of leaders and of choke bytes.
-unfoldable pub readConditions : ℕ → ℕ → ℕ → ℕ → ℕ
-readConditions n k leadersLength chokeLength = refuse (ltb k n) 25 (refuse (ltb leadersLength n || ltb chokeLength n) 10 0)
+-- read, after 26: 10 (02, change 1: "Read no longer gives 25."). The lengths are those of the lent lists of leaders and of choke bytes.
+unfoldable pub readConditions : ℕ → ℕ → ℕ → ℕ
+readConditions n leadersLength chokeLength = refuse (ltb leadersLength n || ltb chokeLength n) 10 0

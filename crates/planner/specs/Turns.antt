@@ -41,16 +41,16 @@ orderTurn n k numbers =
 unfoldable pub placeTurn : ℕ → ℕ → Turn
 placeTurn n k = named 24 (k ≡ n) done
 
--- "Read 26, 25, 10", after 26: "Read when k < n"; "read needs n for leaders and n for choke bytes"
-unfoldable pub readTurn : ℕ → ℕ → List ℕ → List ℕ → Turn
-readTurn n k leaders choke = named 25 (k < n) (named 10 ((length leaders < n) ⊎ (length choke < n)) done)
+-- Read 26, 10 (02, change 1: "Read is now allowed at any k", "Read no longer gives 25."), after 26: "read needs n for leaders and n for choke bytes"
+unfoldable pub readTurn : ℕ → List ℕ → List ℕ → Turn
+readTurn n leaders choke = named 10 ((length leaders < n) ⊎ (length choke < n)) done
 
 -- .. each by n, the placings k, the m links, and the length of the lent link list
 abbrev pub turnOf : (n k m : ℕ) (ls : List ℕ) (room : ℕ) → Call → Turn
 turnOf n k m ls room (link a b) = linkTurn n k m ls room a b
 turnOf n k m ls room (order numbers) = orderTurn n k numbers
 turnOf n k m ls room place = placeTurn n k
-turnOf n k m ls room (read leaders choke) = readTurn n k leaders choke
+turnOf n k m ls room (read leaders choke) = readTurn n leaders choke
 
 -- "26. The record is not sound."
 abbrev pub SoundFacts : State → Type 0

@@ -138,7 +138,7 @@ impl Small {
         }
     }
 
-    // Writes the leader list and the choke bytes of a fully placed record.
+    // Writes the leader list and the choke bytes of the holders so far.
     pub fn read(
         self,
         links: &[u16],
@@ -160,7 +160,7 @@ impl Small {
                 small: self,
             };
         }
-        let refusal = refusals::of_read(n, k, leaders, choke);
+        let refusal = refusals::of_read(n, leaders, choke);
         if refusal != 0 {
             return Answer {
                 refusal,

@@ -79,12 +79,9 @@ pub(crate) fn of_order(n: u16, k: u16, numbers: &[u16]) -> u32
 }
 
 // After 26.
-pub(crate) fn of_read(n: u16, k: u16, leaders: &[u16], choke: &[u8]) -> u32
-    ensures { λ r. ⌜ r ≡ readConditions n k (length (now (leaders .entry))) (length (now (choke .entry))) ⌝ }
+pub(crate) fn of_read(n: u16, leaders: &[u16], choke: &[u8]) -> u32
+    ensures { λ r. ⌜ r ≡ readConditions n (length (now (leaders .entry))) (length (now (choke .entry))) ⌝ }
 {
-    if k < n {
-        return 25;
-    }
     if leaders.len() < n as usize {
         return 10;
     }

@@ -62,9 +62,9 @@ returns-3 c = let led = c .before .before .before .before .before .before .befor
     let asked = led .before .before .before in
     let test = asked .before .before .before in
     let sound = checked _ _ _ _ _ _ _ (test .before .is-sound .ensures) (test .if1 .left) in
-    let allowed = read-allowed _ _ _ _ (sym (asked .of-read .ensures) ∙ led .before .before .if2 .left) in
-    read-accepted _ _ _ (sound-number (test .before .is-sound .ensures) (not-false _ (test .if1 .left)) (asked .of-read .ensures)) (led .before .before .if2 .left) (leaders-placed _ sound _ (allowed .1) (led .leaders .ensures .1))
-    (choke-placed _ sound _ (allowed .2) (c .before .before .choke-set .ensures .1))
+    let allowed = read-allowed _ _ _ (sym (asked .of-read .ensures) ∙ led .before .before .if2 .left) in
+    read-accepted _ _ _ (sound-number (test .before .is-sound .ensures) (not-false _ (test .if1 .left)) (asked .of-read .ensures)) (led .before .before .if2 .left) (leaders-placed _ sound _ (allowed .0) (led .leaders .ensures .1))
+    (choke-placed _ sound _ (allowed .1) (c .before .before .choke-set .ensures .1))
 
 pub read-spec : {M : Type 1} → statement M
 read-spec =

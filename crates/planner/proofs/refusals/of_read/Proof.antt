@@ -14,11 +14,7 @@ returns-2 c = simp (le-ltb _ _ (c .before .if1 .left), lt-ltb _ _ (c .if2 .taken
 
 returns-3 : tie.Need-returns-3
 unfolding readConditions
-returns-3 c = simp (le-ltb _ _ (c .before .before .if1 .left), le-ltb _ _ (c .before .if2 .left), lt-ltb _ _ (c .if3 .taken))
-
-returns-4 : tie.Need-returns-4
-unfolding readConditions
-returns-4 c = simp (le-ltb _ _ (c .before .before .if1 .left), le-ltb _ _ (c .before .if2 .left), le-ltb _ _ (c .if3 .left))
+returns-3 c = simp (le-ltb _ _ (c .before .if1 .left), le-ltb _ _ (c .if2 .left))
 
 pub of-read-spec : {M : Type 1} → statement M
-of-read-spec = tie.close (tie.spec returns returns-2 returns-3 returns-4)
+of-read-spec = tie.close (tie.spec returns returns-2 returns-3)
