@@ -1,9 +1,10 @@
 -- What the bytes say is the plan of the file, so they carry its claim.
-use Prim.Native.Nat.{ℕ, _+_, _*_, _<_}
-use mathlib.Core.Path.{_≡_, refl, sym, ap}
+use Prim.Native.Nat.{ℕ, _+_, _*_, _<_, _≤_}
+use mathlib.Core.Path.{_≡_, refl, sym, ap, _∙_}
+use mathlib.Core.Bool.{false}
 use mathlib.Core.List.{List, _++_, append-assoc}
 use native.Mathlib.Omega.{arith}
-use lib.Dec.{eqb}
+use lib.Dec.{eqb, ltb}
 use lib.ListN.{length, drop, length-append, List·getD-append}
 use lib.Seq.{getD-append-add}
 use Rattle.packing.specs.Lists.{written}
@@ -13,51 +14,104 @@ use Rattle.packing.proofs.Refusals.{refused}
 use Rattle.plant_file.specs.PlantFile.{number, fileN, fileRefusal}
 use Rattle.plant_file.specs.Encode.{lowFirst}
 use Rattle.plant_file.proofs.Encode.{low-long, number-low}
-use Rattle.plant_file.proofs.Refusing.{then-none}
 use Rattle.plan.specs.Plan.{fileLeaders, fileChoke}
-use Rattle.plan.proofs.FilePlan.{plan-below, leaders-long, choke-long, choke-byte, lists-plan}
-use Rattle.daemon.specs.Groups.{planBytes, groupsRefusal, groupsOut}
-use Rattle.daemon.specs.Claim.{leaderAt, chokeAt, BytesPlan, BytesRefused}
+use Rattle.plan.specs.After.{fileLeadersAfter, fileChokeAfter}
+use Rattle.plan.proofs.Refusing.{after-none}
+use Rattle.plan.proofs.After.{leaders-long, choke-long, choke-at, choke-bit, plan-so-far-below, lists-so-far}
+use Rattle.plan.proofs.FilePlan.{leaders-all, choke-all, plan-below, lists-plan}
+use Rattle.daemon.specs.Groups.{planBytes, groupsRefusal, groupsOut, bytesAfter, groupsAfterRefusal, groupsAfterOut}
+use Rattle.daemon.specs.Claim.{leaderAt, chokeAt, BytesPlan, BytesRefused, BytesSoFar, BytesAfterRefused, BytesAfterAll}
+use Rattle.daemon.proofs.Groups.{bytes-after-all}
 
-module _ (file out : List ℕ) (z : groupsRefusal file (length out) ≡ 0) where
-  pub groups-fine : fileRefusal file ≡ 0
-  unfolding groupsRefusal
-  groups-fine = then-none file _ z .0
+-- the bytes of n leaders and n choke bytes, and what stands behind them
+module _ (n : ℕ) (leaders choke out : List ℕ) (led : length leaders ≡ n) (choked : length choke ≡ n) where
+  bytes-are : written (3 * n) (lowFirst leaders ++ choke) out ≡ lowFirst leaders ++ (choke ++ drop (3 * n) out)
+  unfolding written
+  bytes-are = append-assoc (lowFirst leaders) choke (drop (3 * n) out)
 
-  out-is : groupsOut file out ≡ lowFirst (fileLeaders file) ++ (fileChoke file ++ drop (3 * fileN file) out)
-  unfolding groupsOut written planBytes
-  out-is = rw z (append-assoc (lowFirst (fileLeaders file)) (fileChoke file) (drop (3 * fileN file) out))
-
-  twice : length (lowFirst (fileLeaders file)) ≡ 2 * fileN file
-  twice = omega (arith, low-long (fileLeaders file), leaders-long file groups-fine)
+  twice : length (lowFirst leaders) ≡ 2 * n
+  twice = omega (arith, low-long leaders)
 
   -- the two bytes of a leader are that leader, ..
-  pub leader-is : (v : ℕ) → v < fileN file → at (fileLeaders file) v ≡ leaderAt (groupsOut file out) v
+  leader-bytes : (v : ℕ) → v < n → at leaders v ≡ leaderAt (written (3 * n) (lowFirst leaders ++ choke) out) v
   unfolding number
-  leader-is v l =
+  leader-bytes v l =
       rw (
-        out-is,
-        List·getD-append (lowFirst (fileLeaders file)) (fileChoke file ++ drop (3 * fileN file) out) 0 (2 * v) (omega (arith, twice)),
-        List·getD-append (lowFirst (fileLeaders file)) (fileChoke file ++ drop (3 * fileN file) out) 0 (2 * v + 1) (omega (arith, twice)),
-      ) (sym (number-low (fileLeaders file) v))
+        bytes-are,
+        List·getD-append (lowFirst leaders) (choke ++ drop (3 * n) out) 0 (2 * v) (omega (arith, twice)),
+        List·getD-append (lowFirst leaders) (choke ++ drop (3 * n) out) 0 (2 * v + 1) (omega (arith, twice)),
+      ) (sym (number-low leaders v))
 
   -- .. and a choke byte is that byte
-  pub choke-is : (v : ℕ) → v < fileN file → at (fileChoke file) v ≡ chokeAt (fileN file) (groupsOut file out) v
-  choke-is v l =
-      rw (out-is, ← twice, getD-append-add (lowFirst (fileLeaders file)) (fileChoke file ++ drop (3 * fileN file) out) v 0)
-      (sym (List·getD-append (fileChoke file) (drop (3 * fileN file) out) 0 v (omega (arith, choke-long file groups-fine))))
+  choke-bytes : (v : ℕ) → v < n → at choke v ≡ chokeAt n (written (3 * n) (lowFirst leaders ++ choke) out) v
+  choke-bytes v l =
+      rw (bytes-are, ← twice, getD-append-add (lowFirst leaders) (choke ++ drop (3 * n) out) v 0)
+      (sym (List·getD-append choke (drop (3 * n) out) 0 v (omega arith)))
 
-  past : drop (3 * fileN file) (groupsOut file out) ≡ drop (3 * fileN file) out
-  unfolding groupsOut planBytes
-  past = rw z (written-past (3 * fileN file) (lowFirst (fileLeaders file) ++ fileChoke file) out (omega (arith, length-append (lowFirst (fileLeaders file)) (fileChoke file), twice, choke-long file groups-fine)))
+  past-bytes : drop (3 * n) (written (3 * n) (lowFirst leaders ++ choke) out) ≡ drop (3 * n) out
+  past-bytes = written-past (3 * n) (lowFirst leaders ++ choke) out (omega (arith, length-append (lowFirst leaders) choke, twice))
+
+-- an accepted call for k placings
+module _ (file : List ℕ) (k : ℕ) (out : List ℕ) (z : groupsAfterRefusal file k (length out) ≡ 0) where
+  after-fine : (fileRefusal file ≡ 0) × (k ≤ fileN file) × (ltb (length out) (3 * fileN file) ≡ false)
+  unfolding groupsAfterRefusal
+  after-fine = after-none file k _ z
+
+  out-is : groupsAfterOut file k out ≡ written (3 * fileN file) (lowFirst (fileLeadersAfter file k) ++ fileChokeAfter file k) out
+  unfolding groupsAfterOut bytesAfter
+  out-is = rw z
+
+  leader-after : (v : ℕ) → v < fileN file → at (fileLeadersAfter file k) v ≡ leaderAt (groupsAfterOut file k out) v
+  leader-after v l = rw out-is (leader-bytes (fileN file) (fileLeadersAfter file k) (fileChokeAfter file k) out (leaders-long file (after-fine .0) k (after-fine .1)) (choke-long file (after-fine .0) k (after-fine .1)) v l)
+
+  choke-after : (v : ℕ) → v < fileN file → at (fileChokeAfter file k) v ≡ chokeAt (fileN file) (groupsAfterOut file k out) v
+  choke-after v l = rw out-is (choke-bytes (fileN file) (fileLeadersAfter file k) (fileChokeAfter file k) out (leaders-long file (after-fine .0) k (after-fine .1)) (choke-long file (after-fine .0) k (after-fine .1)) v l)
+
+  past-after : drop (3 * fileN file) (groupsAfterOut file k out) ≡ drop (3 * fileN file) out
+  past-after = rw out-is (past-bytes (fileN file) (fileLeadersAfter file k) (fileChokeAfter file k) out (leaders-long file (after-fine .0) k (after-fine .1)) (choke-long file (after-fine .0) k (after-fine .1)))
+
+pub bytes-so-far : BytesSoFar
+unfolding BytesSoFar
+bytes-so-far file k out z =
+    let (fine, within, long) = after-fine file k out z in (
+      plan-so-far-below file k fine within (at (fileLeadersAfter file k)) (leaderAt (groupsAfterOut file k out)) (leader-after file k out z) (lists-so-far file k fine within),
+      λ v l. sym (choke-after file k out z v l) ∙ choke-at file fine k within v l,
+      past-after file k out z,
+    )
+
+pub bytes-after-refused : BytesAfterRefused
+unfolding BytesAfterRefused groupsAfterOut
+bytes-after-refused file k out h = sym (refused (written (3 * fileN file) (bytesAfter file k) out) out refl h)
+
+-- an accepted call for all placings
+module _ (file out : List ℕ) (z : groupsRefusal file (length out) ≡ 0) where
+  all-fine : groupsAfterRefusal file (fileN file) (length out) ≡ 0
+  unfolding BytesAfterAll
+  all-fine = bytes-after-all file out .0 ∙ z
+
+  all-out : groupsAfterOut file (fileN file) out ≡ groupsOut file out
+  unfolding BytesAfterAll
+  all-out = bytes-after-all file out .1
+
+  groups-fine : fileRefusal file ≡ 0
+  groups-fine = after-fine file (fileN file) out all-fine .0
+
+  pub leader-is : (v : ℕ) → v < fileN file → at (fileLeaders file) v ≡ leaderAt (groupsOut file out) v
+  leader-is v l = rw (leaders-all file, all-out) at (leader-after file (fileN file) out all-fine v l)
+
+  pub choke-is : (v : ℕ) → v < fileN file → at (fileChoke file) v ≡ chokeAt (fileN file) (groupsOut file out) v
+  choke-is v l = rw (choke-all file, all-out) at (choke-after file (fileN file) out all-fine v l)
+
+  choke-one : (v : ℕ) → v < fileN file → chokeAt (fileN file) (groupsOut file out) v ≤ 1
+  choke-one v l = rw (choke-after file (fileN file) out all-fine v l, all-out) at (choke-bit file groups-fine (fileN file) (omega arith) v l)
 
 pub bytes-plan : BytesPlan
 unfolding BytesPlan
 bytes-plan file out z = (
   plan-below file (groups-fine file out z) (at (fileLeaders file)) (leaderAt (groupsOut file out)) (λ v. eqb (at (fileChoke file) v) 1) (λ v. eqb (chokeAt (fileN file) (groupsOut file out) v) 1)
       (leader-is file out z) (λ v l. ap (λ (x : ℕ). eqb x 1) (choke-is file out z v l)) (lists-plan file (groups-fine file out z)),
-  λ v l. rw (← choke-is file out z v l) (choke-byte file (groups-fine file out z) v l),
-  past file out z,
+  choke-one file out z,
+  rw (all-out file out z) at (past-after file (fileN file) out (all-fine file out z)),
 )
 
 pub bytes-refused : BytesRefused

@@ -1,13 +1,15 @@
--- 00, demands 2 and 3, of the bytes that the call from C writes. proofs/Claim.antt proves it.
+-- 00, demands 2 and 3, and 02, change 1, of the bytes that the calls from C write. proofs/Claim.antt proves it.
 use Prim.Native.Nat.{ℕ, _+_, _*_, _<_, _≤_}
 use mathlib.Core.Path.{_≡_}
 use mathlib.Core.List.{List}
 use lib.Dec.{eqb}
 use lib.ListN.{length, drop}
 use Rattle.packing.specs.Plant.{at}
-use Rattle.plant_file.specs.PlantFile.{fileN}
-use Rattle.plan.specs.Claim.{PlanOf}
-use Rattle.daemon.specs.Groups.{groupsRefusal, groupsOut}
+use Rattle.search.specs.ChokeSet.{chokeByte}
+use Rattle.plant_file.specs.PlantFile.{fileN, fileLinks}
+use Rattle.plan.specs.Plan.{stateAfter}
+use Rattle.plan.specs.Claim.{PlanOf, PlanSoFar}
+use Rattle.daemon.specs.Groups.{groupsRefusal, groupsOut, groupsAfterRefusal, groupsAfterOut}
 
 -- "n leaders of two bytes, then n choke bytes", "numbers low byte first": gateway v's leader and its choke byte, as a caller reads them
 abbrev pub leaderAt : List ℕ → ℕ → ℕ
@@ -28,3 +30,20 @@ BytesPlan =
 -- A refused one writes nothing.
 unfoldable pub BytesRefused : Type 0
 BytesRefused = (file out : List ℕ) → (groupsRefusal file (length out) ≡ 0 → ⊥) → groupsOut file out ≡ out
+
+-- An accepted call for k placings: the leaders that the bytes say are the groups so far (plan/specs/Claim.antt), each choke byte is that of the holders so far, and nothing past 3n is written.
+unfoldable pub BytesSoFar : Type 0
+BytesSoFar =
+    (file : List ℕ) (k : ℕ) (out : List ℕ) → groupsAfterRefusal file k (length out) ≡ 0
+    → PlanSoFar file k (leaderAt (groupsAfterOut file k out))
+    × ((v : ℕ) → v < fileN file → chokeAt (fileN file) (groupsAfterOut file k out) v ≡ chokeByte (fileN file) (fileLinks file) (stateAfter file k .holders) v)
+    × (drop (3 * fileN file) (groupsAfterOut file k out) ≡ drop (3 * fileN file) out)
+
+unfoldable pub BytesAfterRefused : Type 0
+BytesAfterRefused = (file : List ℕ) (k : ℕ) (out : List ℕ) → (groupsAfterRefusal file k (length out) ≡ 0 → ⊥) → groupsAfterOut file k out ≡ out
+
+-- With n placings the call answers what plan_groups answers, whatever is handed in.
+unfoldable pub BytesAfterAll : Type 0
+BytesAfterAll =
+    (file out : List ℕ)
+    → (groupsAfterRefusal file (fileN file) (length out) ≡ groupsRefusal file (length out)) × (groupsAfterOut file (fileN file) out ≡ groupsOut file out)

@@ -8,6 +8,7 @@ use Rattle.packing.specs.Refusals.{byNumber}
 use Rattle.plant_file.specs.PlantFile.{fileN, fileThenShort}
 use Rattle.plant_file.specs.Encode.{lowFirst}
 use Rattle.plan.specs.Plan.{fileLeaders, fileChoke}
+use Rattle.plan.specs.After.{afterRefusal, fileLeadersAfter, fileChokeAfter}
 
 -- "n leaders of two bytes, then n choke bytes of 0 or 1, 3n in all"
 unfoldable pub planBytes : List ℕ → List ℕ
@@ -20,3 +21,14 @@ groupsRefusal file outLen = fileThenShort file (ltb outLen (3 * fileN file))
 -- the lent list after the call; as it came on refusal
 unfoldable pub groupsOut : List ℕ → List ℕ → List ℕ
 groupsOut file out = byNumber (groupsRefusal file (length out)) (written (3 * fileN file) (planBytes file) out) out
+
+-- 02, change 1: the same after k placings
+unfoldable pub bytesAfter : List ℕ → ℕ → List ℕ
+bytesAfter file k = lowFirst (fileLeadersAfter file k) ++ fileChokeAfter file k
+
+-- the file's number, then 24, then 10
+unfoldable pub groupsAfterRefusal : List ℕ → ℕ → ℕ → ℕ
+groupsAfterRefusal file k outLen = afterRefusal file k (ltb outLen (3 * fileN file))
+
+unfoldable pub groupsAfterOut : List ℕ → ℕ → List ℕ → List ℕ
+groupsAfterOut file k out = byNumber (groupsAfterRefusal file k (length out)) (written (3 * fileN file) (bytesAfter file k) out) out

@@ -4,7 +4,12 @@ use mathlib.Core.List.{List}
 use Rattle.packing.specs.Turns.{done, named, FirstNamed}
 use Rattle.plant_file.specs.PlantFile.{fileN}
 use Rattle.plant_file.specs.Turns.{fileTurn}
-use Rattle.daemon.specs.Groups.{groupsRefusal}
+use Rattle.daemon.specs.Groups.{groupsRefusal, groupsAfterRefusal}
 
 unfoldable pub GroupsExactly : Type 0
 GroupsExactly = (file : List ℕ) (outLen : ℕ) → FirstNamed (fileTurn file (named 10 (outLen < 3 * fileN file) done)) (groupsRefusal file outLen)
+
+-- .. after k placings, 24 between them: more placings than there are gateways (01: "Place when k = n")
+unfoldable pub GroupsAfterExactly : Type 0
+GroupsAfterExactly =
+    (file : List ℕ) (k outLen : ℕ) → FirstNamed (fileTurn file (named 24 (fileN file < k) (named 10 (outLen < 3 * fileN file) done))) (groupsAfterRefusal file k outLen)

@@ -13,7 +13,7 @@ use Rattle.packing.specs.Refusals.{refuse, firstOf}
 use Rattle.plant_file.specs.PlantFile.{number, fileN, fileT, fileM, fileLinks, fileOrder, beginsPLT, endsRefusal, linksRefusal, fileRefusal, fileThenShort}
 use Rattle.plant_file.proofs.Accepted.{file-allowed}
 use Rattle.plan.specs.Plan.{planRefusal, planLeaders, planChoke}
-use Rattle.plan.proofs.Refusing.{plan-places}
+use Rattle.plan.proofs.FilePlan.{plan-accepts}
 use Rattle.report.specs.Text as text
 use Rattle.report.proofs.Lengths.{listing-short, refused-length}
 use Rattle.listing.specs.Listed.{textBy, fileText}
@@ -80,7 +80,7 @@ text-short file = by (planRefusal file GATEWAYS GATEWAYS) refl
   where
     by : (e : ℕ) → planRefusal file GATEWAYS GATEWAYS ≡ e
         → length (textBy e (text.listing (fileN file) (fileT file) (planLeaders file (replicate GATEWAYS 0) (replicate GATEWAYS 0)) (planChoke file (replicate GATEWAYS 0) (replicate GATEWAYS 0)))) ≤ 16437
-    by zero g = listing-short _ _ _ _ (file-allowed file (plan-places file GATEWAYS GATEWAYS refl g .0) .few)
+    by zero g = listing-short _ _ _ _ (file-allowed file (plan-accepts file GATEWAYS GATEWAYS g .0) .few)
     by (suc e) g = omega (arith, refused-length (suc e))
 
 module _ (file out : List ℕ) {r : ℕ} {new : List ℕ} (e : out ≡ replicate 16437 0) (f : r ≡ length (fileText file)) (g : new ≡ sets out 0 (fileText file)) where

@@ -25,7 +25,7 @@ use Rattle.plant_file.specs.Reader.{linkAt}
 use Rattle.plant_file.specs.Load.{orderWritten}
 use Rattle.plant_file.proofs.LinksByIndex.{links-long, order-long, step-at}
 use Rattle.plant_file.proofs.Accepted.{file-allowed}
-use Rattle.plan.specs.Plan.{fileCalls, fileState}
+use Rattle.plan.specs.Plan.{callsAfter, stateAfter}
 use Rattle.plan.specs.Pre.{linkStep}
 
 -- one link
@@ -110,30 +110,30 @@ module _ (n : ℕ) {first : State} where
       last d h = omega arith
 
 -- open, and all the calls
-pub all-made : (file ls os hs : List ℕ) {n t : ℕ} {ls₂ os₁ os₃ hs₁ hs₄ : List ℕ} {r : Answer} {s₂ s₃ s₄ : Small} → n ≡ fileN file → t ≡ fileT file
+pub all-made : (file : List ℕ) (k : ℕ) (ls os hs : List ℕ) {n t : ℕ} {ls₂ os₁ os₃ hs₁ hs₄ : List ℕ} {r : Answer} {s₂ s₃ s₄ : Small} → n ≡ fileN file → t ≡ fileT file
     → r ≡ answerOf (openCall n t ls os hs) → os₁ ≡ openCall n t ls os hs .state .order → hs₁ ≡ openCall n t ls os hs .state .holders
     → stateOf s₂ ls₂ os₁ hs₁ ≡ run (stateOf (r .small) ls os₁ hs₁) (linkCalls (fileLinks file))
     → stateOf s₃ ls₂ os₃ hs₁ ≡ call (stateOf s₂ ls₂ os₁ hs₁) (order (fileOrder file)) .state
-    → stateOf s₄ ls₂ os₃ hs₄ ≡ run (stateOf s₃ ls₂ os₃ hs₁) (placeCalls n)
-    → stateOf s₄ ls₂ os₃ hs₄ ≡ madeBy (fileN file) (fileT file) ls os hs (fileCalls file)
-unfolding fileCalls plantCalls run
-all-made file ls os hs {n} {t} {ls₂} {os₁} {os₃} {hs₁} {hs₄} {r} {s₂} {s₃} {s₄} en et er eo eh links orders places =
-    places ∙ ap (λ (x : State). run x (placeCalls n)) (orders ∙ ap (λ (x : State). call x (order (fileOrder file)) .state) (links ∙ ap (λ (x : State). run x (linkCalls (fileLinks file))) begun))
+    → stateOf s₄ ls₂ os₃ hs₄ ≡ run (stateOf s₃ ls₂ os₃ hs₁) (placeCalls k)
+    → stateOf s₄ ls₂ os₃ hs₄ ≡ madeBy (fileN file) (fileT file) ls os hs (callsAfter file k)
+unfolding callsAfter plantCalls run
+all-made file k ls os hs {n} {t} {ls₂} {os₁} {os₃} {hs₁} {hs₄} {r} {s₂} {s₃} {s₄} en et er eo eh links orders places =
+    places ∙ ap (λ (x : State). run x (placeCalls k)) (orders ∙ ap (λ (x : State). call x (order (fileOrder file)) .state) (links ∙ ap (λ (x : State). run x (linkCalls (fileLinks file))) begun))
     ∙ rw (en, et) (after (afterOpen (fileN file) (fileT file) ls os hs))
   where
     begun : stateOf (r .small) ls os₁ hs₁ ≡ afterOpen n t ls os hs
     begun = rw (er, eo, eh) (open-links n t ls os hs)
 
-    after : (s : State) → run (call (run s (linkCalls (fileLinks file))) (order (fileOrder file)) .state) (placeCalls (fileN file)) ≡ run s (linkCalls (fileLinks file) ++ (order (fileOrder file) ∷ placeCalls (fileN file)))
-    after s = sym (run-append s (linkCalls (fileLinks file)) (order (fileOrder file) ∷ placeCalls (fileN file)))
+    after : (s : State) → run (call (run s (linkCalls (fileLinks file))) (order (fileOrder file)) .state) (placeCalls k) ≡ run s (linkCalls (fileLinks file) ++ (order (fileOrder file) ∷ placeCalls k))
+    after s = sym (run-append s (linkCalls (fileLinks file)) (order (fileOrder file) ∷ placeCalls k))
 
--- the record made with lists of 0 is the file's, and so is what a read of it writes
-module _ (file : List ℕ) {ls os hs : List ℕ} (s : Small) (ls' os' hs' : List ℕ) (els : ls ≡ replicate ENDS 0) (eos : os ≡ replicate GATEWAYS 0) (ehs : hs ≡ replicate GATEWAYS 0)
-    (made : stateOf s ls' os' hs' ≡ madeBy (fileN file) (fileT file) ls os hs (fileCalls file)) where
-  file-made : stateOf s ls' os' hs' ≡ fileState file
-  unfolding fileState
+-- the record made with lists of 0 is the file's after k placings, and so is what a read of it writes
+module _ (file : List ℕ) (k : ℕ) {ls os hs : List ℕ} (s : Small) (ls' os' hs' : List ℕ) (els : ls ≡ replicate ENDS 0) (eos : os ≡ replicate GATEWAYS 0) (ehs : hs ≡ replicate GATEWAYS 0)
+    (made : stateOf s ls' os' hs' ≡ madeBy (fileN file) (fileT file) ls os hs (callsAfter file k)) where
+  file-made : stateOf s ls' os' hs' ≡ stateAfter file k
+  unfolding stateAfter
   file-made = made ∙ rw (els, eos, ehs)
 
   pub all-read : (leaders choke : List ℕ) {leaders' choke' : List ℕ} → leaders' ≡ readLeaders (stateOf s ls' os' hs') leaders choke → choke' ≡ readChoke (stateOf s ls' os' hs') leaders choke
-      → (leaders' ≡ readLeaders (fileState file) leaders choke) × (choke' ≡ readChoke (fileState file) leaders choke)
+      → (leaders' ≡ readLeaders (stateAfter file k) leaders choke) × (choke' ≡ readChoke (stateAfter file k) leaders choke)
   all-read leaders choke e f = (e ∙ ap (λ (x : State). readLeaders x leaders choke) file-made, f ∙ ap (λ (x : State). readChoke x leaders choke) file-made)

@@ -3,4 +3,5 @@ pub mod Refusing
 pub mod Turns
 pub mod CallsInTurn
 pub mod ToldByFile
+pub mod After
 pub mod FilePlan

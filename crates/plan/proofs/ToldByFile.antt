@@ -21,7 +21,7 @@ use Rattle.plant_file.specs.Pre.{headerRefusal}
 use Rattle.plant_file.proofs.LinksByIndex.{links-long, order-long}
 use Rattle.plant_file.proofs.Refusing.{bodyRefusal, file-parts}
 use Rattle.plant_file.proofs.Accepted.{LinkAllowed, file-allowed, file-link-allowed}
-use Rattle.plan.specs.Plan.{fileCalls}
+use Rattle.plan.specs.Plan.{callsAfter}
 
 -- an accepted call, and those after it
 tells-one : (p : Told) (c : Call) (calls : List Call) → refuses p c ≡ 0 → tell p (c ∷ calls) ≡ tell (accepted p c) calls
@@ -64,18 +64,18 @@ module _ (file : List ℕ) (room : ℕ) where
   unfolding refuses placeConditions
   place-accepted k l = rw (ne-eqb k (fileN file) (λ e. omega arith))
 
-  places-tell : (j k : ℕ) → k + j ≡ fileN file → tell (placedTold k) (placeCalls j) ≡ placedTold (fileN file)
+  -- j placings more after i make k
+  places-tell : (j i k : ℕ) → i + j ≡ k → k ≤ fileN file → tell (placedTold i) (placeCalls j) ≡ placedTold k
   unfolding placeCalls accepted tell
-  places-tell zero k e = ap placedTold last
+  places-tell zero i k e l = ap placedTold last
     where
-      last : k ≡ fileN file
+      last : i ≡ k
       last = omega arith
-  places-tell (suc j) k e = tells-one (placedTold k) place (placeCalls j) (place-accepted k (omega arith)) ∙ places-tell j (k + 1) (omega arith)
+  places-tell (suc j) i k e l = tells-one (placedTold i) place (placeCalls j) (place-accepted i (omega arith)) ∙ places-tell j (i + 1) k (omega arith) l
 
-  pub read-accepted : (leaders choke : List ℕ) → fileN file ≤ length leaders → fileN file ≤ length choke → refuses (placedTold (fileN file)) (read leaders choke) ≡ 0
+  pub read-accepted : (k : ℕ) (leaders choke : List ℕ) → fileN file ≤ length leaders → fileN file ≤ length choke → refuses (placedTold k) (read leaders choke) ≡ 0
   unfolding refuses readConditions
-  read-accepted leaders choke p q =
-      rw (le-ltb (fileN file) (fileN file) (omega arith), or-none _ _ (le-ltb (length leaders) (fileN file) p) (le-ltb (length choke) (fileN file) q))
+  read-accepted k leaders choke p q = rw (or-none _ _ (le-ltb (length leaders) (fileN file) p) (le-ltb (length choke) (fileN file) q))
 
   module _ (z : fileRefusal file ≡ 0) (long : 2 * fileM file ≤ room) where
     links-tell : (j i : ℕ) (rest : List Call) → i + j ≡ fileM file → tell (linksTold i) (linkCalls (drop (2 * i) (fileLinks file)) ++ rest) ≡ tell (linksTold (fileM file)) rest
@@ -99,9 +99,9 @@ module _ (file : List ℕ) (room : ℕ) where
     all-links : take (2 * fileM file) (fileLinks file) ≡ fileLinks file
     all-links = take-all (2 * fileM file) (fileLinks file) (omega (arith, links-long file))
 
-    -- the whole list of calls
-    pub file-tells : tell (beginning (fileN file) (fileT file) room) (fileCalls file) ≡ placedTold (fileN file)
-    unfolding fileCalls plantCalls beginning accepted
-    file-tells =
-        links-tell (fileM file) 0 (order (fileOrder file) ∷ placeCalls (fileN file)) (omega arith)
-        ∙ tells-one (linksTold (fileM file)) (order (fileOrder file)) (placeCalls (fileN file)) order-accepted ∙ rw all-links (places-tell (fileN file) 0 (omega arith))
+    -- the whole list of calls, with k placings
+    pub file-tells : (k : ℕ) → k ≤ fileN file → tell (beginning (fileN file) (fileT file) room) (callsAfter file k) ≡ placedTold k
+    unfolding callsAfter plantCalls beginning accepted
+    file-tells k l =
+        links-tell (fileM file) 0 (order (fileOrder file) ∷ placeCalls k) (omega arith)
+        ∙ tells-one (linksTold (fileM file)) (order (fileOrder file)) (placeCalls k) order-accepted ∙ rw all-links (places-tell k 0 k (omega arith) l)

@@ -1,5 +1,5 @@
--- 00, demands 2 and 3, for a plan made from a file.
-use Prim.Native.Nat.{ℕ, _≤_}
+-- 00, demands 2 and 3, and 02, change 1, for a plan made from a file.
+use Prim.Native.Nat.{ℕ, _<_, _≤_}
 use mathlib.Core.Path.{_≡_}
 use mathlib.Core.Bool.{Bool, not}
 use mathlib.Core.List.{List}
@@ -9,8 +9,11 @@ use Rattle.packing.specs.Count.{count}
 use Rattle.packing.specs.Plant.{at, common, linked}
 use Rattle.packing.specs.Grouping.{Grouping, covered, coveredFirst}
 use Rattle.packing.specs.Choke.{ChokeDifference}
+use Rattle.packing.specs.SoFar.{SoFar}
+use Rattle.search.specs.ChokeSet.{chokeByte}
 use Rattle.plant_file.specs.PlantFile.{fileN, fileT, fileLinks, fileOrder}
-use Rattle.plan.specs.Plan.{planRefusal, planLeaders, planChoke}
+use Rattle.plan.specs.Plan.{stateAfter, planRefusal, planLeaders, planChoke}
+use Rattle.plan.specs.After.{planAfterRefusal, planLeadersAfter, planChokeAfter}
 
 -- a grouping of the plant that the file describes
 abbrev pub GroupingOf : List ℕ → (ℕ → ℕ) → Type 0
@@ -30,3 +33,22 @@ unfoldable pub FilePlan : Type 0
 FilePlan =
     (file leaders choke : List ℕ) → planRefusal file (length leaders) (length choke) ≡ 0
     → PlanOf file (at (planLeaders file leaders choke)) (λ v. eqb (at (planChoke file leaders choke) v) 1)
+
+-- After k placings: what is claimed of leaders g for that plant. The holders are those of the record that the file's calls make.
+abbrev pub PlanSoFar : List ℕ → ℕ → (ℕ → ℕ) → Type 0
+PlanSoFar file k g = SoFar (fileN file) (common (fileT file)) (linked (fileLinks file)) (at (fileOrder file)) k (at (stateAfter file k .holders)) g
+
+-- It holds of what is written for every accepted file and number of placings, and the choke bytes are those of the same holders.
+unfoldable pub FileSoFar : Type 0
+FileSoFar =
+    (file : List ℕ) (k : ℕ) (leaders choke : List ℕ) → planAfterRefusal file k (length leaders) (length choke) ≡ 0
+    → PlanSoFar file k (at (planLeadersAfter file k leaders choke))
+    × ((v : ℕ) → v < fileN file → at (planChokeAfter file k leaders choke) v ≡ chokeByte (fileN file) (fileLinks file) (stateAfter file k .holders) v)
+
+-- With n placings it is the plan, whatever is handed in.
+unfoldable pub AfterAll : Type 0
+AfterAll =
+    (file leaders choke : List ℕ)
+    → (planAfterRefusal file (fileN file) (length leaders) (length choke) ≡ planRefusal file (length leaders) (length choke))
+    × (planLeadersAfter file (fileN file) leaders choke ≡ planLeaders file leaders choke)
+    × (planChokeAfter file (fileN file) leaders choke ≡ planChoke file leaders choke)

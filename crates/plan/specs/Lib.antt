@@ -1,5 +1,6 @@
 -- The plan that a plant file stands for.
 pub mod Plan
+pub mod After
 pub mod Turns
 pub mod Pre
 pub mod Claim

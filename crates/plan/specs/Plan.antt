@@ -12,13 +12,17 @@ use Rattle.planner.specs.Run.{plantCalls}
 use Rattle.planner.specs.Claims.{madeBy}
 use Rattle.plant_file.specs.PlantFile.{fileN, fileT, fileLinks, fileOrder, fileThenShort}
 
--- the list of calls that the file stands for: each link, the order, n placings
-unfoldable pub fileCalls : List ℕ → List Call
-fileCalls file = plantCalls (fileLinks file) (fileOrder file) (fileN file)
+-- the list of calls that the file stands for, with k placings: each link, the order, k times place
+unfoldable pub callsAfter : List ℕ → ℕ → List Call
+callsAfter file k = plantCalls (fileLinks file) (fileOrder file) k
 
 -- the record that they make after an open with lists that have a place for every plant
+unfoldable pub stateAfter : List ℕ → ℕ → State
+stateAfter file k = madeBy (fileN file) (fileT file) (replicate ENDS 0) (replicate GATEWAYS 0) (replicate GATEWAYS 0) (callsAfter file k)
+
+-- .. once all n are placed
 unfoldable pub fileState : List ℕ → State
-fileState file = madeBy (fileN file) (fileT file) (replicate ENDS 0) (replicate GATEWAYS 0) (replicate GATEWAYS 0) (fileCalls file)
+fileState file = stateAfter file (fileN file)
 
 -- the file's number, then 10: "read needs n for leaders and n for choke bytes"
 unfoldable pub planRefusal : List ℕ → ℕ → ℕ → ℕ

@@ -9,7 +9,7 @@ ghost use Rattle.planner.specs.Run.{run, linkCalls, placeCalls};
 ghost use Rattle.planner.specs.Claims.{madeBy};
 ghost use Rattle.plant_file.specs.PlantFile.{fileN, fileT, fileLinks, fileOrder, fileRefusal};
 ghost use Rattle.plant_file.specs.Reader.{linkAt};
-ghost use Rattle.plan.specs.Plan.{fileCalls, fileState};
+ghost use Rattle.plan.specs.Plan.{callsAfter, stateAfter};
 ghost use Rattle.plan.specs.Pre.{linkStep};
 
 // The call for the link at an index.
@@ -55,12 +55,12 @@ fn with_order(file: &[u8], s: Small, links: &[u16], order: &mut [u16], holders: 
 }
 
 // The placings.
-fn with_places(n: u16, s: Small, links: &[u16], order: &[u16], holders: &mut [u16]) -> Small
-    ensures { λ r. ⌜ stateOf r (now (links .entry)) (now (order .entry)) (now (holders .exit)) ≡ run (stateOf s (now (links .entry)) (now (order .entry)) (now (holders .entry))) (placeCalls n) ⌝ }
+fn with_places(placings: u32, s: Small, links: &[u16], order: &[u16], holders: &mut [u16]) -> Small
+    ensures { λ r. ⌜ stateOf r (now (links .entry)) (now (order .entry)) (now (holders .exit)) ≡ run (stateOf s (now (links .entry)) (now (order .entry)) (now (holders .entry))) (placeCalls placings) ⌝ }
 {
     let mut now = s;
-    let mut i: u16 = 0;
-    while i < n {
+    let mut i: u32 = 0;
+    while i < placings {
         now = now.place(links, order, holders).small;
         i += 1;
     }
@@ -68,26 +68,32 @@ fn with_places(n: u16, s: Small, links: &[u16], order: &[u16], holders: &mut [u1
 }
 
 // Open, and then all of them.
-fn make(file: &[u8], links: &mut [u16], order: &mut [u16], holders: &mut [u16]) -> Small
+fn make(
+    file: &[u8],
+    placings: u32,
+    links: &mut [u16],
+    order: &mut [u16],
+    holders: &mut [u16],
+) -> Small
     requires { ⌜ fileRefusal (now file) ≡ 0 ⌝ }
-    ensures { λ r. ⌜ stateOf r (now (links .exit)) (now (order .exit)) (now (holders .exit)) ≡ madeBy (fileN (now (file .entry))) (fileT (now (file .entry))) (now (links .entry)) (now (order .entry)) (now (holders .entry)) (fileCalls (now (file .entry))) ⌝ }
+    ensures { λ r. ⌜ stateOf r (now (links .exit)) (now (order .exit)) (now (holders .exit)) ≡ madeBy (fileN (now (file .entry))) (fileT (now (file .entry))) (now (links .entry)) (now (order .entry)) (now (holders .entry)) (callsAfter (now (file .entry)) placings) ⌝ }
 {
     let n = plant_file::gateways(file);
     let opened = Small::open(n, plant_file::limit(file), links, order, holders).small;
     let linked = with_links(file, opened, links, order, holders);
     let ordered = with_order(file, linked, links, order, holders);
-    with_places(n, ordered, links, order, holders)
+    with_places(placings, ordered, links, order, holders)
 }
 
 // The record made, and read into the lent lists.
-pub(crate) fn read_all(file: &[u8], leaders: &mut [u16], choke: &mut [u8])
+pub(crate) fn read_all(file: &[u8], placings: u32, leaders: &mut [u16], choke: &mut [u8])
     requires { ⌜ fileRefusal (now file) ≡ 0 ⌝ }
-    ensures leaders { λ _. ⌜ now (leaders .exit) ≡ readLeaders (fileState (now (file .entry))) (now (leaders .entry)) (now (choke .entry)) ⌝ }
-    ensures choke { λ _. ⌜ now (choke .exit) ≡ readChoke (fileState (now (file .entry))) (now (leaders .entry)) (now (choke .entry)) ⌝ }
+    ensures leaders { λ _. ⌜ now (leaders .exit) ≡ readLeaders (stateAfter (now (file .entry)) placings) (now (leaders .entry)) (now (choke .entry)) ⌝ }
+    ensures choke { λ _. ⌜ now (choke .exit) ≡ readChoke (stateAfter (now (file .entry)) placings) (now (leaders .entry)) (now (choke .entry)) ⌝ }
 {
     let mut links = lists::marks::ends();
     let mut order = lists::marks::zeros();
     let mut holders = lists::marks::zeros();
-    let s = make(file, &mut links, &mut order, &mut holders);
+    let s = make(file, placings, &mut links, &mut order, &mut holders);
     s.read(&links, &order, &holders, leaders, choke);
 }

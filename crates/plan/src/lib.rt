@@ -1,29 +1,55 @@
-// The plan of a plant file, as lists of numbers (01, "The plant file and the listing").
+// The plan of a plant file, as lists of numbers (01, "The plant file and the listing"), also while the plant is being placed (02, change 1).
 mod calls;
 
 ghost use mathlib.Core.Path.{_≡_};
 ghost use lib.ListN.{length};
 ghost use Rattle.plan.specs.Plan.{planRefusal, planLeaders, planChoke};
+ghost use Rattle.plan.specs.After.{afterRefusal, planAfterRefusal, planLeadersAfter, planChokeAfter};
 
-// The file's number, then 10 for a list too short.
-fn refusal_of(file: &[u8], leaders: &[u16], choke: &[u8]) -> u32
-    ensures { λ r. ⌜ r ≡ planRefusal (now (file .entry)) (length (now (leaders .entry))) (length (now (choke .entry))) ⌝ }
+// The file's number, then 24 for more placings than there are gateways, then 10: short says that a lent list is too short.
+pub fn refusal_after(file: &[u8], placings: u32, short: bool) -> u32
+    ensures { λ r. ⌜ r ≡ afterRefusal (now (file .entry)) placings short ⌝ }
+{
+    let refused = plant_file::refusal(file);
+    if refused != 0 {
+        return refused;
+    }
+    if (plant_file::gateways(file) as u32) < placings {
+        return 24;
+    }
+    if short {
+        return 10;
+    }
+    0
+}
+
+fn refusal_of(file: &[u8], placings: u32, leaders: &[u16], choke: &[u8]) -> u32
+    ensures { λ r. ⌜ r ≡ planAfterRefusal (now (file .entry)) placings (length (now (leaders .entry))) (length (now (choke .entry))) ⌝ }
 {
     let n = plant_file::gateways(file) as usize;
     let short = lists::tests::either(leaders.len() < n, choke.len() < n);
-    plant_file::refusal_then(file, short)
+    refusal_after(file, placings, short)
 }
 
-// The leader list and the choke bytes of a file's plan. Nothing is written on refusal.
+// The leader list and the choke bytes after so many placings. Nothing is written on refusal.
+pub fn plan_lists_after(file: &[u8], placings: u32, leaders: &mut [u16], choke: &mut [u8]) -> u32
+    ensures answer { λ r. ⌜ r ≡ planAfterRefusal (now (file .entry)) placings (length (now (leaders .entry))) (length (now (choke .entry))) ⌝ }
+    ensures leaders { λ _. ⌜ now (leaders .exit) ≡ planLeadersAfter (now (file .entry)) placings (now (leaders .entry)) (now (choke .entry)) ⌝ }
+    ensures choke { λ _. ⌜ now (choke .exit) ≡ planChokeAfter (now (file .entry)) placings (now (leaders .entry)) (now (choke .entry)) ⌝ }
+{
+    let refused = refusal_of(file, placings, leaders, choke);
+    if refused != 0 {
+        return refused;
+    }
+    calls::read_all(file, placings, leaders, choke);
+    0
+}
+
+// The leader list and the choke bytes of a file's plan: after all placings. Nothing is written on refusal.
 pub fn plan_lists(file: &[u8], leaders: &mut [u16], choke: &mut [u8]) -> u32
     ensures answer { λ r. ⌜ r ≡ planRefusal (now (file .entry)) (length (now (leaders .entry))) (length (now (choke .entry))) ⌝ }
     ensures leaders { λ _. ⌜ now (leaders .exit) ≡ planLeaders (now (file .entry)) (now (leaders .entry)) (now (choke .entry)) ⌝ }
     ensures choke { λ _. ⌜ now (choke .exit) ≡ planChoke (now (file .entry)) (now (leaders .entry)) (now (choke .entry)) ⌝ }
 {
-    let refused = refusal_of(file, leaders, choke);
-    if refused != 0 {
-        return refused;
-    }
-    calls::read_all(file, leaders, choke);
-    0
+    plan_lists_after(file, plant_file::gateways(file) as u32, leaders, choke)
 }

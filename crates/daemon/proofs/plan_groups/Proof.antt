@@ -1,5 +1,4 @@
--- Where the list is too short the file is checked alone; else by the plan.
-use Rattle.daemon.proofs.Groups.{short-number, long-number}
+use Rattle.daemon.proofs.Groups.{whole-number}
 use borrow.Author.Needs.{needs}
 use Rattle.daemon.proofs.plan_groups.Statement.{statement}
 use Rattle.daemon.proofs.plan_groups.Tie as tie
@@ -7,36 +6,25 @@ use Rattle.daemon.proofs.plan_groups.Tie as tie
 gateways-requires : tie.Need-gateways-requires
 gateways-requires c κs = search needs
 
-cast-if1 : tie.Need-cast-if1
-cast-if1 c = search needs
+cast-plan-groups-after : tie.Need-cast-plan-groups-after
+cast-plan-groups-after c = search needs
 
-mul-if1 : tie.Need-mul-if1
-mul-if1 c = search needs
-
-refusal-then-requires : tie.Need-refusal-then-requires
-refusal-then-requires c κs = search needs
-
-returns : tie.Need-returns
-returns c = short-number _ _ (c .before .before .gateways .ensures) (c .before .if1 .taken) (c .refusal-then .ensures)
-
-write-plan-requires : tie.Need-write-plan-requires
-write-plan-requires c κs = search needs
+plan-groups-after-requires : tie.Need-plan-groups-after-requires
+plan-groups-after-requires c κs = search needs
 
 same-length : tie.Need-same-length
 same-length c = search needs
 
-returns-2 : tie.Need-returns-2
-returns-2 c = long-number _ _ (c .before .before .before .before .before .gateways .ensures) (c .before .before .before .before .if1 .left) (c .before .before .write-plan .ensures .0) (c .before .before .write-plan .ensures .1)
+returns : tie.Need-returns
+returns c = let planned = c .before .before in
+    whole-number _ _ (planned .before .before .gateways .ensures) (planned .plan-groups-after .ensures .0) (planned .plan-groups-after .ensures .1)
 
 pub plan-groups-spec : {M : Type 1} → statement M
 plan-groups-spec =
     tie.close
     (tie.spec
     gateways-requires
-    cast-if1
-    mul-if1
-    refusal-then-requires
-    returns
-    write-plan-requires
+    cast-plan-groups-after
+    plan-groups-after-requires
     same-length
-    returns-2)
+    returns)

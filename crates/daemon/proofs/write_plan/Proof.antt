@@ -9,17 +9,17 @@ zeros-requires c κs = search needs
 bytes-requires : tie.Need-bytes-requires
 bytes-requires c κs = search needs
 
-slice-aggregate-plan-lists : tie.Need-slice-aggregate-plan-lists
-slice-aggregate-plan-lists c = search needs
+slice-aggregate-plan-lists-after : tie.Need-slice-aggregate-plan-lists-after
+slice-aggregate-plan-lists-after c = search needs
 
-slice-aggregate-plan-lists-2 : tie.Need-slice-aggregate-plan-lists-2
-slice-aggregate-plan-lists-2 c = search needs
+slice-aggregate-plan-lists-after-2 : tie.Need-slice-aggregate-plan-lists-after-2
+slice-aggregate-plan-lists-after-2 c = search needs
 
-plan-lists-requires : tie.Need-plan-lists-requires
-plan-lists-requires c κs = search needs
+plan-lists-after-requires : tie.Need-plan-lists-after-requires
+plan-lists-after-requires c κs = search needs
 
 returns : tie.Need-returns
-returns c = plan-refuses _ (c .before .before .before .before .before .before .before .zeros .ensures) (c .before .before .before .before .before .before .bytes .ensures) (c .before .before .before .plan-lists .ensures .0) _ (c .if1 .taken)
+returns c = plan-refuses _ _ (c .before .before .before .before .before .before .before .zeros .ensures) (c .before .before .before .before .before .before .bytes .ensures) (c .before .before .before .plan-lists-after .ensures .0) _ (c .if1 .taken)
 
 gateways-requires : tie.Need-gateways-requires
 gateways-requires c κs = search needs
@@ -34,13 +34,13 @@ slice-aggregate-with-plan-2 : tie.Need-slice-aggregate-with-plan-2
 slice-aggregate-with-plan-2 c = search needs
 
 with-plan-requires : tie.Need-with-plan-requires
-with-plan-requires c κs = plannable _ (c .before .before .before .before .before .before .before .before .before .before .before .zeros .ensures) (c .before .before .before .before .before .before .before .before .before .before .bytes .ensures) (c .before .before .before .before .before .before .before .plan-lists .ensures .0) (c .before .before .before .before .if1 .left) (c .before .before .before .gateways .ensures) (c .before .before .before .before .before .before .before .plan-lists .ensures .1 .0) (c .before .before .before .before .before .before .before .plan-lists .ensures .1 .1) _ (c .before .before .before .before .before .before .before .before .before .before .before .before .before .before .pre)
+with-plan-requires c κs = plannable _ _ (c .before .before .before .before .before .before .before .before .before .before .before .zeros .ensures) (c .before .before .before .before .before .before .before .before .before .before .bytes .ensures) (c .before .before .before .before .before .before .before .plan-lists-after .ensures .0) (c .before .before .before .before .if1 .left) (c .before .before .before .gateways .ensures) (c .before .before .before .before .before .before .before .plan-lists-after .ensures .1 .0) (c .before .before .before .before .before .before .before .plan-lists-after .ensures .1 .1) _ (c .before .before .before .before .before .before .before .before .before .before .before .before .before .before .pre)
 
 same-length : tie.Need-same-length
 same-length c = search needs
 
 returns-2 : tie.Need-returns-2
-returns-2 c = plan-accepts _ (c .before .before .before .before .before .before .before .before .before .before .before .before .before .before .zeros .ensures) (c .before .before .before .before .before .before .before .before .before .before .before .before .before .bytes .ensures) (c .before .before .before .before .before .before .before .before .before .before .plan-lists .ensures .0) (c .before .before .before .before .before .before .before .if1 .left) (c .before .before .before .before .before .before .gateways .ensures) (c .before .before .before .before .before .before .before .before .before .before .plan-lists .ensures .1 .0) (c .before .before .before .before .before .before .before .before .before .before .plan-lists .ensures .1 .1) _ (c .before .before .with-plan .ensures)
+returns-2 c = plan-accepts _ _ (c .before .before .before .before .before .before .before .before .before .before .before .before .before .before .zeros .ensures) (c .before .before .before .before .before .before .before .before .before .before .before .before .before .bytes .ensures) (c .before .before .before .before .before .before .before .before .before .before .plan-lists-after .ensures .0) (c .before .before .before .before .before .before .before .if1 .left) (c .before .before .before .before .before .before .gateways .ensures) (c .before .before .before .before .before .before .before .before .before .before .plan-lists-after .ensures .1 .0) (c .before .before .before .before .before .before .before .before .before .before .plan-lists-after .ensures .1 .1) _ (c .before .before .with-plan .ensures)
 
 pub write-plan-spec : {M : Type 1} → statement M
 write-plan-spec =
@@ -48,9 +48,9 @@ write-plan-spec =
     (tie.spec
     zeros-requires
     bytes-requires
-    slice-aggregate-plan-lists
-    slice-aggregate-plan-lists-2
-    plan-lists-requires
+    slice-aggregate-plan-lists-after
+    slice-aggregate-plan-lists-after-2
+    plan-lists-after-requires
     returns
     gateways-requires
     cast-with-plan

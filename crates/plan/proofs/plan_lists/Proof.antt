@@ -1,10 +1,16 @@
-use Rattle.plan.proofs.Refusing.{plan-places, plan-refused, plan-accepted}
+use Rattle.plan.proofs.Refusing.{plan-whole}
 use borrow.Author.Needs.{needs}
 use Rattle.plan.proofs.plan_lists.Statement.{statement}
 use Rattle.plan.proofs.plan_lists.Tie as tie
 
-refusal-of-requires : tie.Need-refusal-of-requires
-refusal-of-requires c κs = search needs
+gateways-requires : tie.Need-gateways-requires
+gateways-requires c κs = search needs
+
+cast-plan-lists-after : tie.Need-cast-plan-lists-after
+cast-plan-lists-after c = search needs
+
+plan-lists-after-requires : tie.Need-plan-lists-after-requires
+plan-lists-after-requires c κs = search needs
 
 same-length : tie.Need-same-length
 same-length c = search needs
@@ -13,31 +19,16 @@ same-length-2 : tie.Need-same-length-2
 same-length-2 c = search needs
 
 returns : tie.Need-returns
-returns c = plan-refused _ _ _ (c .before .refusal-of .ensures) (c .if1 .taken)
-
-read-all-requires : tie.Need-read-all-requires
-read-all-requires c κs = plan-places _ _ _ (c .before .before .before .refusal-of .ensures) (c .before .before .if1 .left) .0
-
-same-length-3 : tie.Need-same-length-3
-same-length-3 c = search needs
-
-same-length-4 : tie.Need-same-length-4
-same-length-4 c = search needs
-
-returns-2 : tie.Need-returns-2
-returns-2 c = let read = c .before .before .before .before in
-    let test = read .before .before .before in
-    plan-accepted _ _ _ (test .before .refusal-of .ensures) (test .if1 .left) (read .read-all .ensures .0) (read .read-all .ensures .1)
+returns c = let planned = c .before .before .before .before in
+    plan-whole _ _ _ (planned .before .before .before .gateways .ensures) (planned .plan-lists-after .ensures .0) (planned .plan-lists-after .ensures .1 .0) (planned .plan-lists-after .ensures .1 .1)
 
 pub plan-lists-spec : {M : Type 1} → statement M
 plan-lists-spec =
     tie.close
     (tie.spec
-    refusal-of-requires
+    gateways-requires
+    cast-plan-lists-after
+    plan-lists-after-requires
     same-length
     same-length-2
-    returns
-    read-all-requires
-    same-length-3
-    same-length-4
-    returns-2)
+    returns)

@@ -12,12 +12,12 @@ cast-n c = search needs
 either-requires : tie.Need-either-requires
 either-requires c κs = search needs
 
-refusal-then-requires : tie.Need-refusal-then-requires
-refusal-then-requires c κs = search needs
+refusal-after-requires : tie.Need-refusal-after-requires
+refusal-after-requires c κs = search needs
 
 returns : tie.Need-returns
-returns c = plan-number _ _ _ (c .before .before .gateways .ensures) (c .before .either .ensures) (c .refusal-then .ensures)
+returns c = plan-number _ _ _ _ (c .before .before .gateways .ensures) (c .before .either .ensures) (c .refusal-after .ensures)
 
 pub refusal-of-spec : {M : Type 1} → statement M
 refusal-of-spec =
-    tie.close (tie.spec gateways-requires cast-n either-requires refusal-then-requires returns)
+    tie.close (tie.spec gateways-requires cast-n either-requires refusal-after-requires returns)

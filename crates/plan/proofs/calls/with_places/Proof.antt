@@ -8,10 +8,10 @@ use Rattle.plan.proofs.calls.with_places.Statement.{statement}
 use Rattle.plan.proofs.calls.with_places.Tie as tie
 
 abbrev Inv-loop : tie.InvT-loop
-Inv-loop n links order holders₀ now₀ i₀ holders now i = Places n (stateOf now₀ links order holders₀) (stateOf now links order holders) i × (length holders ≡ length holders₀)
+Inv-loop placings links order holders₀ now₀ i₀ holders now i = Places placings (stateOf now₀ links order holders₀) (stateOf now links order holders) i × (length holders ≡ length holders₀)
 
 abbrev μ-loop : tie.MeasureT-loop
-μ-loop n links order holders₀ now₀ i₀ holders now i = n - i
+μ-loop placings links order holders₀ now₀ i₀ holders now i = placings - i
 
 loop-holds : tie.Need-loop-holds Inv-loop μ-loop
 loop-holds c = (places-start _, search needs)
