@@ -77,6 +77,7 @@ fn call(label: &[u8], a: &[u16]) {
         11 => soundness::large(label, 4, lists::entry(a, 2)),
         12 => membering_large::case(label, a),
         13 => membering_large::most(label, a),
+        15 => reading::steps(label, a),
         _ => full::run(),
     }
 }
