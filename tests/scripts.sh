@@ -112,9 +112,10 @@ readme_block() {
         here && $0 == fence && ++seen == which { inside = 1 }' README.md
 }
 
+# a section's program in C prints what the section says
 readme_example() {
-    readme_block 'The call from C' c 1 >"$folder/example.c"
-    readme_block 'The call from C' text 1 >"$folder/example.txt"
+    readme_block "$1" c 1 >"$folder/example.c"
+    readme_block "$1" text 1 >"$folder/example.txt"
     [ -s "$folder/example.txt" ] || return
     gcc -std=c11 -Wall -Wextra -Werror -Iinclude "$folder/example.c" "$library" -o "$folder/example" || return
     "$folder/example" | diff - "$folder/example.txt"
@@ -156,7 +157,8 @@ run_script_tests() {
     run_one 'scripts/pack, no place to write' pack_refuses 1 data/sample.txt "$folder/none/plant.plt"
     run_one 'scripts/pack, onto its own text' pack_keeps_its_text
     run_one 'a packed plant listed' packed_is_listed
-    run_one 'the C example of README.md' readme_example
+    run_one 'the C example of README.md' readme_example 'The call from C'
+    run_one 'the C example of README.md, while it is being placed' readme_example 'While the plant is being placed'
     run_one 'the text and the listing of README.md' readme_text
     run_one 'the Rattle example of README.md' readme_rattle
 }

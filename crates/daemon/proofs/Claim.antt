@@ -11,6 +11,7 @@ use Rattle.packing.specs.Lists.{written}
 use Rattle.packing.specs.Plant.{at}
 use Rattle.packing.proofs.Lists.{written-past}
 use Rattle.packing.proofs.Refusals.{refused}
+use Rattle.packing.proofs.SoFar.{placed-same}
 use Rattle.plant_file.specs.PlantFile.{number, fileN, fileRefusal}
 use Rattle.plant_file.specs.Encode.{lowFirst}
 use Rattle.plant_file.proofs.Encode.{low-long, number-low}
@@ -20,7 +21,7 @@ use Rattle.plan.proofs.Refusing.{after-none}
 use Rattle.plan.proofs.After.{leaders-long, choke-long, choke-at, choke-bit, plan-so-far-below, lists-so-far}
 use Rattle.plan.proofs.FilePlan.{leaders-all, choke-all, plan-below, lists-plan}
 use Rattle.daemon.specs.Groups.{planBytes, groupsRefusal, groupsOut, bytesAfter, groupsAfterRefusal, groupsAfterOut}
-use Rattle.daemon.specs.Claim.{leaderAt, chokeAt, BytesPlan, BytesRefused, BytesSoFar, BytesAfterRefused, BytesAfterAll}
+use Rattle.daemon.specs.Claim.{leaderAt, chokeAt, BytesPlan, BytesRefused, BytesSoFar, BytesStay, BytesAfterRefused, BytesAfterAll}
 use Rattle.daemon.proofs.Groups.{bytes-after-all}
 
 -- the bytes of n leaders and n choke bytes, and what stands behind them
@@ -78,6 +79,10 @@ bytes-so-far file k out z =
       λ v l. sym (choke-after file k out z v l) ∙ choke-at file fine k within v l,
       past-after file k out z,
     )
+
+pub bytes-stay : BytesStay
+unfolding BytesStay BytesSoFar
+bytes-stay file k k' out out' z z' = placed-same (bytes-so-far file k out z .0) (bytes-so-far file k' out' z' .0)
 
 pub bytes-after-refused : BytesAfterRefused
 unfolding BytesAfterRefused groupsAfterOut

@@ -5,8 +5,9 @@ use mathlib.Core.List.{List}
 use lib.Dec.{eqb}
 use lib.ListN.{length, drop}
 use Rattle.packing.specs.Plant.{at}
+use Rattle.packing.specs.Grouping.{covered}
 use Rattle.search.specs.ChokeSet.{chokeByte}
-use Rattle.plant_file.specs.PlantFile.{fileN, fileLinks}
+use Rattle.plant_file.specs.PlantFile.{fileN, fileLinks, fileOrder}
 use Rattle.plan.specs.Plan.{stateAfter}
 use Rattle.plan.specs.Claim.{PlanOf, PlanSoFar}
 use Rattle.daemon.specs.Groups.{groupsRefusal, groupsOut, groupsAfterRefusal, groupsAfterOut}
@@ -41,6 +42,13 @@ BytesSoFar =
 
 unfoldable pub BytesAfterRefused : Type 0
 BytesAfterRefused = (file : List ℕ) (k : ℕ) (out : List ℕ) → (groupsAfterRefusal file k (length out) ≡ 0 → ⊥) → groupsAfterOut file k out ≡ out
+
+-- What is settled stays so: the answers for two numbers of placings cover the same of the gateways that are placed in both.
+unfoldable pub BytesStay : Type 0
+BytesStay =
+    (file : List ℕ) (k k' : ℕ) (out out' : List ℕ) → groupsAfterRefusal file k (length out) ≡ 0 → groupsAfterRefusal file k' (length out') ≡ 0
+    → (i : ℕ) → i < k → i < k'
+    → covered (leaderAt (groupsAfterOut file k out)) (at (fileOrder file) i) ≡ covered (leaderAt (groupsAfterOut file k' out')) (at (fileOrder file) i)
 
 -- With n placings the call answers what plan_groups answers, whatever is handed in.
 unfoldable pub BytesAfterAll : Type 0

@@ -1,10 +1,11 @@
 -- Groups for the holders so far: every grouping that covers what is held has what specs/SoFar.antt says, where each placed gateway without holder has its pair.
-use Prim.Native.Nat.{ℕ, _<_, _≤_}
+use Prim.Native.Nat.{ℕ, suc, _<_, _≤_}
 use mathlib.Core.Path.{_≡_, refl, sym, ap, _∙_}
 use mathlib.Core.Bool.{Bool, true, false, not}
 use native.Mathlib.Omega.{arith}
 use lib.Dec.{eqb}
 use borrow.Author.Tests.{eqb-true, eq-eqb}
+use Rattle.packing.specs.Count.{pick, sum, count}
 use Rattle.packing.specs.Plant.{NONE}
 use Rattle.packing.specs.Grouping.{Grouping, covered, countFirst, coveredFirst}
 use Rattle.packing.specs.Holders.{held}
@@ -81,3 +82,23 @@ so-far-below {n} {limit} {limit'} {adj} {order} {order'} {k} {h} {g} {g'} placed
           first-same placed inside orders (covered other) (covered other) (λ v m. refl) j l,
           first-same placed inside orders (covered g) (covered g') covered-same j l,
         )
+
+same-test : (a b : Bool) → pick a 1 ≡ pick b 1 → a ≡ b
+same-test true true e = refl
+same-test true false e = absurd (omega arith)
+same-test false true e = absurd (omega arith)
+same-test false false e = refl
+
+-- Two groupings so far of one plant cover the same of the gateways that are placed for both: over every first j neither covers more.
+pub placed-same : {n : ℕ} {limit : ℕ → ℕ} {adj : ℕ → ℕ → Bool} {order : ℕ → ℕ} {k k' : ℕ} {h h' g g' : ℕ → ℕ} → SoFar n limit adj order k h g → SoFar n limit adj order k' h' g'
+    → (i : ℕ) → i < k → i < k' → covered g (order i) ≡ covered g' (order i)
+unfolding countFirst count sum
+placed-same {order = order} {g = g} {g'} s s' i l l' =
+    same-test (covered g (order i)) (covered g' (order i))
+    (omega (
+      arith,
+      s .most g' (s' .grouping) i (omega arith),
+      s .most g' (s' .grouping) (suc i) l,
+      s' .most g (s .grouping) i (omega arith),
+      s' .most g (s .grouping) (suc i) l',
+    ))

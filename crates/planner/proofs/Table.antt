@@ -25,10 +25,16 @@ use Rattle.planner.specs.Calls.{opened, openCall, conditions, callRefusa
 use Rattle.planner.specs.Run.{run, linkCalls, placeCalls}
 use Rattle.planner.specs.Cases.{Row, stands, reads, holds, gives, differs, after, leadersOf, chokeOf, withoutLink, limitsOf, aloneOf, sameList, rowHolds, empty, one, two, path, star, starBack, star4, listed, ring, table, early, rowsHold, Means}
 
--- the whole of both, computed
-pub tables-hold : (rowsHold table ≡ true) × (rowsHold early ≡ true)
+-- both, computed
+tables-hold : (rowsHold table ≡ true) × (rowsHold early ≡ true)
 unfolding sum count sumOver all any listOf listWhere common firstLinks linked neighbours memberCount heldCount stranded numbersSound listsLong endsSound onceEach holdersLinked holdersWithin onlyPlacedHeld isSound heldBy look visit turn turns walk shift settled placedHolders firstWith holder back onCycle nextOnCycle leadsIn leadsInTrees begins cut leads leaderOf pairLeader partner ruleFive leaderListBy leaderList withoutHolder chokeWalk seenIn walkSaw inChoke chokeByte upTo written repeatsOrOutside openRefusal linkConditions orderConditions placeConditions readConditions limitOf soundState opened openCall conditions callRefusal changed call readLeaders readChoke run linkCalls placeCalls after leadersOf chokeOf withoutLink limitsOf aloneOf sameList rowHolds empty one two path star starBack star4 listed ring table early rowsHold
 tables-hold = (refl, refl)
+
+pub table-holds : rowsHold table ≡ true
+table-holds = tables-hold .0
+
+pub early-holds : rowsHold early ≡ true
+early-holds = tables-hold .1
 
 same-list : (l r : List ℕ) → sameList l r ≡ true → l ≡ r
 unfolding sameList
@@ -62,7 +68,7 @@ rows-mean (r ∷ rows) e (suc i) l d = rows-mean rows (and-r (rowHolds r) (rowsH
 
 -- each row of both means what it says
 pub case : (i : ℕ) → i < length table → (d : Row) → Means (getD table i d)
-case = rows-mean table (tables-hold .0)
+case = rows-mean table table-holds
 
 pub early-case : (i : ℕ) → i < length early → (d : Row) → Means (getD early i d)
-early-case = rows-mean early (tables-hold .1)
+early-case = rows-mean early early-holds
