@@ -1,6 +1,6 @@
 -- The refusals of a plan after so many placings, and what it gives by them.
 use Prim.Native.Nat.{ℕ, _<_, _≤_}
-use mathlib.Core.Path.{_≡_, refl, sym, _∙_}
+use mathlib.Core.Path.{_≡_, sym, _∙_}
 use mathlib.Core.Bool.{Bool, true, false, _||_}
 use mathlib.Core.List.{List}
 use native.Mathlib.Omega.{arith}
@@ -12,7 +12,6 @@ use Rattle.packing.proofs.Tests.{or-none, or-false-l, or-false-r}
 use Rattle.packing.proofs.Refusals.{refuse-none, refused, accepted, first-refused, first-passed, first-none}
 use Rattle.planner.specs.Calls.{readLeaders, readChoke}
 use Rattle.plant_file.specs.PlantFile.{fileN, fileRefusal, fileThenShort}
-use Rattle.plant_file.proofs.Refusing.{then-none, then-alone}
 use Rattle.plan.specs.Plan.{stateAfter, fileState, planRefusal, planLeaders, planChoke}
 use Rattle.plan.specs.After.{afterRefusal, planAfterRefusal, planLeadersAfter, planChokeAfter}
 use Rattle.plan.specs.Claim.{AfterAll}

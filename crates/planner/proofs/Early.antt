@@ -1,14 +1,13 @@
 -- What is not claimed of a read before the last placing, since it would be false: the star of specs/Cases.antt after one placing, by the row that the checker computed.
-use Prim.Native.Nat.{ℕ, _≤_, _<_}
-use mathlib.Core.Path.{_≡_, refl, sym, ap, _∙_}
-use mathlib.Core.Bool.{not, true≢false}
+use Prim.Native.Nat.{ℕ}
+use mathlib.Core.Path.{_≡_, refl}
+use mathlib.Core.Bool.{true≢false}
 use mathlib.Core.List.{List, [], _∷_, _++_}
 use native.Mathlib.Omega.{arith}
 use lib.ListN.{replicate}
-use Rattle.packing.specs.Count.{sum, count, sumOver, all, any}
+use Rattle.packing.specs.Count.{sum, count, sumOver, all}
 use Rattle.packing.specs.Lists.{listOf}
-use Rattle.packing.specs.Plant.{NONE, at, common, linked}
-use Rattle.packing.specs.Grouping.{covered}
+use Rattle.packing.specs.Plant.{NONE, common, linked}
 use Rattle.packing.specs.Orders.{upTo}
 use Rattle.packing.specs.Choke.{stranded, ChokeDifference}
 use Rattle.planner.specs.Refusals.{openRefusal, linkConditions, placeConditions, readConditions}
@@ -16,7 +15,7 @@ use Rattle.planner.specs.State.{State}
 use Rattle.planner.specs.Calls.{read, readLeaders, readChoke}
 use Rattle.planner.specs.Told.{Told, beginning, refuses, accepted, tellOne, tell}
 use Rattle.planner.specs.Run.{linkCalls, placeCalls}
-use Rattle.planner.specs.Claims.{toldBy, madeBy, leadersRead, AnyRead, OnlyPlacedCovered, UnplacedMayBeCovered, DifferenceIsAlone, DifferenceMayBeOff}
+use Rattle.planner.specs.Claims.{toldBy, AnyRead, OnlyPlacedCovered, UnplacedMayBeCovered, DifferenceIsAlone, DifferenceMayBeOff}
 use Rattle.planner.specs.Cases.{stands, star, after, leadersOf, chokeOf, early}
 use Rattle.planner.proofs.Table.{early-case}
 
@@ -47,10 +46,12 @@ choke-is : readChoke (after star 1) (replicate 5 0) (replicate 5 0) ≡ 1 ∷ 0 
 unfolding chokeOf star early
 choke-is = early-case 3 (omega arith) (stands star []) .1
 
+-- gateway 1 is not placed, and covered
 pub unplaced-may-be-covered : UnplacedMayBeCovered
 unfolding UnplacedMayBeCovered starTold
 unplaced-may-be-covered holds = true≢false (rw leaders-are at (first-read OnlyPlacedCovered holds 1 (omega arith) (omega arith)))
 
+-- four have no link without gateway 0, its limit is 3, and three are alone: 4 is not 3 + 3
 pub difference-may-be-off : DifferenceMayBeOff
 unfolding DifferenceMayBeOff ChokeDifference starTold star stranded sumOver count sum all linked common
 difference-may-be-off holds = let same : _≡_ {A = ℕ} 4 6 = rw (leaders-are, choke-is) at (first-read DifferenceIsAlone holds) in omega arith
