@@ -23,7 +23,7 @@ use Rattle.planner.specs.Refusals.{openRefusal, linkConditions, orderCon
 use Rattle.planner.specs.State.{limitOf, soundState}
 use Rattle.planner.specs.Calls.{opened, openCall, conditions, callRefusal, changed, call, readLeaders, readChoke}
 use Rattle.planner.specs.Run.{run, linkCalls, placeCalls}
-use Rattle.planner.specs.Cases.{Row, stands, reads, holds, gives, differs, after, leadersOf, chokeOf, withoutLink, limitsOf, aloneOf, sameList, rowHolds, empty, one, two, path, star, starBack, star4, listed, ring, table, early, rowsHold, Means}
+use Rattle.planner.specs.Cases.{Row, stands, readsAfter, holds, gives, differsAfter, after, leadersOf, chokeOf, withoutLink, limitsOf, aloneOf, sameList, rowHolds, empty, one, two, path, star, starBack, star4, listed, ring, table, early, rowsHold, Means}
 
 -- both, computed
 tables-hold : (rowsHold table ≡ true) × (rowsHold early ≡ true)
@@ -47,13 +47,13 @@ same-list (x ∷ xs) (y ∷ ys) e =
 row-means : (r : Row) → rowHolds r ≡ true → Means r
 unfolding rowHolds
 row-means (stands p numbers) e = same-list (after p 0 .order) numbers e
-row-means (reads p k leaders choke) e = (
+row-means (readsAfter p k leaders choke) e = (
   same-list (leadersOf p k) leaders (and-l (sameList (leadersOf p k) leaders) (sameList (chokeOf p k) choke) e),
   same-list (chokeOf p k) choke (and-r (sameList (leadersOf p k) leaders) (sameList (chokeOf p k) choke) e),
 )
 row-means (holds p k holders) e = same-list (after p k .holders) holders e
 row-means (gives p k c e) f = eqb-true (call (after p k) c .refusal) e f
-row-means (differs p k without limits alone) e =
+row-means (differsAfter p k without limits alone) e =
     let both = and-l (eqb (withoutLink p k) without && eqb (limitsOf p k) limits) (eqb (aloneOf p k) alone) e in (
       eqb-true _ without (and-l (eqb (withoutLink p k) without) (eqb (limitsOf p k) limits) both),
       eqb-true _ limits (and-r (eqb (withoutLink p k) without) (eqb (limitsOf p k) limits) both),

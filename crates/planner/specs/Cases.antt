@@ -52,17 +52,17 @@ sameList (x ∷ xs) (y ∷ ys) = eqb x y && sameList xs ys
 -- what a row says of a plant: its order; what read writes after so many placings; the holders then; the number that a call then gives; the two numbers of the choke difference then, and the number alone
 pub data Row : Type 0 where
   stands : Plant → List ℕ → Row
-  reads : Plant → ℕ → List ℕ → List ℕ → Row
+  readsAfter : Plant → ℕ → List ℕ → List ℕ → Row
   holds : Plant → ℕ → List ℕ → Row
   gives : Plant → ℕ → Call → ℕ → Row
-  differs : Plant → ℕ → ℕ → ℕ → ℕ → Row
+  differsAfter : Plant → ℕ → ℕ → ℕ → ℕ → Row
 
 unfoldable pub rowHolds : Row → Bool
 rowHolds (stands p numbers) = sameList (after p 0 .order) numbers
-rowHolds (reads p k leaders choke) = sameList (leadersOf p k) leaders && sameList (chokeOf p k) choke
+rowHolds (readsAfter p k leaders choke) = sameList (leadersOf p k) leaders && sameList (chokeOf p k) choke
 rowHolds (holds p k holders) = sameList (after p k .holders) holders
 rowHolds (gives p k c e) = eqb (call (after p k) c .refusal) e
-rowHolds (differs p k without limits alone) = eqb (withoutLink p k) without && eqb (limitsOf p k) limits && eqb (aloneOf p k) alone
+rowHolds (differsAfter p k without limits alone) = eqb (withoutLink p k) without && eqb (limitsOf p k) limits && eqb (aloneOf p k) alone
 
 -- the plants
 unfoldable pub empty : Plant
@@ -92,31 +92,38 @@ listed = record { n = 5; t = 2; links = 0 ∷ 2 ∷ 0 ∷ 3 ∷ 0 ∷ 4 ∷ 1 �
 unfoldable pub ring : Plant
 ring = record { n = 5; t = 2; links = 0 ∷ 1 ∷ 1 ∷ 2 ∷ 2 ∷ 3 ∷ 3 ∷ 4 ∷ 4 ∷ 0 ∷ []; ordering = [] }
 
--- The table. In the order of 01's list, each plant fully placed where it is read:
+-- rows about the fully placed plant
+abbrev pub reads : Plant → List ℕ → List ℕ → Row
+reads p leaders choke = readsAfter p (p .n) leaders choke
+
+abbrev pub differs : Plant → ℕ → ℕ → ℕ → Row
+differs p without limits alone = differsAfter p (p .n) without limits alone
+
+-- The table. In the order of 01's list:
 unfoldable pub table : List Row
 table =
-    reads empty 0 [] [] ∷ gives empty 0 place 24 ∷ gives empty 0 (read [] []) 0
-    ∷ reads one 1 (NONE ∷ []) (0 ∷ []) ∷ gives one 1 place 24
-    ∷ reads two 2 (NONE ∷ NONE ∷ []) (0 ∷ 0 ∷ []) ∷ differs two 2 2 0 2
-    ∷ stands path (0 ∷ 1 ∷ 2 ∷ []) ∷ reads path 3 (1 ∷ 1 ∷ 1 ∷ []) (0 ∷ 0 ∷ 0 ∷ [])
+    reads empty [] [] ∷ gives empty 0 place 24 ∷ gives empty 0 (read [] []) 0
+    ∷ reads one (NONE ∷ []) (0 ∷ []) ∷ gives one 1 place 24
+    ∷ reads two (NONE ∷ NONE ∷ []) (0 ∷ 0 ∷ []) ∷ differs two 2 0 2
+    ∷ stands path (0 ∷ 1 ∷ 2 ∷ []) ∷ reads path (1 ∷ 1 ∷ 1 ∷ []) (0 ∷ 0 ∷ 0 ∷ [])
     ∷ gives path 0 (link 1 0) 20 ∷ gives path 0 (link 0 1) 20 ∷ gives path 0 (order (2 ∷ 1 ∷ 0 ∷ [])) 0 ∷ gives path 1 (link 1 0) 22 ∷ gives path 1 (order (2 ∷ 1 ∷ 0 ∷ [])) 22
     ∷ gives path 2 place 0 ∷ gives path 3 place 24
-    ∷ stands star (0 ∷ 1 ∷ 2 ∷ 3 ∷ 4 ∷ []) ∷ reads star 5 (0 ∷ 0 ∷ 0 ∷ 0 ∷ NONE ∷ []) (1 ∷ 0 ∷ 0 ∷ 0 ∷ 0 ∷ []) ∷ differs star 5 4 3 1
-    ∷ stands starBack (4 ∷ 3 ∷ 2 ∷ 1 ∷ 0 ∷ []) ∷ reads starBack 5 (0 ∷ NONE ∷ 0 ∷ 0 ∷ 0 ∷ []) (1 ∷ 0 ∷ 0 ∷ 0 ∷ 0 ∷ [])
-    ∷ reads star4 5 (0 ∷ 0 ∷ 0 ∷ 0 ∷ 0 ∷ []) (0 ∷ 0 ∷ 0 ∷ 0 ∷ 0 ∷ [])
-    ∷ holds listed 2 (NONE ∷ NONE ∷ 0 ∷ 0 ∷ NONE ∷ []) ∷ holds listed 3 (NONE ∷ NONE ∷ 1 ∷ 0 ∷ 0 ∷ []) ∷ reads listed 5 (0 ∷ 1 ∷ 1 ∷ 0 ∷ 0 ∷ []) (0 ∷ 0 ∷ 0 ∷ 0 ∷ 0 ∷ [])
-    ∷ stands ring (0 ∷ 1 ∷ 2 ∷ 3 ∷ 4 ∷ []) ∷ reads ring 5 (1 ∷ 1 ∷ 1 ∷ 3 ∷ 3 ∷ []) (0 ∷ 0 ∷ 0 ∷ 0 ∷ 0 ∷ [])
+    ∷ stands star (0 ∷ 1 ∷ 2 ∷ 3 ∷ 4 ∷ []) ∷ reads star (0 ∷ 0 ∷ 0 ∷ 0 ∷ NONE ∷ []) (1 ∷ 0 ∷ 0 ∷ 0 ∷ 0 ∷ []) ∷ differs star 4 3 1
+    ∷ stands starBack (4 ∷ 3 ∷ 2 ∷ 1 ∷ 0 ∷ []) ∷ reads starBack (0 ∷ NONE ∷ 0 ∷ 0 ∷ 0 ∷ []) (1 ∷ 0 ∷ 0 ∷ 0 ∷ 0 ∷ [])
+    ∷ reads star4 (0 ∷ 0 ∷ 0 ∷ 0 ∷ 0 ∷ []) (0 ∷ 0 ∷ 0 ∷ 0 ∷ 0 ∷ [])
+    ∷ holds listed 2 (NONE ∷ NONE ∷ 0 ∷ 0 ∷ NONE ∷ []) ∷ holds listed 3 (NONE ∷ NONE ∷ 1 ∷ 0 ∷ 0 ∷ []) ∷ reads listed (0 ∷ 1 ∷ 1 ∷ 0 ∷ 0 ∷ []) (0 ∷ 0 ∷ 0 ∷ 0 ∷ 0 ∷ [])
+    ∷ stands ring (0 ∷ 1 ∷ 2 ∷ 3 ∷ 4 ∷ []) ∷ reads ring (1 ∷ 1 ∷ 1 ∷ 3 ∷ 3 ∷ []) (0 ∷ 0 ∷ 0 ∷ 0 ∷ 0 ∷ [])
     ∷ []
 
 -- 02, change 1: reads before the last placing. After one placing of the star gateway 1 is covered, though it is not placed, and the difference is 4 − 3 = 1 where three are alone.
--- In the listing's plant gateway 0 is covered after the first placing, the fourth in the order, and 1 after the third, the last.
+-- In the listing's plant gateway 0 is covered after the first placing, the fourth in the order, and 1 after the third, the last. In the star with the order turned round 1 is left by the fourth placing, and alone.
 unfoldable pub early : List Row
 early =
-    gives one 0 (read (0 ∷ []) (0 ∷ [])) 0 ∷ reads one 0 (NONE ∷ []) (0 ∷ []) ∷ gives path 2 (read (0 ∷ 0 ∷ 0 ∷ []) (0 ∷ 0 ∷ [])) 10
-    ∷ reads star 1 (0 ∷ 0 ∷ NONE ∷ NONE ∷ NONE ∷ []) (1 ∷ 0 ∷ 0 ∷ 0 ∷ 0 ∷ []) ∷ differs star 1 4 3 3
-    ∷ reads listed 0 (NONE ∷ NONE ∷ NONE ∷ NONE ∷ NONE ∷ []) (1 ∷ 1 ∷ 1 ∷ 1 ∷ 1 ∷ []) ∷ reads listed 1 (0 ∷ NONE ∷ 0 ∷ NONE ∷ NONE ∷ []) (1 ∷ 1 ∷ 1 ∷ 1 ∷ 1 ∷ [])
-    ∷ reads listed 2 (0 ∷ NONE ∷ 0 ∷ 0 ∷ NONE ∷ []) (1 ∷ 1 ∷ 1 ∷ 1 ∷ 1 ∷ []) ∷ reads listed 3 (0 ∷ 1 ∷ 1 ∷ 0 ∷ 0 ∷ []) (0 ∷ 0 ∷ 1 ∷ 1 ∷ 1 ∷ [])
-    ∷ reads listed 4 (0 ∷ 1 ∷ 1 ∷ 0 ∷ 0 ∷ []) (0 ∷ 0 ∷ 1 ∷ 1 ∷ 1 ∷ [])
+    gives one 0 (read (0 ∷ []) (0 ∷ [])) 0 ∷ readsAfter one 0 (NONE ∷ []) (0 ∷ []) ∷ gives path 2 (read (0 ∷ 0 ∷ 0 ∷ []) (0 ∷ 0 ∷ [])) 10
+    ∷ readsAfter star 1 (0 ∷ 0 ∷ NONE ∷ NONE ∷ NONE ∷ []) (1 ∷ 0 ∷ 0 ∷ 0 ∷ 0 ∷ []) ∷ differsAfter star 1 4 3 3
+    ∷ readsAfter listed 0 (NONE ∷ NONE ∷ NONE ∷ NONE ∷ NONE ∷ []) (1 ∷ 1 ∷ 1 ∷ 1 ∷ 1 ∷ []) ∷ readsAfter listed 1 (0 ∷ NONE ∷ 0 ∷ NONE ∷ NONE ∷ []) (1 ∷ 1 ∷ 1 ∷ 1 ∷ 1 ∷ [])
+    ∷ readsAfter listed 2 (0 ∷ NONE ∷ 0 ∷ 0 ∷ NONE ∷ []) (1 ∷ 1 ∷ 1 ∷ 1 ∷ 1 ∷ []) ∷ readsAfter listed 3 (0 ∷ 1 ∷ 1 ∷ 0 ∷ 0 ∷ []) (0 ∷ 0 ∷ 1 ∷ 1 ∷ 1 ∷ [])
+    ∷ readsAfter listed 4 (0 ∷ 1 ∷ 1 ∷ 0 ∷ 0 ∷ []) (0 ∷ 0 ∷ 1 ∷ 1 ∷ 1 ∷ []) ∷ readsAfter starBack 4 (0 ∷ NONE ∷ 0 ∷ 0 ∷ 0 ∷ []) (1 ∷ 1 ∷ 1 ∷ 1 ∷ 1 ∷ [])
     ∷ []
 
 -- every row holds
@@ -127,7 +134,7 @@ rowsHold (r ∷ rows) = rowHolds r && rowsHold rows
 -- what a row means
 abbrev pub Means : Row → Type 0
 Means (stands p numbers) = after p 0 .order ≡ numbers
-Means (reads p k leaders choke) = (leadersOf p k ≡ leaders) × (chokeOf p k ≡ choke)
+Means (readsAfter p k leaders choke) = (leadersOf p k ≡ leaders) × (chokeOf p k ≡ choke)
 Means (holds p k holders) = after p k .holders ≡ holders
 Means (gives p k c e) = call (after p k) c .refusal ≡ e
-Means (differs p k without limits alone) = (withoutLink p k ≡ without) × (limitsOf p k ≡ limits) × (aloneOf p k ≡ alone)
+Means (differsAfter p k without limits alone) = (withoutLink p k ≡ without) × (limitsOf p k ≡ limits) × (aloneOf p k ≡ alone)
