@@ -1,4 +1,4 @@
-/* The call on areas that are watched: whatever it touches outside them, or must not write, is noticed. */
+/* Both calls on areas that are watched: whatever they touch outside them, or must not write, is noticed. */
 #ifndef LENT_H
 #define LENT_H
 
@@ -18,7 +18,11 @@ struct outcome {
 /* Calls plan_groups with a copy of the file and an out area of out_len bytes. */
 void lent_call(const uint8_t *file, size_t len, size_t out_len, enum side side, struct outcome *o);
 
-/* The call for a plant, with an out area just long enough. */
+/* Calls plan_groups_after in the same way. */
+void lent_call_after(const uint8_t *file, size_t len, uint32_t placings, size_t out_len, enum side side, struct outcome *o);
+
+/* The calls for a plant, with an out area just long enough; the second after k placings. */
 void lent_plan(const struct plant *p, enum side side, struct outcome *o);
+void lent_plan_after(const struct plant *p, int k, enum side side, struct outcome *o);
 
 #endif
