@@ -43,11 +43,11 @@ static void check_every(const char *name, struct rng *r)
     check(name, ks, plant.n + 1, r);
 }
 
-/* For large plants, where every number of placings would take long. */
+/* Where every number of placings would take long. */
 static void check_some(const char *name, struct rng *r)
 {
-    const int ks[] = {0, 1, plant.n / 2, plant.n - 1, plant.n};
-    check(name, ks, 5, r);
+    const int n = plant.n, ks[] = {0, 1, n / 4, n / 2, 3 * n / 4, n - 1, n};
+    check(name, ks, 7, r);
 }
 
 /* Every graph of n gateways in every order. */
@@ -66,7 +66,10 @@ static void some_of_each(struct rng *r, int count, int low, int high)
     for (int i = 0; i < count * family_count; i++) {
         const struct family *f = &families[i % family_count];
         family_make(f, &plant, r, rng_between(r, low, high), 0);
-        check_every(f->name, r);
+        if (plant.m > 1000)
+            check_some(f->name, r);
+        else
+            check_every(f->name, r);
     }
 }
 
@@ -98,9 +101,10 @@ int main(void)
         for (int limit = 2; limit <= 16; limit += 7)
             every_plant(n, limit, &r);
     every_plant(4, 2, &r);
-    some_of_each(&r, 60, 3, 12);
-    some_of_each(&r, 12, 13, 40);
-    some_of_each(&r, 2, 41, 120);
+    every_plant(4, 3, &r);
+    some_of_each(&r, 250, 3, 12);
+    some_of_each(&r, 40, 13, 40);
+    some_of_each(&r, 4, 41, 120);
     large(&r);
     largest(&r);
     return tally_end();

@@ -156,8 +156,8 @@ static int check_after(struct rng *r, int which)
     int number = file_refusal_after(file, len, placings, out_len, &p);
     lent_call_after(file, len, placings, out_len, any_side(r), &o);
     const char *fault = fault_of(&p, (int)placings, &o, number);
-    tally(fault == NULL, "damaged file %d, %u placings: %s; the call gives %u, the rules %d", which, (unsigned)placings, fault,
-          (unsigned)o.number, number);
+    tally(fault == NULL, "damaged file %d, %u placings: %s; the call gives %u, the rules %d", which,
+          (unsigned)placings, fault, (unsigned)o.number, number);
     return number;
 }
 
