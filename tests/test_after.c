@@ -28,7 +28,7 @@ static void check(const char *name, const int *ks, int count, struct rng *r)
     for (int i = 0; i < count && fault == NULL; i++) {
         fault = judge_after(&plant, most, ks[i], r, &answers[i % 2]);
         if (fault == NULL && i > 0 && !stay(&answers[1 - i % 2], &answers[i % 2], ks[i - 1]))
-            fault = "one placed before is no longer alone, or is now";
+            fault = "one placed before was alone and is covered, or was covered and is alone";
         tally(fault == NULL, "%s after %d placings: %s", name, ks[i], fault);
     }
     if (fault != NULL)

@@ -2,13 +2,15 @@
 #include <string.h>
 
 #include "file_rules.h"
+#include "flow.h"
+#include "judge.h"
 #include "lent.h"
 #include "packing.h"
 #include "tally.h"
 
 enum { MOST = 5 };
 
-/* What the call answers; and the choke difference, which is the number alone with all placed only. */
+/* What the call answers; and the choke difference, which before the last placing need not be the number alone. */
 struct step {
     int leader[MOST];
     int choke[MOST];
@@ -89,8 +91,8 @@ static bool is_answered(int k, const struct step *s)
 }
 
 /*
- * The star byte by byte, as a program in C would see it after one placing: gateway 1 is not placed and
- * yet covered, and without the choke set, which is 0, the difference is 4 - 3 while three are alone.
+ * The star of T = 3 byte by byte, after one placing: gateway 1 is not placed and yet covered; the choke
+ * set is gateway 0, and the difference is 4 - 3 while three are alone.
  */
 static void star_in_bytes(void)
 {
@@ -107,13 +109,24 @@ static void star_in_bytes(void)
     tally(read && packing_alone(&plant, a.leader) == 3, "the number alone in the star after one placing");
 }
 
+static void check(const struct edge *e, struct rng *r)
+{
+    static struct answer a;
+    int most[MOST + 1];
+    fill(e);
+    flow_every(&plant, most);
+    for (int k = 0; k <= e->n; k++) {
+        tally(is_answered(k, &e->after[k]), "%s after %d placings", e->name, k);
+        const char *fault = judge_after(&plant, most, k, r, &a);
+        tally(fault == NULL, "%s after %d placings: %s", e->name, k, fault);
+    }
+}
+
 int main(void)
 {
-    for (size_t i = 0; i < sizeof edges / sizeof edges[0]; i++) {
-        fill(&edges[i]);
-        for (int k = 0; k <= edges[i].n; k++)
-            tally(is_answered(k, &edges[i].after[k]), "%s after %d placings", edges[i].name, k);
-    }
+    struct rng r = {12};
+    for (size_t i = 0; i < sizeof edges / sizeof edges[0]; i++)
+        check(&edges[i], &r);
     star_in_bytes();
     return tally_end();
 }

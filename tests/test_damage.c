@@ -120,11 +120,6 @@ static size_t any_length(struct rng *r)
     return (size_t)(rng_below(r, 8) == 0 ? rng_below(r, 60) : 4096);
 }
 
-static enum side any_side(struct rng *r)
-{
-    return rng_below(r, 2) == 0 ? AT_START : AT_END;
-}
-
 /* Calls with the damaged file; returns the number that the rules give. */
 static int check(struct rng *r, int which)
 {
@@ -132,13 +127,13 @@ static int check(struct rng *r, int which)
     static struct outcome o;
     size_t out_len = any_length(r);
     int number = file_refusal(file, len, out_len, &p);
-    lent_call(file, len, out_len, any_side(r), &o);
+    lent_call(file, len, out_len, lent_side(r), &o);
     const char *fault = fault_of(&p, p.n, &o, number);
     tally(fault == NULL, "damaged file %d: %s; the call gives %u, the rules %d", which, fault, (unsigned)o.number, number);
     return number;
 }
 
-/* Mostly few, as n is here; and many of those that a cut number would make few. */
+/* Mostly few, as n is here; and some that are few once they are cut to fewer bits. */
 static uint32_t any_placings(struct rng *r)
 {
     const uint32_t many[] = {256, 65535, 65536, 1u << 24, 1u << 31, UINT32_MAX - 20};
@@ -154,7 +149,7 @@ static int check_after(struct rng *r, int which)
     size_t out_len = any_length(r);
     uint32_t placings = any_placings(r);
     int number = file_refusal_after(file, len, placings, out_len, &p);
-    lent_call_after(file, len, placings, out_len, any_side(r), &o);
+    lent_call_after(file, len, placings, out_len, lent_side(r), &o);
     const char *fault = fault_of(&p, (int)placings, &o, number);
     tally(fault == NULL, "damaged file %d, %u placings: %s; the call gives %u, the rules %d", which,
           (unsigned)placings, fault, (unsigned)o.number, number);

@@ -16,7 +16,7 @@ enum { BELOW = 1 << 20, PAINT = 0xA7, PLANTS = 40, ROUNDS = 10 };
 struct job {
     uint8_t file[MAX_FILE], out[PLAN_GROUPS_OUT_MAX];
     size_t len, out_len;
-    bool so_far; /* after so many placings; else the call for all of them */
+    bool so_far; /* plan_groups_after with these placings; else plan_groups */
     uint32_t placings;
     uint32_t number;
 };
@@ -101,7 +101,7 @@ static void check_job(const char *name, struct job *j)
 static void check_stack(const char *name)
 {
     static struct job j;
-    const int placings[] = {plant.n / 2, plant.n, plant.n + 1};
+    const int placings[] = {plant.n / 2, plant.n, plant.n + 1}; /* the last are refused */
     job_of(&j);
     check_job(name, &j);
     j.so_far = true;

@@ -78,11 +78,6 @@ static const char *fault_of(const struct plant *p, const int *most, int k, const
     return answer_differs(a, &expected, p->n);
 }
 
-static enum side any_side(struct rng *r)
-{
-    return rng_below(r, 2) == 0 ? AT_START : AT_END;
-}
-
 /* NULL and the answer, or why there is none. */
 static const char *answer_of(const struct plant *p, const struct outcome *o, struct answer *a)
 {
@@ -99,7 +94,7 @@ const char *judge_plant(const struct plant *p, struct rng *r)
     static struct outcome o;
     static struct answer a;
     static int most[MAX_GATEWAYS + 1];
-    lent_plan(p, any_side(r), &o);
+    lent_plan(p, lent_side(r), &o);
     const char *fault = answer_of(p, &o, &a);
     if (fault != NULL)
         return fault;
@@ -117,7 +112,7 @@ static bool is_whole_answer(const struct plant *p, const struct outcome *o)
 const char *judge_after(const struct plant *p, const int *most, int k, struct rng *r, struct answer *a)
 {
     static struct outcome o;
-    lent_plan_after(p, k, any_side(r), &o);
+    lent_plan_after(p, k, lent_side(r), &o);
     const char *fault = answer_of(p, &o, a);
     if (fault == NULL)
         fault = fault_of(p, most, k, a);

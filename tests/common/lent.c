@@ -11,6 +11,11 @@
 
 enum { GUARDS = 64, GUARD = 0xC3 };
 
+enum side lent_side(struct rng *r)
+{
+    return rng_below(r, 2) == 0 ? AT_START : AT_END;
+}
+
 /* A part of a room: at one end it meets an untouchable page, at the other it has guard bytes. */
 struct area {
     uint8_t *at;

@@ -3,11 +3,15 @@
 #define LENT_H
 
 #include "answer.h"
+#include "rng.h"
 
 enum { MAX_LENT = 1 << 18, MAX_OUT = 8192 };
 
 /* Which end of a lent area lies at memory that cannot be touched. The other end has guard bytes. */
 enum side { AT_START, AT_END };
+
+/* One of the two by chance. */
+enum side lent_side(struct rng *r);
 
 struct outcome {
     uint32_t number;
