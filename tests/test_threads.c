@@ -10,7 +10,7 @@
 #include "plan_groups.h"
 #include "tally.h"
 
-enum { BELOW = 1 << 20, PAINT = 0xA7, PLANTS = 40, ROUNDS = 10 };
+enum { BELOW = 1 << 20, PAINT = 0xA7, PLANTS = 40, ROUNDS = 20 };
 
 /* One call: what is lent, and what came back. */
 struct job {
