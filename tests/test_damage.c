@@ -1,4 +1,4 @@
-/* Damaged files by the thousand: the call gives the number that the file's rules give, or a right answer. */
+/* Damaged files by the thousand: the calls give the number that the file's rules give, or a right answer. */
 #include <string.h>
 
 #include "families.h"
@@ -7,7 +7,7 @@
 #include "lent.h"
 #include "tally.h"
 
-enum { FILES = 12000, ROOM = 8192, NUMBERS = 21, WAYS = 12 };
+enum { FILES = 12000, ROOM = 8192, NUMBERS = 25, WAYS = 12 };
 
 static uint8_t file[ROOM];
 static size_t len;
@@ -101,7 +101,7 @@ static void (*const ways[WAYS])(struct rng *) = {
     flip, flip, cut, extend, remove_byte, insert_byte, bound, bound, copy_numbers, swap_numbers, refit, noise,
 };
 
-static const char *fault_of(const struct plant *p, const struct outcome *o, int number)
+static const char *fault_of(const struct plant *p, int k, const struct outcome *o, int number)
 {
     static struct answer got, expected;
     if (o->fault != NULL)
@@ -111,8 +111,13 @@ static const char *fault_of(const struct plant *p, const struct outcome *o, int 
     if (number != 0)
         return NULL;
     answer_read(&got, p->n, o->out);
-    judge_expect(p, &expected);
+    judge_expect(p, k, &expected);
     return answer_differs(&got, &expected, p->n);
+}
+
+static size_t any_length(struct rng *r)
+{
+    return (size_t)(rng_below(r, 8) == 0 ? rng_below(r, 60) : 4096);
 }
 
 /* Calls with the damaged file; returns the number that the rules give. */
@@ -120,19 +125,49 @@ static int check(struct rng *r, int which)
 {
     static struct plant p;
     static struct outcome o;
-    size_t out_len = (size_t)(rng_below(r, 8) == 0 ? rng_below(r, 60) : 4096);
+    size_t out_len = any_length(r);
     int number = file_refusal(file, len, out_len, &p);
-    lent_call(file, len, out_len, rng_below(r, 2) == 0 ? AT_START : AT_END, &o);
-    const char *fault = fault_of(&p, &o, number);
+    lent_call(file, len, out_len, lent_side(r), &o);
+    const char *fault = fault_of(&p, p.n, &o, number);
     tally(fault == NULL, "damaged file %d: %s; the call gives %u, the rules %d", which, fault, (unsigned)o.number, number);
     return number;
+}
+
+/* Mostly few, as n is here; and some that are few once they are cut to fewer bits. */
+static uint32_t any_placings(struct rng *r)
+{
+    const uint32_t many[] = {256, 65535, 65536, 1u << 24, 1u << 31, UINT32_MAX - 20};
+    uint32_t few = (uint32_t)rng_below(r, 22);
+    return rng_below(r, 6) == 0 ? many[rng_below(r, 6)] + few : few;
+}
+
+/* The same after some placings. */
+static int check_after(struct rng *r, int which)
+{
+    static struct plant p;
+    static struct outcome o;
+    size_t out_len = any_length(r);
+    uint32_t placings = any_placings(r);
+    int number = file_refusal_after(file, len, placings, out_len, &p);
+    lent_call_after(file, len, placings, out_len, lent_side(r), &o);
+    const char *fault = fault_of(&p, (int)placings, &o, number);
+    tally(fault == NULL, "damaged file %d, %u placings: %s; the call gives %u, the rules %d", which,
+          (unsigned)placings, fault, (unsigned)o.number, number);
+    return number;
+}
+
+/* The damage reaches every refusal. */
+static void reaches(const char *call, const int *seen, const int *numbers, int count)
+{
+    for (int i = 0; i < count; i++)
+        tally(seen[numbers[i]] >= 10, "%s: only %d damaged files met number %d", call, seen[numbers[i]], numbers[i]);
 }
 
 int main(void)
 {
     static struct plant p;
-    static const int all[] = {0, 1, 2, 3, 4, 6, 7, 8, 9, 10, 12, 20};
-    int seen[NUMBERS] = {0};
+    static const int all[] = {0, 1, 2, 3, 4, 6, 7, 8, 9, 10, 12, 20, 24};
+    int seen[NUMBERS] = {0}, seen_after[NUMBERS] = {0};
     struct rng r = {4};
 
     for (int i = 0; i < FILES; i++) {
@@ -140,9 +175,9 @@ int main(void)
         len = plant_write(&p, file);
         ways[i % WAYS](&r);
         seen[check(&r, i)]++;
+        seen_after[check_after(&r, i)]++;
     }
-    /* the damage reaches every refusal */
-    for (size_t i = 0; i < sizeof all / sizeof all[0]; i++)
-        tally(seen[all[i]] >= 10, "only %d damaged files met number %d", seen[all[i]], all[i]);
+    reaches("plan_groups", seen, all, 12);
+    reaches("plan_groups_after", seen_after, all, 13);
     return tally_end();
 }

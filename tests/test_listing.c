@@ -56,7 +56,7 @@ static void expect_refused(int number, const char *what, int which)
 static void expect_listing(const char *what, int which)
 {
     static struct answer a;
-    judge_expect(&plant, &a);
+    judge_expect(&plant, plant.n, &a);
     len = plant_write(&plant, file);
     store_plant();
     expect(expected, listing_text(&plant, &a, expected), what, which);

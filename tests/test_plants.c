@@ -1,6 +1,7 @@
 /* Plants of many shapes: the answer is a packing, as good as the flow's over every first k, and the rules' own. */
 #include "families.h"
 #include "judge.h"
+#include "orders.h"
 #include "tally.h"
 
 static struct plant plant;
@@ -23,32 +24,6 @@ static void some_of_each(struct rng *r, int count, int low, int high)
     }
 }
 
-static void reverse(int *list, int from, int end)
-{
-    while (from < --end) {
-        int kept = list[from];
-        list[from++] = list[end];
-        list[end] = kept;
-    }
-}
-
-/* The next order in the dictionary's sense; false after the last. */
-static bool next_order(int *order, int n)
-{
-    int i = n - 1, j = n - 1;
-    while (i > 0 && order[i - 1] > order[i])
-        i--;
-    if (i <= 0)
-        return false;
-    while (order[j] < order[i - 1])
-        j--;
-    int kept = order[j];
-    order[j] = order[i - 1];
-    order[i - 1] = kept;
-    reverse(order, i, n);
-    return true;
-}
-
 /* Every graph of n gateways in every order. */
 static void every_plant(int n, int limit, struct rng *r)
 {
@@ -56,7 +31,7 @@ static void every_plant(int n, int limit, struct rng *r)
         family_graph(&plant, n, limit, bits);
         do {
             check("graph", bits, r);
-        } while (next_order(plant.order, n));
+        } while (order_next(plant.order, n));
     }
 }
 

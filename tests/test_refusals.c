@@ -1,4 +1,4 @@
-/* Every refusal of the call, by examples of each. */
+/* Every refusal of the calls, by examples of each. */
 #include "spoiled.h"
 #include "tally.h"
 
@@ -199,6 +199,29 @@ static void out_lengths(void)
     expect(6, "6 before 10", 0);
 }
 
+static void expect_placings(uint32_t count, int number, int n)
+{
+    placings = count;
+    expect_after(number, "placings, n", n);
+}
+
+/* Up to n and none past it, among them those that cut to 8 or 16 bits or taken with a sign would not be past it. */
+static void placing_counts(void)
+{
+    static const int sizes[] = {0, 1, 2, 5, 255, 300, 1023, 1024};
+    for (int i = 0; i < 8; i++) {
+        uint32_t n = (uint32_t)sizes[i];
+        const uint32_t past[] = {n + 1, n + 2, n + 256, 65535, 65536, 65536 + n, 65537 + n, 1u << 31, (1u << 31) + n,
+                                 UINT32_MAX - 1, UINT32_MAX};
+        whole(sizes[i], 2, sizes[i] / 2);
+        expect_placings(0, 0, sizes[i]);
+        expect_placings(n / 2, 0, sizes[i]);
+        expect_placings(n, 0, sizes[i]);
+        for (size_t j = 0; j < sizeof past / sizeof past[0]; j++)
+            expect_placings(past[j], 24, sizes[i]);
+    }
+}
+
 int main(void)
 {
     short_files();
@@ -213,6 +236,7 @@ int main(void)
     equal_ends();
     repeated_links();
     orders();
+    placing_counts();
     out_lengths();
     return tally_end();
 }

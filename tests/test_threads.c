@@ -1,4 +1,4 @@
-/* What the header says of threads: the stack that the call needs, and calls that run at once. */
+/* What the header says of threads: the stack that the calls need, and calls that run at once. */
 #define _DEFAULT_SOURCE /* for MAP_ANONYMOUS */
 #include <pthread.h>
 #include <stdio.h>
@@ -10,12 +10,14 @@
 #include "plan_groups.h"
 #include "tally.h"
 
-enum { BELOW = 1 << 20, PAINT = 0xA7, PLANTS = 40, ROUNDS = 10 };
+enum { BELOW = 1 << 20, PAINT = 0xA7, PLANTS = 40, ROUNDS = 20 };
 
 /* One call: what is lent, and what came back. */
 struct job {
     uint8_t file[MAX_FILE], out[PLAN_GROUPS_OUT_MAX];
     size_t len, out_len;
+    bool so_far; /* plan_groups_after with these placings; else plan_groups */
+    uint32_t placings;
     uint32_t number;
 };
 
@@ -25,24 +27,28 @@ static void job_of(struct job *j)
 {
     j->len = plant_write(&plant, j->file);
     j->out_len = PLAN_GROUPS_OUT(plant.n);
-}
-
-static void plan(struct job *j)
-{
-    memset(j->out, PAINT, sizeof j->out);
-    j->number = plan_groups(j->file, j->len, j->out, j->out_len);
-}
-
-static bool same_answer(const struct job *a, const struct job *b)
-{
-    return a->number == b->number && memcmp(a->out, b->out, sizeof a->out) == 0;
+    j->so_far = false;
 }
 
 static void *plan_one(void *j)
 {
     struct job *job = j;
-    job->number = plan_groups(job->file, job->len, job->out, job->out_len);
+    if (job->so_far)
+        job->number = plan_groups_after(job->file, job->len, job->placings, job->out, job->out_len);
+    else
+        job->number = plan_groups(job->file, job->len, job->out, job->out_len);
     return NULL;
+}
+
+static void plan(struct job *j)
+{
+    memset(j->out, PAINT, sizeof j->out);
+    plan_one(j);
+}
+
+static bool same_answer(const struct job *a, const struct job *b)
+{
+    return a->number == b->number && memcmp(a->out, b->out, sizeof a->out) == 0;
 }
 
 /* An area for stacks, of len bytes that may be touched and BELOW under them that may not. */
@@ -72,25 +78,37 @@ static size_t stack_used(struct job *j, uint8_t *stack, size_t len)
 }
 
 /* First with far more stack, where too much is counted; then with just enough, where it would be the end. */
-static void check_stack(const char *name)
+static void check_job(const char *name, struct job *j)
 {
     static uint8_t *wide, *just;
-    static struct job j, expected;
+    static struct job expected;
     if (wide == NULL) {
         wide = stack_area(8 * PLAN_GROUPS_STACK);
         just = stack_area(PLAN_GROUPS_STACK);
     }
-    job_of(&j);
-    expected = j;
+    expected = *j;
     plan(&expected);
-    size_t used = stack_used(&j, wide, 8 * PLAN_GROUPS_STACK);
-    bool fits = used <= PLAN_GROUPS_STACK && same_answer(&j, &expected);
+    size_t used = stack_used(j, wide, 8 * PLAN_GROUPS_STACK);
+    bool fits = used <= PLAN_GROUPS_STACK && same_answer(j, &expected);
     if (fits) {
-        stack_used(&j, just, PLAN_GROUPS_STACK);
-        fits = same_answer(&j, &expected);
+        stack_used(j, just, PLAN_GROUPS_STACK);
+        fits = same_answer(j, &expected);
     }
-    tally(fits, "%s, %d gateways, %d links: number %u, %zu bytes of stack", name, plant.n, plant.m, (unsigned)j.number,
-          used);
+    tally(fits, "%s, %d gateways, %d links, %s: number %u, %zu bytes of stack", name, plant.n, plant.m,
+          j->so_far ? "so far" : "all", (unsigned)j->number, used);
+}
+
+static void check_stack(const char *name)
+{
+    static struct job j;
+    const int placings[] = {plant.n / 2, plant.n, plant.n + 1}; /* the last are refused */
+    job_of(&j);
+    check_job(name, &j);
+    j.so_far = true;
+    for (int i = 0; i < 3; i++) {
+        j.placings = (uint32_t)placings[i];
+        check_job(name, &j);
+    }
 }
 
 static void stacks(struct rng *r)
@@ -136,6 +154,8 @@ static void fill_side(struct side *s, struct rng *r, pthread_barrier_t *both)
     for (int i = 0; i < PLANTS; i++) {
         family_make(&families[rng_below(r, family_count)], &plant, r, rng_between(r, 1, 100), 0);
         job_of(&s->jobs[i]);
+        s->jobs[i].so_far = rng_below(r, 2) == 0;
+        s->jobs[i].placings = (uint32_t)rng_between(r, 0, plant.n);
         if (i % 8 == 7)
             s->jobs[i].len--;
         s->alone[i] = s->jobs[i];

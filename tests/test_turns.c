@@ -13,6 +13,7 @@ static void spoil_end(void) { put_link(1, 0, N); }
 static void spoil_equal(void) { put_link(2, 1, 1); }
 static void spoil_again(void) { put_link(3, 1, 0); }
 static void spoil_order(void) { put_number(file + HEADER + 4 * LINKS, N - 1); }
+static void spoil_placings(void) { placings = N + 1; }
 static void spoil_out(void) { out_len--; }
 static void spoil_header(void) { len = HEADER - 1; }
 
@@ -21,24 +22,35 @@ static const struct {
     void (*spoil)(void);
 } faults[] = {
     {9, spoil_header}, {7, spoil_magic}, {8, spoil_version}, {1, spoil_n}, {2, spoil_limit}, {12, spoil_m},
-    {9, spoil_length}, {3, spoil_end}, {4, spoil_equal}, {20, spoil_again}, {6, spoil_order}, {10, spoil_out},
+    {9, spoil_length}, {3, spoil_end}, {4, spoil_equal}, {20, spoil_again}, {6, spoil_order}, {24, spoil_placings},
+    {10, spoil_out},
 };
 
 enum { FAULTS = sizeof faults / sizeof faults[0] };
 
-/* Any of the faults together give the first in turn. The last are spoiled first, so that none hides. */
+/* Spoils by the faults whose bits are set; the first in turn. The last are spoiled first, so that none hides. */
+static int spoil(int bits)
+{
+    int first = 0;
+    for (int i = FAULTS - 1; i >= 0; i--) {
+        if (bits >> i & 1) {
+            faults[i].spoil();
+            first = faults[i].number;
+        }
+    }
+    return first;
+}
+
+/* Any of the faults together give the first in turn. plan_groups takes no placings, and is not asked with their fault. */
 static void turns(void)
 {
     for (int bits = 0; bits < 1 << FAULTS; bits++) {
-        int first = 0;
         base();
-        for (int i = FAULTS - 1; i >= 0; i--) {
-            if (bits >> i & 1) {
-                faults[i].spoil();
-                first = faults[i].number;
-            }
-        }
-        expect(first, "faults together", bits);
+        int first = spoil(bits);
+        if (placings > N)
+            expect_after(first, "faults together", bits);
+        else
+            expect(first, "faults together", bits);
     }
 }
 

@@ -75,7 +75,8 @@ static int order_refusal(const uint8_t *at, const struct header *h, struct plant
     return 0;
 }
 
-int file_refusal(const uint8_t *file, size_t len, size_t out_len, struct plant *p)
+/* The refusals of the file itself. */
+static int own_refusal(const uint8_t *file, size_t len, struct plant *p)
 {
     struct header h;
     int refusal = header_refusal(file, len, &h);
@@ -84,11 +85,23 @@ int file_refusal(const uint8_t *file, size_t len, size_t out_len, struct plant *
     refusal = links_refusal(file + HEADER, &h, p);
     if (refusal != 0)
         return refusal;
-    refusal = order_refusal(file + HEADER + 4 * h.m, &h, p);
-    if (refusal != 0)
-        return refusal;
     p->n = h.n;
     p->limit = h.limit;
     p->m = h.m;
-    return out_len < 3 * (size_t)h.n ? 10 : 0;
+    return order_refusal(file + HEADER + 4 * h.m, &h, p);
+}
+
+int file_refusal_after(const uint8_t *file, size_t len, uint32_t placings, size_t out_len, struct plant *p)
+{
+    int refusal = own_refusal(file, len, p);
+    if (refusal != 0)
+        return refusal;
+    if (placings > (uint32_t)p->n)
+        return 24;
+    return out_len < 3 * (size_t)p->n ? 10 : 0;
+}
+
+int file_refusal(const uint8_t *file, size_t len, size_t out_len, struct plant *p)
+{
+    return file_refusal_after(file, len, 0, out_len, p); /* 0 is never above n */
 }

@@ -7,4 +7,7 @@
 /* The refusal's number for these bytes and an out of out_len bytes. For 0 the plant is filled. */
 int file_refusal(const uint8_t *file, size_t len, size_t out_len, struct plant *p);
 
+/* The same for a call after so many placings. */
+int file_refusal_after(const uint8_t *file, size_t len, uint32_t placings, size_t out_len, struct plant *p);
+
 #endif

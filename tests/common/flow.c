@@ -132,3 +132,9 @@ int flow_most(const struct plant *p, int k)
     }
     return value;
 }
+
+void flow_every(const struct plant *p, int *most)
+{
+    for (int k = 0; k <= p->n; k++)
+        most[k] = flow_most(p, k);
+}

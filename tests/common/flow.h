@@ -10,4 +10,7 @@
 /* The most of the first k of the order that a T-star packing can cover. */
 int flow_most(const struct plant *p, int k);
 
+/* most[k], for k from 0 to n: what flow_most gives for k. */
+void flow_every(const struct plant *p, int *most);
+
 #endif

@@ -1,14 +1,17 @@
-/* One plant: the call's answer held to all that is known of it. */
+/* One plant: the calls' answers held to all that is known of them. */
 #ifndef JUDGE_H
 #define JUDGE_H
 
 #include "answer.h"
 #include "rng.h"
 
-/* The answer that document 01's placing and rules give. */
-void judge_expect(const struct plant *p, struct answer *a);
+/* The answer that the papers' placing and rules give after k placings. */
+void judge_expect(const struct plant *p, int k, struct answer *a);
 
 /* Calls plan_groups for the plant. NULL, or what is wrong with the answer. */
 const char *judge_plant(const struct plant *p, struct rng *r);
+
+/* Calls plan_groups_after for k placings; most is what flow_every gives. NULL and the answer, or what is wrong with it. */
+const char *judge_after(const struct plant *p, const int *most, int k, struct rng *r, struct answer *a);
 
 #endif

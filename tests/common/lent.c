@@ -11,6 +11,11 @@
 
 enum { GUARDS = 64, GUARD = 0xC3 };
 
+enum side lent_side(struct rng *r)
+{
+    return rng_below(r, 2) == 0 ? AT_START : AT_END;
+}
+
 /* A part of a room: at one end it meets an untouchable page, at the other it has guard bytes. */
 struct area {
     uint8_t *at;
@@ -65,35 +70,57 @@ static bool unwritten_from(const struct area *out, size_t from)
     return true;
 }
 
-static const char *fault_of(const struct area *in, const struct area *out, const uint8_t *file, uint32_t number)
-{
-    size_t written = number == 0 ? 3 * (size_t)get_number(file + 5) : 0;
-    if (memcmp(in->at, file, in->len) != 0)
-        return "the file's bytes changed";
-    if (!guards_hold(in))
-        return "bytes beside the file changed";
-    if (!guards_hold(out))
-        return "bytes beside the out area changed";
-    if (!unwritten_from(out, written))
-        return number == 0 ? "bytes past 3n changed" : "a refused call wrote";
-    return NULL;
-}
+/* The two areas of one call. */
+struct lending {
+    struct area in, out;
+};
 
-void lent_call(const uint8_t *file, size_t len, size_t out_len, enum side side, struct outcome *o)
+static struct lending lend_both(const uint8_t *file, size_t len, size_t out_len, enum side side)
 {
     static uint8_t *file_room, *out_room;
     if (file_room == NULL) {
         file_room = open_room();
         out_room = open_room();
     }
-    struct area in = lend(file_room, len, side);
-    struct area out = lend(out_room, out_len, side);
-    memcpy(in.at, file, len);
+    struct lending l = {lend(file_room, len, side), lend(out_room, out_len, side)};
+    memcpy(l.in.at, file, len);
     for (size_t i = 0; i < out_len; i++)
-        out.at[i] = filler(i);
-    o->number = plan_groups(in.at, len, out.at, out_len);
-    o->fault = fault_of(&in, &out, file, o->number);
-    memcpy(o->out, out.at, out_len);
+        l.out.at[i] = filler(i);
+    return l;
+}
+
+static const char *fault_of(const struct lending *l, const uint8_t *file, uint32_t number)
+{
+    size_t written = number == 0 ? 3 * (size_t)get_number(file + 5) : 0;
+    if (memcmp(l->in.at, file, l->in.len) != 0)
+        return "the file's bytes changed";
+    if (!guards_hold(&l->in))
+        return "bytes beside the file changed";
+    if (!guards_hold(&l->out))
+        return "bytes beside the out area changed";
+    if (!unwritten_from(&l->out, written))
+        return number == 0 ? "bytes past 3n changed" : "a refused call wrote";
+    return NULL;
+}
+
+/* What the call gave, what it did that it must not do, and a copy of the out area. */
+static void look(const struct lending *l, const uint8_t *file, uint32_t number, struct outcome *o)
+{
+    o->number = number;
+    o->fault = fault_of(l, file, number);
+    memcpy(o->out, l->out.at, l->out.len);
+}
+
+void lent_call(const uint8_t *file, size_t len, size_t out_len, enum side side, struct outcome *o)
+{
+    struct lending l = lend_both(file, len, out_len, side);
+    look(&l, file, plan_groups(l.in.at, len, l.out.at, out_len), o);
+}
+
+void lent_call_after(const uint8_t *file, size_t len, uint32_t placings, size_t out_len, enum side side, struct outcome *o)
+{
+    struct lending l = lend_both(file, len, out_len, side);
+    look(&l, file, plan_groups_after(l.in.at, len, placings, l.out.at, out_len), o);
 }
 
 void lent_plan(const struct plant *p, enum side side, struct outcome *o)
@@ -101,4 +128,11 @@ void lent_plan(const struct plant *p, enum side side, struct outcome *o)
     static uint8_t file[MAX_FILE];
     size_t len = plant_write(p, file);
     lent_call(file, len, PLAN_GROUPS_OUT(p->n), side, o);
+}
+
+void lent_plan_after(const struct plant *p, int k, enum side side, struct outcome *o)
+{
+    static uint8_t file[MAX_FILE];
+    size_t len = plant_write(p, file);
+    lent_call_after(file, len, (uint32_t)k, PLAN_GROUPS_OUT(p->n), side, o);
 }

@@ -1,13 +1,17 @@
-/* The call on areas that are watched: whatever it touches outside them, or must not write, is noticed. */
+/* Both calls on areas that are watched: whatever they touch outside them, or must not write, is noticed. */
 #ifndef LENT_H
 #define LENT_H
 
 #include "answer.h"
+#include "rng.h"
 
 enum { MAX_LENT = 1 << 18, MAX_OUT = 8192 };
 
 /* Which end of a lent area lies at memory that cannot be touched. The other end has guard bytes. */
 enum side { AT_START, AT_END };
+
+/* One of the two by chance. */
+enum side lent_side(struct rng *r);
 
 struct outcome {
     uint32_t number;
@@ -18,7 +22,11 @@ struct outcome {
 /* Calls plan_groups with a copy of the file and an out area of out_len bytes. */
 void lent_call(const uint8_t *file, size_t len, size_t out_len, enum side side, struct outcome *o);
 
-/* The call for a plant, with an out area just long enough. */
+/* Calls plan_groups_after in the same way. */
+void lent_call_after(const uint8_t *file, size_t len, uint32_t placings, size_t out_len, enum side side, struct outcome *o);
+
+/* The calls for a plant, with an out area just long enough; the second after k placings. */
 void lent_plan(const struct plant *p, enum side side, struct outcome *o);
+void lent_plan_after(const struct plant *p, int k, enum side side, struct outcome *o);
 
 #endif

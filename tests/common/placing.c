@@ -95,13 +95,13 @@ static void place(const struct plant *p, const struct neighbours *near, int v, i
         take(&s, u, v, holder);
 }
 
-void placing_all(const struct plant *p, int *holder)
+void placing_first(const struct plant *p, int k, int *holder)
 {
     static struct neighbours near;
     gather(p, &near);
     for (int v = 0; v < p->n; v++)
         holder[v] = NOBODY;
-    for (int i = 0; i < p->n; i++)
+    for (int i = 0; i < k; i++)
         place(p, &near, p->order[i], holder);
 }
 

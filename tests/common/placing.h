@@ -6,10 +6,10 @@
 
 enum { NOBODY = -1 };
 
-/* Places all gateways in order; holder[v] is who holds v, or NOBODY. */
-void placing_all(const struct plant *p, int *holder);
+/* Places the first k of the order; holder[v] is who then holds v, or NOBODY. */
+void placing_first(const struct plant *p, int k, int *holder);
 
-/* choke[v] is 1 where v is in the choke set, else 0. */
+/* For any holders: choke[v] is 1 where v is in the choke set, else 0. */
 void placing_choke(const struct plant *p, const int *holder, int *choke);
 
 #endif

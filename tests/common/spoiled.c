@@ -8,6 +8,10 @@
 
 uint8_t file[MAX_FILE + MORE];
 size_t len, out_len;
+uint32_t placings;
+
+static struct plant unused;
+static struct outcome outcome;
 
 uint8_t *link_at(int i)
 {
@@ -49,6 +53,7 @@ void whole(int n, int limit, int m)
         put_number(order_at(i), i);
     len = (size_t)HEADER + 4 * (size_t)m + 2 * (size_t)n;
     out_len = 3 * (size_t)n;
+    placings = (uint32_t)n;
 }
 
 void base(void)
@@ -56,15 +61,28 @@ void base(void)
     whole(N, 3, LINKS);
 }
 
+static void compare(const char *call, int by_rules, int number, const char *what, int which)
+{
+    bool ok = (int)outcome.number == number && by_rules == number && outcome.fault == NULL;
+    tally(ok, "%s (%d), %u placings: %s gives %u, the rules %d, expected %d; %s", what, which, (unsigned)placings, call,
+          (unsigned)outcome.number, by_rules, number, outcome.fault ? outcome.fault : "bounds kept");
+}
+
+void expect_after(int number, const char *what, int which)
+{
+    int by_rules = file_refusal_after(file, len, placings, out_len, &unused);
+    for (int side = AT_START; side <= AT_END; side++) {
+        lent_call_after(file, len, placings, out_len, side, &outcome);
+        compare("plan_groups_after", by_rules, number, what, which);
+    }
+}
+
 void expect(int number, const char *what, int which)
 {
-    static struct outcome o;
-    static struct plant p;
-    int by_rules = file_refusal(file, len, out_len, &p);
+    int by_rules = file_refusal(file, len, out_len, &unused);
     for (int side = AT_START; side <= AT_END; side++) {
-        lent_call(file, len, out_len, side, &o);
-        bool ok = (int)o.number == number && by_rules == number && o.fault == NULL;
-        tally(ok, "%s (%d): the call gives %u, the rules %d, expected %d; %s", what, which, (unsigned)o.number,
-              by_rules, number, o.fault ? o.fault : "bounds kept");
+        lent_call(file, len, out_len, side, &outcome);
+        compare("plan_groups", by_rules, number, what, which);
     }
+    expect_after(number, what, which);
 }

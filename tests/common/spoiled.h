@@ -1,4 +1,4 @@
-/* A small plant file to spoil, and the number that the call must then give. */
+/* A small plant file to spoil, and the number that the calls must then give. */
 #ifndef SPOILED_H
 #define SPOILED_H
 
@@ -9,6 +9,7 @@ enum { N = 6, LINKS = 5, MORE = 4096 };
 
 extern uint8_t file[MAX_FILE + MORE];
 extern size_t len, out_len;
+extern uint32_t placings; /* for plan_groups_after */
 
 /* Where a link's or the order's numbers stand in the file. */
 uint8_t *link_at(int i);
@@ -16,13 +17,16 @@ uint8_t *order_at(int i);
 
 void put_link(int i, int a, int b);
 
-/* A file of any n, T and m with the length that fits: links 0-1, 0-2, 1-2, 0-3, .. and order 0, 1, .. */
+/* A file of any n, T and m with the lengths that fit, and n placings: links 0-1, 0-2, 1-2, 0-3, .. and order 0, 1, .. */
 void whole(int n, int limit, int m);
 
 /* The accepted file that most examples spoil. */
 void base(void);
 
-/* Two tests, at either side of the lent areas: the call and the file's rules both give the number. */
+/* Two tests, at either side of the lent areas: plan_groups_after and the rules both give the number. */
+void expect_after(int number, const char *what, int which);
+
+/* Two tests more: plan_groups gives it as well. */
 void expect(int number, const char *what, int which);
 
 #endif
