@@ -79,7 +79,10 @@ extern "C" {
 uint32_t plan_groups(const uint8_t *file, size_t file_len, uint8_t *out, size_t out_len);
 
 /*
- * Plans the groups of the plant while it is being placed: after so many placings.
+ * Plans the groups of a plant that is being placed.
+ *
+ * A plan is made by placing the gateways one after the other, in the order: each is kept or left. This
+ * call gives the groups after so many placings.
  *
  *   placings   how many gateways are placed, from the front of the order: 0 to n.
  *
@@ -90,14 +93,13 @@ uint32_t plan_groups(const uint8_t *file, size_t file_len, uint8_t *out, size_t 
  *
  * With placings = n the answer is that of plan_groups, byte for byte.
  *
- * The leaders are the groups for the holders so far, a packing as ever. Of the first placings gateways in
- * the order those that are kept are covered and those that are left are alone, and for every j up to
- * placings no grouping covers more of the first j in the order. Who is alone of these stays alone, and
- * who is covered stays covered, as more are placed; who leads whom may change. A gateway that is not
- * yet placed may be covered too, where a placed one needs it for a partner, and may be alone later.
+ * Of the gateways that are placed those kept are covered and those left are alone, and for every j up to
+ * placings no grouping covers more of the first j in the order. That stays so as more are placed: who is
+ * alone stays alone, who is covered stays covered; who leads whom may change. A gateway that is not yet
+ * placed may be covered too, where a placed one has it for a partner, and may be alone later.
  *
- * The choke set is that of the holders so far, and starts from all gateways without one, placed or not.
- * Take it away and count: the difference is the number alone where placings = n, and need not be before.
+ * The choke bytes are those of the placings so far. The reason that a choke set gives for the number
+ * alone (README.md) holds where placings = n, and need not hold before.
  */
 uint32_t plan_groups_after(const uint8_t *file, size_t file_len, uint32_t placings, uint8_t *out, size_t out_len);
 
