@@ -41,7 +41,7 @@ module _
         )
 
     pub so-far : SoFar n limit adj order k h g
-    so-far = record { grouping = group; kept = kept; left = left-alone; most = most-first }
+    so-far = record { grouping = group; unplaced = s .unplaced; kept = kept; left = left-alone; most = most-first }
 
 -- Where all are placed, the covered gateways are the held ones.
 pub all-placed : {n : ℕ} {limit : ℕ → ℕ} {adj : ℕ → ℕ → Bool} {order h g : ℕ → ℕ} → IsOrder n order → SoFar n limit adj order n h g → (v : ℕ) → v < n → covered g v ≡ held n h v
@@ -63,7 +63,7 @@ pub so-far-below : {n : ℕ} {limit limit' : ℕ → ℕ} {adj : ℕ → ℕ →
     → ((u : ℕ) → u < n → limit u ≡ limit' u) → ((i : ℕ) → i < n → order i ≡ order' i) → ((v : ℕ) → v < n → g v ≡ g' v)
     → SoFar n limit adj order k h g → SoFar n limit' adj order' k h g'
 so-far-below {n} {limit} {limit'} {adj} {order} {order'} {k} {h} {g} {g'} placed inside limits orders entries s =
-    record { grouping = grouping; kept = λ v l e. sym (covered-same v l) ∙ s .kept v l e; left = left; most = most }
+    record { grouping = grouping; unplaced = λ i m l. rw (← orders i l) (s .unplaced i m l); kept = λ v l e. sym (covered-same v l) ∙ s .kept v l e; left = left; most = most }
   where
     covered-same : (v : ℕ) → v < n → covered g v ≡ covered g' v
     covered-same v l = ap (λ (x : ℕ). not (eqb x NONE)) (entries v l)

@@ -1,4 +1,4 @@
--- 02, change 1: groups for the holders so far. h are the holders once the first k in the order are placed, g a grouping read from them.
+-- 02, change 1: groups for the holders so far. h are the holders once the first k in the order are placed and no more, g a grouping read from them.
 use Prim.Native.Nat.{ℕ, _<_, _≤_}
 use mathlib.Core.Path.{_≡_}
 use mathlib.Core.Bool.{Bool, true, false}
@@ -7,8 +7,9 @@ use Rattle.packing.specs.Grouping.{Grouping, covered, coveredFirst}
 use Rattle.packing.specs.Holders.{held}
 
 pub record SoFar (n : ℕ) (limit : ℕ → ℕ) (adj : ℕ → ℕ → Bool) (order : ℕ → ℕ) (k : ℕ) (h g : ℕ → ℕ) : Type 0 where
-  -- "It gives groups for the holders so far"
+  -- "It gives groups for the holders so far": nobody from place k on is held
   pub grouping : Grouping n limit adj g
+  pub unplaced : (i : ℕ) → k ≤ i → i < n → held n h (order i) ≡ false
   -- "every held gateway is covered"
   pub kept : (v : ℕ) → v < n → held n h v ≡ true → covered g v ≡ true
   -- "those left are alone": placed, and without holder

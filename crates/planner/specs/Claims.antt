@@ -84,7 +84,7 @@ AnyRead claim =
     → (leaders choke : List ℕ) → refuses (toldBy n t ls calls) (read leaders choke) ≡ 0
     → claim n (toldBy n t ls calls) (madeBy n t ls os hs calls) leaders choke
 
--- The list read is a grouping of the plant told, every held gateway is covered, those left are alone, and for every j up to the number placed no grouping covers more of the first j in the order told.
+-- The list read is a grouping of the plant told, only placed gateways are held, every held one is covered, those left are alone, and for every j up to the number placed no grouping covers more of the first j in the order told.
 abbrev pub SoFarRead : (n : ℕ) (told : Told) (made : State) (leaders choke : List ℕ) → Type 0
 SoFarRead n told made leaders choke = SoFar n (told .limit) (linked (told .links)) (at (told .order)) (told .placed) (at (made .holders)) (leadersRead made leaders choke)
 
