@@ -62,14 +62,20 @@ module _ (file : List ℕ) (k : ℕ) (out : List ℕ) (z : groupsAfterRefusal fi
   unfolding groupsAfterOut bytesAfter
   out-is = rw z
 
+  led : length (fileLeadersAfter file k) ≡ fileN file
+  led = leaders-long file (after-fine .0) k (after-fine .1)
+
+  choked : length (fileChokeAfter file k) ≡ fileN file
+  choked = choke-long file (after-fine .0) k (after-fine .1)
+
   leader-after : (v : ℕ) → v < fileN file → at (fileLeadersAfter file k) v ≡ leaderAt (groupsAfterOut file k out) v
-  leader-after v l = rw out-is (leader-bytes (fileN file) (fileLeadersAfter file k) (fileChokeAfter file k) out (leaders-long file (after-fine .0) k (after-fine .1)) (choke-long file (after-fine .0) k (after-fine .1)) v l)
+  leader-after v l = rw out-is (leader-bytes (fileN file) (fileLeadersAfter file k) (fileChokeAfter file k) out led choked v l)
 
   choke-after : (v : ℕ) → v < fileN file → at (fileChokeAfter file k) v ≡ chokeAt (fileN file) (groupsAfterOut file k out) v
-  choke-after v l = rw out-is (choke-bytes (fileN file) (fileLeadersAfter file k) (fileChokeAfter file k) out (leaders-long file (after-fine .0) k (after-fine .1)) (choke-long file (after-fine .0) k (after-fine .1)) v l)
+  choke-after v l = rw out-is (choke-bytes (fileN file) (fileLeadersAfter file k) (fileChokeAfter file k) out led choked v l)
 
   past-after : drop (3 * fileN file) (groupsAfterOut file k out) ≡ drop (3 * fileN file) out
-  past-after = rw out-is (past-bytes (fileN file) (fileLeadersAfter file k) (fileChokeAfter file k) out (leaders-long file (after-fine .0) k (after-fine .1)) (choke-long file (after-fine .0) k (after-fine .1)))
+  past-after = rw out-is (past-bytes (fileN file) (fileLeadersAfter file k) (fileChokeAfter file k) out led choked)
 
 pub bytes-so-far : BytesSoFar
 unfolding BytesSoFar

@@ -12,6 +12,7 @@ use Rattle.packing.specs.Holders.{held}
 use Rattle.packing.specs.SoFar.{SoFar}
 use Rattle.packing.proofs.Tests.{by-bool, clash, not-i, iff-test}
 use Rattle.packing.proofs.Sums.{count-mono, count-ext}
+use Rattle.packing.proofs.Counting.{pick-test}
 use Rattle.packing.proofs.Groupings.{Sym, Loopless}
 use Rattle.packing.proofs.Prefixes.{IsOrder, order-place, prefix-optimal, blocked-groupings}
 use Rattle.packing.proofs.Placing.{Standing}
@@ -52,7 +53,7 @@ all-placed {n} {order = order} {h} {g} o s v l =
     alone q = let p = order-place o v l in rw (p .2) at (s .left (p .0) (p .1) (rw (p .2) q))
 
 -- the first j of two orders that are the same below n
-first-same : {n k : ℕ} {order order' : ℕ → ℕ} → k ≤ n → ((i : ℕ) → i < n → order i < n) → ((i : ℕ) → i < n → order i ≡ order' i)
+pub first-same : {n k : ℕ} {order order' : ℕ → ℕ} → k ≤ n → ((i : ℕ) → i < n → order i < n) → ((i : ℕ) → i < n → order i ≡ order' i)
     → (p q : ℕ → Bool) → ((v : ℕ) → v < n → p v ≡ q v) → (j : ℕ) → j ≤ k → countFirst j order p ≡ countFirst j order' q
 unfolding countFirst
 first-same {n} {order = order} {order'} placed inside orders p q same j l =
@@ -83,22 +84,18 @@ so-far-below {n} {limit} {limit'} {adj} {order} {order'} {k} {h} {g} {g'} placed
           first-same placed inside orders (covered g) (covered g') covered-same j l,
         )
 
-same-test : (a b : Bool) → pick a 1 ≡ pick b 1 → a ≡ b
-same-test true true e = refl
-same-test true false e = absurd (omega arith)
-same-test false true e = absurd (omega arith)
-same-test false false e = refl
-
 -- Two groupings so far of one plant cover the same of the gateways that are placed for both: over every first j neither covers more.
 pub placed-same : {n : ℕ} {limit : ℕ → ℕ} {adj : ℕ → ℕ → Bool} {order : ℕ → ℕ} {k k' : ℕ} {h h' g g' : ℕ → ℕ} → SoFar n limit adj order k h g → SoFar n limit adj order k' h' g'
     → (i : ℕ) → i < k → i < k' → covered g (order i) ≡ covered g' (order i)
 unfolding countFirst count sum
-placed-same {order = order} {g = g} {g'} s s' i l l' =
-    same-test (covered g (order i)) (covered g' (order i))
-    (omega (
-      arith,
-      s .most g' (s' .grouping) i (omega arith),
-      s .most g' (s' .grouping) (suc i) l,
-      s' .most g (s .grouping) i (omega arith),
-      s' .most g (s .grouping) (suc i) l',
-    ))
+placed-same {order = order} {g = g} {g'} s s' i l l' = sym (pick-test (covered g (order i))) ∙ ap (λ (x : ℕ). eqb x 1) same ∙ pick-test (covered g' (order i))
+  where
+    same : pick (covered g (order i)) 1 ≡ pick (covered g' (order i)) 1
+    same =
+        omega (
+          arith,
+          s .most g' (s' .grouping) i (omega arith),
+          s .most g' (s' .grouping) (suc i) l,
+          s' .most g (s .grouping) i (omega arith),
+          s' .most g (s .grouping) (suc i) l',
+        )

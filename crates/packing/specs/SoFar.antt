@@ -7,8 +7,9 @@ use Rattle.packing.specs.Grouping.{Grouping, covered, coveredFirst}
 use Rattle.packing.specs.Holders.{held}
 
 pub record SoFar (n : ℕ) (limit : ℕ → ℕ) (adj : ℕ → ℕ → Bool) (order : ℕ → ℕ) (k : ℕ) (h g : ℕ → ℕ) : Type 0 where
-  -- "It gives groups for the holders so far": nobody from place k on is held
+  -- "It gives groups"
   pub grouping : Grouping n limit adj g
+  -- "for the holders so far": nobody from place k on is held
   pub unplaced : (i : ℕ) → k ≤ i → i < n → held n h (order i) ≡ false
   -- "every held gateway is covered"
   pub kept : (v : ℕ) → v < n → held n h v ≡ true → covered g v ≡ true

@@ -1,13 +1,13 @@
 -- The plan of an accepted file after k placings: what its calls tell, what is written, and the claim of specs/Claim.antt.
 use Prim.Native.Nat.{ℕ, zero, suc, _<_, _≤_}
 use mathlib.Core.Path.{_≡_, refl, sym, ap, _∙_}
-use mathlib.Core.Bool.{Bool, true, false}
+use mathlib.Core.Bool.{false}
 use mathlib.Core.List.{List, _++_, append-nil}
 use native.Mathlib.Omega.{arith}
 use lib.ListN.{length, take, replicate, length-replicate, drop-of-length-le}
-use Rattle.packing.specs.Count.{pick}
 use Rattle.packing.specs.Lists.{listOf, written}
 use Rattle.packing.specs.Plant.{GATEWAYS, ENDS, at}
+use Rattle.packing.proofs.Counting.{pick-few}
 use Rattle.packing.proofs.Lists.{listOf-length, listOf-at, written-room, written-front, listed-at}
 use Rattle.packing.proofs.SoFar.{so-far-below}
 use Rattle.stars.specs.Stars.{leaderList}
@@ -101,11 +101,7 @@ module _ (file : List ℕ) (z : fileRefusal file ≡ 0) where
 
     pub choke-bit : (v : ℕ) → v < fileN file → at (fileChokeAfter file k) v ≤ 1
     unfolding chokeByte
-    choke-bit v l = rw (choke-at v l) (bit (inChoke (fileN file) (fileLinks file) (stateAfter file k .holders) v))
-      where
-        bit : (b : Bool) → pick b 1 ≤ 1
-        bit true = omega arith
-        bit false = omega arith
+    choke-bit v l = pick-few (inChoke (fileN file) (fileLinks file) (stateAfter file k .holders) v) (choke-at v l)
 
 -- with lists of 1,024 entries 10 is not given: the number is 1 or an earlier one where n is above
 pub after-own : (file : List ℕ) (k : ℕ) {a b : List ℕ} → a ≡ own → b ≡ own → planAfterRefusal file k (length a) (length b) ≡ afterRefusal file k false

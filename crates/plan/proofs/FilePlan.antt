@@ -8,14 +8,15 @@ use lib.Dec.{eqb}
 use lib.ListN.{length, replicate}
 use Rattle.packing.specs.Count.{count}
 use Rattle.packing.specs.Plant.{NONE, at, common, linked}
-use Rattle.packing.specs.Grouping.{covered, countFirst}
+use Rattle.packing.specs.Grouping.{covered}
 use Rattle.packing.proofs.Sums.{count-ext}
+use Rattle.packing.proofs.SoFar.{first-same}
 use Rattle.packing.proofs.Below.{grouping-below, difference-below}
 use Rattle.planner.specs.Calls.{read}
 use Rattle.planner.specs.Told.{Told, refuses}
 use Rattle.planner.specs.Claims.{toldBy, DemandTwo, DemandThree}
 use Rattle.planner.proofs.Demands.{demand-two, demand-three}
-use Rattle.plant_file.specs.PlantFile.{fileN, fileT, fileLinks, fileOrder, fileRefusal}
+use Rattle.plant_file.specs.PlantFile.{fileN, fileT, fileLinks, fileRefusal}
 use Rattle.plant_file.proofs.Accepted.{file-allowed}
 use Rattle.plant_file.proofs.Refusing.{then-alone}
 use Rattle.plan.specs.Plan.{callsAfter, stateAfter, fileState, planRefusal, planLeaders, planChoke, fileLeaders, fileChoke}
@@ -66,18 +67,12 @@ file-plan file leaders choke passes =
 -- The claim goes by the entries below n, ..
 pub plan-below : (file : List ℕ) → fileRefusal file ≡ 0 → (g h : ℕ → ℕ) (s r : ℕ → Bool) → ((v : ℕ) → v < fileN file → g v ≡ h v) → ((v : ℕ) → v < fileN file → s v ≡ r v)
     → PlanOf file g s → PlanOf file h r
-unfolding countFirst
 plan-below file z g h s r same alike (group, most, difference) =
     let left : count (fileN file) (λ v. not (covered g v)) ≡ count (fileN file) (λ v. not (covered h v)) = count-ext (fileN file) _ _ (λ v l. ap (λ (x : ℕ). not (not (eqb x NONE))) (same v l)) in (
       grouping-below (fileN file) (common (fileT file)) (linked (fileLinks file)) g h same group,
-      λ other ok k l. rw (first k l) at (most other ok k l),
+      λ other ok k l. rw (first-same (omega arith) (file-allowed file z .order .below) (λ i q. refl) (covered g) (covered h) (λ v q. ap (λ (x : ℕ). not (eqb x NONE)) (same v q)) k l) at (most other ok k l),
       difference-below (fileN file) (common (fileT file)) (linked (fileLinks file)) s r _ _ alike left difference,
     )
-  where
-    first : (k : ℕ) → k ≤ fileN file → count k (λ i. covered g (at (fileOrder file) i)) ≡ count k (λ i. covered h (at (fileOrder file) i))
-    first k l =
-        count-ext k (λ i. covered g (at (fileOrder file) i)) (λ i. covered h (at (fileOrder file) i))
-        (λ i q. ap (λ (x : ℕ). not (eqb x NONE)) (same (at (fileOrder file) i) (file-allowed file z .order .below i (omega arith))))
 
 -- .. and so holds of the n leaders and the n choke bytes alone.
 module _ (file : List ℕ) (z : fileRefusal file ≡ 0) where

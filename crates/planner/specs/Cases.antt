@@ -7,13 +7,13 @@ use mathlib.Core.List.{List, [], _∷_, _++_}
 use lib.Dec.{eqb}
 use lib.ListN.{length, replicate}
 use Rattle.packing.specs.Count.{count, sumOver}
-use Rattle.packing.specs.Plant.{NONE, at, common, linked}
+use Rattle.packing.specs.Plant.{NONE, common, linked}
 use Rattle.packing.specs.Grouping.{isAlone}
 use Rattle.packing.specs.Choke.{stranded}
 use Rattle.planner.specs.State.{State}
 use Rattle.planner.specs.Calls.{Call, link, order, place, read, call, readLeaders, readChoke}
 use Rattle.planner.specs.Run.{linkCalls, placeCalls}
-use Rattle.planner.specs.Claims.{madeBy}
+use Rattle.planner.specs.Claims.{madeBy, leadersRead, chokeRead}
 
 -- a plant: n, T, its links two numbers each, and the call of order where 01 names one. Where it names none, no call of order is made: open's order stands.
 pub record Plant : Type 0 where
@@ -35,13 +35,13 @@ chokeOf p k = readChoke (after p k) (replicate (p .n) 0) (replicate (p .n) 0)
 
 -- .. the number of gateways that then have no link once the choke set is taken away, the sum of the set's limits, and the number alone
 unfoldable pub withoutLink : Plant → ℕ → ℕ
-withoutLink p k = count (p .n) (stranded (p .n) (linked (p .links)) (λ v. eqb (at (chokeOf p k) v) 1))
+withoutLink p k = count (p .n) (stranded (p .n) (linked (p .links)) (chokeRead (after p k) (replicate (p .n) 0) (replicate (p .n) 0)))
 
 unfoldable pub limitsOf : Plant → ℕ → ℕ
-limitsOf p k = sumOver (p .n) (λ v. eqb (at (chokeOf p k) v) 1) (common (p .t))
+limitsOf p k = sumOver (p .n) (chokeRead (after p k) (replicate (p .n) 0) (replicate (p .n) 0)) (common (p .t))
 
 unfoldable pub aloneOf : Plant → ℕ → ℕ
-aloneOf p k = count (p .n) (isAlone (at (leadersOf p k)))
+aloneOf p k = count (p .n) (isAlone (leadersRead (after p k) (replicate (p .n) 0) (replicate (p .n) 0)))
 
 unfoldable pub sameList : List ℕ → List ℕ → Bool
 sameList [] [] = true
