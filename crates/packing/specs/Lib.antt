@@ -6,6 +6,7 @@ pub mod Orders
 pub mod Refusals
 pub mod Turns
 pub mod Grouping
+pub mod Pairs
 pub mod Holders
 pub mod SoFar
 pub mod Choke

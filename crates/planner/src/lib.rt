@@ -169,7 +169,7 @@ impl Small {
         }
         let end = 2 * (m as usize);
         // Both answers are true: the lengths were tested above.
-        stars::leaders(n, holders, leaders);
+        stars::leaders(n, order, holders, leaders);
         search::choke::choke_set(n, &links[..end], holders, choke);
         Answer {
             refusal: 0,

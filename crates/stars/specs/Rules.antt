@@ -1,16 +1,18 @@
 -- 01, "Reading": rules 1 to 5, each as 01 writes it. hs are the holders of n gateways; the arc into w comes from its holder.
 -- lead u: u leads by rule 1. g are the entries by rules 1 to 4: its own number for a leader, the leader's number for a member, NONE for alone. list are the entries by all five.
 -- RulesFix says that they fix the leader list of specs/Stars.antt (proofs/Rules.antt, proofs/Only.antt).
-use Prim.Native.Nat.{ℕ, _+_, _*_, _<_, _≤_, min}
+use Prim.Native.Nat.{ℕ, _+_, _*_, _<_, _≤_}
 use mathlib.Core.Path.{_≡_}
 use mathlib.Core.Logic.{_↔_}
-use mathlib.Core.Bool.{Bool, true, false}
+use mathlib.Core.Bool.{Bool, true, false, not}
 use mathlib.Core.List.{List}
-use lib.Dec.{ltb}
+use Rattle.packing.specs.Count.{count}
 use Rattle.packing.specs.Plant.{NONE, at}
-use Rattle.packing.specs.Grouping.{memberCount}
+use Rattle.packing.specs.Grouping.{memberCount, covered}
+use Rattle.packing.specs.Pairs.{Two, Earlier, SameGroups}
 use Rattle.packing.specs.Holders.{held}
-use Rattle.stars.specs.Stars.{onCycle, pairLeader, leaderListBy, leaderList}
+use Rattle.packing.specs.Choke.{ChokeDifference}
+use Rattle.stars.specs.Stars.{onCycle, leaderListBy, leaderList}
 
 -- Rule 1: "From the deepest upwards, a gateway leads those of its children that lead nobody." "Children are tree arcs only, not the next on the cycle."
 pub record RuleOne (n : ℕ) (hs : List ℕ) (lead : ℕ → Bool) (g : ℕ → ℕ) : Type 0 where
@@ -65,10 +67,12 @@ pub record RuleFour (n : ℕ) (hs : List ℕ) (lead : ℕ → Bool) (g : ℕ →
 unfoldable pub Itself : ℕ → List ℕ → (ℕ → Bool) → (ℕ → ℕ) → Type 0
 Itself n hs lead g = (v : ℕ) → v < n → at hs v ≡ v → lead v ≡ false → g v ≡ v
 
--- Rule 5: "After all that, in a group of two the lower number leads." u and its one member w both get the number of the one that leads the pair, and every other gateway keeps its entry.
--- leadsPair a b: of the pair a and b, a leads. 01's is `ltb`, which gives the lower number (proofs/Rules.antt: `lower-leads`).
-pub record RuleFive (leadsPair : ℕ → ℕ → Bool) (n : ℕ) (g list : ℕ → ℕ) : Type 0 where
-  pub pair : (u w : ℕ) → u < n → w < n → g u ≡ u → g w ≡ u → (w ≡ u → ⊥) → memberCount n g u ≡ 1 → (list u ≡ pairLeader leadsPair u w) × (list w ≡ pairLeader leadsPair u w)
+-- Rule 5, as 02, change 2 has it: "In a group of two the one earlier in the order now leads." Every other gateway keeps its entry.
+-- order may be any list, in which a number may be missing or stand twice. What 02 leaves free: where it has neither of the two, the group keeps its leader. No order of a sound record misses one.
+pub record RuleFive (n : ℕ) (order : ℕ → ℕ) (g list : ℕ → ℕ) : Type 0 where
+  pub leader : (u w : ℕ) → Two n g u w → Earlier n order u w → Pair list u w
+  pub member : (u w : ℕ) → Two n g u w → Earlier n order w u → Pair list w u
+  pub neither : (u w : ℕ) → Two n g u w → ((i : ℕ) → i < n → (order i ≡ u → ⊥) × (order i ≡ w → ⊥)) → Pair list u w
   pub keeps : (v : ℕ) → v < n → (g v < n → memberCount n g (g v) ≡ 1 → ⊥) → list v ≡ g v
 
 -- who leads by rule 1, and the entries by rules 1 to 4
@@ -80,19 +84,25 @@ pub record OneToFour (n : ℕ) (hs : List ℕ) (lead : ℕ → Bool) (g : ℕ �
   pub itself : Itself n hs lead g
 
 -- the list is one by all five rules
-pub record ByRules (leadsPair : ℕ → ℕ → Bool) (n : ℕ) (hs : List ℕ) (list : ℕ → ℕ) : Type 0 where
+pub record ByRules (n : ℕ) (order : ℕ → ℕ) (hs : List ℕ) (list : ℕ → ℕ) : Type 0 where
   pub lead : ℕ → Bool
   pub entry : ℕ → ℕ
   pub grouped : OneToFour n hs lead entry
-  pub five : RuleFive leadsPair n entry list
+  pub five : RuleFive n order entry list
 
--- The five rules fix the list, whoever leads a pair: the list of Stars.antt is one by the rules, and no other list is. 65535 is no gateway.
+-- The five rules fix the list, for any order and any holders: the list of Stars.antt is one by the rules, and no other list is. 65535 is no gateway.
 unfoldable pub RulesFix : Type 0
 RulesFix =
-    (leadsPair : ℕ → ℕ → Bool) (n : ℕ) (hs : List ℕ) → n ≤ 65535
-    → ByRules leadsPair n hs (leaderListBy leadsPair n hs)
-    × ((list : ℕ → ℕ) → ByRules leadsPair n hs list → (v : ℕ) → v < n → list v ≡ leaderListBy leadsPair n hs v)
+    (n : ℕ) (os hs : List ℕ) → n ≤ 65535
+    → ByRules n (at os) hs (leaderList n os hs)
+    × ((list : ℕ → ℕ) → ByRules n (at os) hs list → (v : ℕ) → v < n → list v ≡ leaderList n os hs v)
 
--- .. and 01's leader list is the one by which "the lower number leads" a pair
-unfoldable pub LowerLeads : Type 0
-LowerLeads = ((n : ℕ) (hs : List ℕ) → leaderList n hs ≡ leaderListBy ltb n hs) × ((a b : ℕ) → pairLeader ltb a b ≡ min a b)
+-- 02, change 2: "covered sets and choke sets are the same as before". With any two ways to decide who leads a pair, be it by an order, by the numbers or by what else, the lists have the same groups;
+-- so a set whose difference is the number alone in the one list is such a set for the other.
+unfoldable pub WhoeverLeads : Type 0
+WhoeverLeads =
+    (leadsPair other : ℕ → ℕ → Bool) (n : ℕ) (hs : List ℕ) → n ≤ 65535
+    → SameGroups n (leaderListBy leadsPair n hs) (leaderListBy other n hs)
+    × ((limit : ℕ → ℕ) (adj : ℕ → ℕ → Bool) (s : ℕ → Bool)
+    → ChokeDifference n limit adj s (count n (λ v. not (covered (leaderListBy leadsPair n hs) v)))
+    ↔ ChokeDifference n limit adj s (count n (λ v. not (covered (leaderListBy other n hs) v))))

@@ -5,10 +5,11 @@ use Prim.Native.Nat.{ℕ, zero, suc}
 use mathlib.Core.Bool.{Bool, false, not, cond, _&&_, _||_}
 use mathlib.Core.List.{List}
 use lib.Dec.{eqb, ltb, leb}
+use lib.ListN.{length}
 use Rattle.packing.specs.Count.{all, any, firstWith}
 use Rattle.packing.specs.Plant.{NONE, at}
 use Rattle.packing.specs.Grouping.{follows, memberCount}
-use Rattle.packing.specs.Lists.{fitted}
+use Rattle.packing.specs.Lists.{listOf, written, fits}
 
 -- v's holder; what is no gateway has none
 unfoldable pub holder : ℕ → List ℕ → ℕ → ℕ
@@ -71,10 +72,22 @@ ruleFive leadsPair n g v = cond (ltb (g v) n && eqb (memberCount n g (g v)) 1) (
 unfoldable pub leaderListBy : (ℕ → ℕ → Bool) → ℕ → List ℕ → ℕ → ℕ
 leaderListBy leadsPair n hs = ruleFive leadsPair n (leaderOf n hs)
 
--- .. and with 01's rule 5, which is `ltb`: "the lower number leads"
-unfoldable pub leaderList : ℕ → List ℕ → ℕ → ℕ
-leaderList n hs = leaderListBy ltb n hs
+-- the place of a number in an order: where it first stands among the first n entries; n where it does not
+unfoldable pub placeOf : ℕ → (ℕ → ℕ) → ℕ → ℕ
+placeOf n order v = firstWith n (λ i. eqb (order i) v)
+
+-- by a place for each, a leads the pair a and b where b is not earlier
+abbrev pub notLater : (ℕ → ℕ) → ℕ → ℕ → Bool
+notLater place a b = leb (place a) (place b)
+
+-- .. and with rule 5 as it is since 02, change 2: "In a group of two the one earlier in the order now leads". os is the list of the order; it may be any list.
+unfoldable pub leaderList : ℕ → List ℕ → List ℕ → ℕ → ℕ
+leaderList n os hs = leaderListBy (notLater (placeOf n (at os))) n hs
+
+-- n is in range, and there are n entries in the order, in the holders and in the list that is written, by their lengths
+unfoldable pub leadersFit : ℕ → ℕ → ℕ → ℕ → Bool
+leadersFit n order holders out = leb n order && fits n holders out
 
 -- a lent list after the call: the leader list in its first n entries, or as it came where n or a length does not fit
-unfoldable pub leadersWritten : ℕ → List ℕ → List ℕ → List ℕ
-leadersWritten n hs out = fitted n hs (leaderList n hs) out
+unfoldable pub leadersWritten : ℕ → List ℕ → List ℕ → List ℕ → List ℕ
+leadersWritten n os hs out = cond (leadersFit n (length os) (length hs) (length out)) (written n (listOf n (leaderList n os hs)) out) out

@@ -1,26 +1,25 @@
-// Rule 5, over any grouping: who leads a group of two.
+// Rule 5, over any grouping and any places: who leads a group of two.
 use lists::counts::member_count;
 use lists::entry;
 use lists::tests::is_member;
 ghost use mathlib.Core.Path.{_≡_};
 ghost use Prim.Native.Nat.{_≤_};
-ghost use lib.Dec.{ltb};
 ghost use lib.ListN.{length};
 ghost use Rattle.packing.specs.Plant.{at};
 ghost use Rattle.packing.specs.Lists.{listOf, written};
-ghost use Rattle.stars.specs.Stars.{pairLeader, partner, ruleFive};
+ghost use Rattle.stars.specs.Stars.{notLater, pairLeader, partner, ruleFive};
 
-// Of the pair a and b, whether a leads.
-fn leads_pair(a: u16, b: u16) -> bool
-    ensures { λ r. ⌜ r ≡ ltb a b ⌝ }
+// Of the pair a and b, whether a leads: b's place is not before a's.
+fn leads_pair(places: &[u16], a: u16, b: u16) -> bool
+    ensures { λ r. ⌜ r ≡ notLater (at (now (places .entry))) a b ⌝ }
 {
-    a < b
+    entry(places, a) <= entry(places, b)
 }
 
-fn pair_leader(a: u16, b: u16) -> u16
-    ensures { λ r. ⌜ r ≡ pairLeader ltb a b ⌝ }
+fn pair_leader(places: &[u16], a: u16, b: u16) -> u16
+    ensures { λ r. ⌜ r ≡ pairLeader (notLater (at (now (places .entry)))) a b ⌝ }
 {
-    if leads_pair(a, b) {
+    if leads_pair(places, a, b) {
         return a;
     }
     b
@@ -41,8 +40,8 @@ fn partner_of(n: u16, groups: &[u16], u: u16) -> u16
 }
 
 // v's entry once in a group of two the one that leads the pair leads.
-fn rule_five(n: u16, groups: &[u16], v: u16) -> u16
-    ensures { λ r. ⌜ r ≡ ruleFive ltb n (at (now (groups .entry))) v ⌝ }
+fn rule_five(n: u16, places: &[u16], groups: &[u16], v: u16) -> u16
+    ensures { λ r. ⌜ r ≡ ruleFive (notLater (at (now (places .entry)))) n (at (now (groups .entry))) v ⌝ }
 {
     let u = entry(groups, v);
     if n <= u {
@@ -51,18 +50,18 @@ fn rule_five(n: u16, groups: &[u16], v: u16) -> u16
     if member_count(n, groups, u) != 1 {
         return u;
     }
-    pair_leader(u, partner_of(n, groups, u))
+    pair_leader(places, u, partner_of(n, groups, u))
 }
 
 // The list of n entries, written to the front of out.
-pub(crate) fn write_list(n: u16, groups: &[u16], out: &mut [u16])
+pub(crate) fn write_list(n: u16, places: &[u16], groups: &[u16], out: &mut [u16])
     requires { ⌜ n ≤ length (now out) ⌝ }
-    ensures { λ _. ⌜ now (out .exit) ≡ written n (listOf n (ruleFive ltb n (at (now (groups .entry))))) (now (out .entry)) ⌝ }
+    ensures { λ _. ⌜ now (out .exit) ≡ written n (listOf n (ruleFive (notLater (at (now (places .entry)))) n (at (now (groups .entry))))) (now (out .entry)) ⌝ }
 {
     let mut v: u16 = 0;
     while v < n {
         let place = v as usize;
-        out[place] = rule_five(n, groups, v);
+        out[place] = rule_five(n, places, groups, v);
         v += 1;
     }
 }
