@@ -10,11 +10,11 @@ use Rattle.packing.specs.Lists.{listOf, written, fits, Lent, fitted}
 use Rattle.packing.proofs.Tests.{tests}
 
 -- what the test says, and what it takes
-fits-means : (n : ℕ) (read out : List ℕ) → fits n (length read) (length out) ≡ true → Lent n read out
+pub fits-means : (n : ℕ) (read out : List ℕ) → fits n (length read) (length out) ≡ true → Lent n read out
 unfolding fits
 fits-means n read out e = record { few = search (tests, leb-true); entries = search (tests, leb-true); places = search (tests, leb-true) }
 
-fits-holds : {n : ℕ} {read out : List ℕ} → Lent n read out → fits n (length read) (length out) ≡ true
+pub fits-holds : {n : ℕ} {read out : List ℕ} → Lent n read out → fits n (length read) (length out) ≡ true
 unfolding fits
 fits-holds {n} {read} {out} l = rw (le-leb n GATEWAYS (l .few), le-leb n (length read) (l .entries), le-leb n (length out) (l .places))
 

@@ -13,7 +13,7 @@ use Rattle.packing.specs.Holders.{held, holds, Feasible}
 use Rattle.packing.proofs.Tests.{by-bool, clash, and-l, and-r, and-i, not-i, not-test, any-elim, any-fails}
 use Rattle.packing.proofs.Sums.{count-mono, count-split, count-some, count-unique}
 use Rattle.packing.proofs.Groupings.{Sym, Loopless, follows-is, follows-means}
-use Rattle.stars.specs.Stars.{back, onCycle, nextOnCycle, leadsInTrees, cut, leads, leaderOf, leaderListBy, leaderList}
+use Rattle.stars.specs.Stars.{back, onCycle, nextOnCycle, leadsInTrees, cut, leads, leaderOf, leaderListBy, placeOf, notLater, leaderList}
 use Rattle.stars.proofs.Cycles.{holder-at, back-holder, cycle-round, cycle-only, next-held, next-only}
 use Rattle.stars.proofs.Leads.{Begins, begins-means, cut-begins, trees-child, leads-child, leads-tree, leads-more}
 use Rattle.stars.proofs.RuleFive.{Kind, alone-is, leader-is, member-is, ruleFive-covered, ruleFive-grouping}
@@ -181,12 +181,12 @@ module _ (leadsPair : ℕ → ℕ → Bool) (n : ℕ) (hs : List ℕ) (few : n �
   unfolding leaderListBy
   leaderListBy-covers v l e = ruleFive-covered leadsPair n (leaderOf n hs) few v ∙ leaderOf-covers n hs few v l e
 
--- .. and where the lower number leads
-module _ (n : ℕ) (hs : List ℕ) (few : n ≤ NONE) where
-  pub leaderList-grouping : (limit : ℕ → ℕ) (adj : ℕ → ℕ → Bool) → Feasible n limit adj (at hs) → Sym n adj → Loopless n adj → ((u : ℕ) → u < n → 2 ≤ limit u) → Grouping n limit adj (leaderList n hs)
+-- .. and where the one earlier in the order leads
+module _ (n : ℕ) (os hs : List ℕ) (few : n ≤ NONE) where
+  pub leaderList-grouping : (limit : ℕ → ℕ) (adj : ℕ → ℕ → Bool) → Feasible n limit adj (at hs) → Sym n adj → Loopless n adj → ((u : ℕ) → u < n → 2 ≤ limit u) → Grouping n limit adj (leaderList n os hs)
   unfolding leaderList
-  leaderList-grouping = leaderListBy-grouping ltb n hs few
+  leaderList-grouping = leaderListBy-grouping (notLater (placeOf n (at os))) n hs few
 
-  pub leaderList-covers : (v : ℕ) → v < n → held n (at hs) v ≡ true → covered (leaderList n hs) v ≡ true
+  pub leaderList-covers : (v : ℕ) → v < n → held n (at hs) v ≡ true → covered (leaderList n os hs) v ≡ true
   unfolding leaderList
-  leaderList-covers = leaderListBy-covers ltb n hs few
+  leaderList-covers = leaderListBy-covers (notLater (placeOf n (at os))) n hs few

@@ -6,11 +6,11 @@ use mathlib.Core.List.{List}
 use lib.Dec.{ltb}
 use Rattle.packing.specs.Plant.{NONE, at}
 use Rattle.packing.specs.Lists.{listOf, written}
-use Rattle.stars.specs.Stars.{onCycle, nextOnCycle, leadsIn, leadsInTrees, cut, leads, leaderOf, ruleFive, leaderListBy, leaderList}
+use Rattle.stars.specs.Stars.{onCycle, nextOnCycle, leadsIn, leadsInTrees, cut, leads, leaderOf, ruleFive, leaderListBy, placeOf, notLater, leaderList}
 use Rattle.stars.specs.Pre.{Table, Marks, Ruled, marked}
 use Rattle.stars.proofs.Tables.{read-mark, mark}
 use Rattle.stars.proofs.RuleOneRounds.{leadsIn-ext}
-use Rattle.stars.proofs.RuleFive.{five-ext}
+use Rattle.stars.proofs.RuleFive.{five-ext, five-ways}
 use Rattle.stars.proofs.Groups.{entry-leads, entry-cut, entry-kept}
 use Rattle.packing.proofs.Lists.{listOf-ext}
 
@@ -43,9 +43,11 @@ module _ {n : ℕ} {hs cs ds ls : List ℕ} (r : Ruled n hs cs ds ls) (v : ℕ) 
   pub leader-holder : {b k : Bool} {w u : ℕ} → b ≡ marked ls v → b ≡ false → k ≡ marked ds v → k ≡ false → w ≡ at hs v → u ≡ cond (ltb w n) w NONE → u ≡ leaderOf n hs v
   leader-holder e f g q s t = rw s at t ∙ sym (entry-kept n hs v (sym (leading e) ∙ f) (sym (cutting g) ∙ q))
 
--- the list by rule 5 over the array of leaders is the leader list
-pub list-joined : (n : ℕ) (hs old : List ℕ) {gs new : List ℕ} → Table n (leaderOf n hs) gs → new ≡ written n (listOf n (ruleFive ltb n (at gs))) old
-    → new ≡ written n (listOf n (leaderList n hs)) old
+-- the list by rule 5 over the arrays of places and leaders is the leader list
+pub list-joined : (n : ℕ) (os hs old : List ℕ) {ps gs new : List ℕ} → Table n (placeOf n (at os)) ps → Table n (leaderOf n hs) gs → new ≡ written n (listOf n (ruleFive (notLater (at ps)) n (at gs))) old
+    → new ≡ written n (listOf n (leaderList n os hs)) old
 unfolding leaderList leaderListBy
-list-joined n hs old {gs} t e =
-    e ∙ ap (λ (l : List ℕ). written n l old) (listOf-ext n (ruleFive ltb n (at gs)) (ruleFive ltb n (leaderOf n hs)) (five-ext n (at gs) (leaderOf n hs) (t .entry) ltb))
+list-joined n os hs old {ps} {gs} p t e =
+    e ∙ ap (λ (l : List ℕ). written n l old) (listOf-ext n (ruleFive (notLater (at ps)) n (at gs)) (ruleFive (notLater (placeOf n (at os))) n (leaderOf n hs))
+    (λ v l. five-ext n (at gs) (leaderOf n hs) (t .entry) (notLater (at ps)) v l
+    ∙ five-ways n (leaderOf n hs) (notLater (at ps)) (notLater (placeOf n (at os))) (λ a b k m. rw (p .entry a k, p .entry b m)) v))

@@ -5,8 +5,10 @@ pub mod Circles
 pub mod Pieces
 pub mod Upwards
 pub mod Leads
+pub mod OrderPlaces
 pub mod RuleFive
 pub mod Groups
+pub mod Pairs
 pub mod Stretches
 pub mod StretchesOfRules
 pub mod Rules
@@ -20,3 +22,4 @@ pub mod ArcsBack
 pub mod CutArcs
 pub mod RuleOneRounds
 pub mod LeaderTables
+pub mod Lent

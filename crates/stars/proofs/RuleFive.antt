@@ -1,7 +1,7 @@
 -- Rule 5 over any grouping, whoever leads a pair: the groups stay, and so does what is covered.
 use Prim.Native.Nat.{ℕ, _+_, _<_, _≤_}
 use mathlib.Core.Path.{_≡_, refl, sym, ap, _∙_}
-use mathlib.Core.Logic.{_⊎_, inl, inr, ⊎-elim}
+use mathlib.Core.Logic.{_⊎_, inl, inr, ⊎-elim, _↔_}
 use mathlib.Core.Bool.{Bool, true, false, not, _&&_, _||_}
 use native.Mathlib.Omega.{arith}
 use lib.Dec.{eqb, ltb, leb}
@@ -65,6 +65,10 @@ module _ (leadsPair : ℕ → ℕ → Bool) (n : ℕ) (g : ℕ → ℕ) where
   unfolding ruleFive
   five-keeps v h = rw (not-test (ltb (g v) n && eqb (memberCount n g (g v)) 1) (λ t. h (ltb-true (g v) n (and-l _ _ t)) (eqb-true (memberCount n g (g v)) 1 (and-r (ltb (g v) n) _ t))))
 
+  -- .. as who has no gateway for its entry
+  pub five-past : (v : ℕ) → (g v < n → ⊥) → ruleFive leadsPair n g v ≡ g v
+  five-past v h = five-keeps v (λ l one. h l)
+
   -- so that an entry stays, or becomes the partner of what it was
   five-cases : {A : Type 0} (v : ℕ) → (ruleFive leadsPair n g v ≡ g v → A) → (g v < n → memberCount n g (g v) ≡ 1 → ruleFive leadsPair n g v ≡ partner n g (g v) → A) → A
   unfolding pairLeader
@@ -90,7 +94,7 @@ module _ (leadsPair : ℕ → ℕ → Bool) (n : ℕ) (g : ℕ → ℕ) where
   unfolding ruleFive
   five-by v w e = rw e
 
-  five-same : (v w : ℕ) → g v < n → g (g v) ≡ g v → (g w < n → g (g w) ≡ g w) → ruleFive leadsPair n g w ≡ ruleFive leadsPair n g v → g w ≡ g v
+  pub five-same : (v w : ℕ) → g v < n → g (g v) ≡ g v → (g w < n → g (g w) ≡ g w) → ruleFive leadsPair n g w ≡ ruleFive leadsPair n g v → g w ≡ g v
   five-same v w l own owned e =
       let (below, from) = five-entry v l own in
       let k : g w < n = five-cases w (λ q. omega arith) (λ k one q. k) in
@@ -120,6 +124,14 @@ module _ (n : ℕ) (g g' : ℕ → ℕ) (same : (w : ℕ) → w < n → g w ≡ 
   unfolding ruleFive partner
   five-ext leadsPair v l = rw (same v l, members-ext (g' v), first-ext n (follows g (g' v)) (follows g' (g' v)) (follows-ext (g' v)))
 
+-- Who leads a pair is asked of gateways only.
+pub five-ways : (n : ℕ) (g : ℕ → ℕ) (leadsPair other : ℕ → ℕ → Bool) → ((a b : ℕ) → a < n → b < n → leadsPair a b ≡ other a b) → (v : ℕ) → ruleFive leadsPair n g v ≡ ruleFive other n g v
+unfolding pairLeader
+five-ways n g leadsPair other same v =
+    two-cases n g v
+    (λ l one. five-pair leadsPair n g v (g v) refl l one ∙ rw (same (g v) (partner n g (g v)) l (partner-found n g (g v) one .0)) (sym (five-pair other n g v (g v) refl l one)))
+    (λ h. five-keeps leadsPair n g v h ∙ sym (five-keeps other n g v h))
+
 -- a group without one of it is as large as without another of it
 group-without : (n : ℕ) (g : ℕ → ℕ) (u x : ℕ) → x < n → g x ≡ u → count n (λ w. eqb (g w) u) ≡ 1 + count n (λ w. eqb (g w) u && not (eqb w x))
 group-without n g u x l e =
@@ -129,6 +141,35 @@ group-without n g u x l e =
       count-some n (λ w. eqb (g w) u && eqb w x) x l (and-i _ _ (eq-eqb (g x) u e) (eq-eqb x x refl)),
       count-unique n (λ w. eqb (g w) u && eqb w x) (λ i j a b p q. eqb-true i x (and-r (eqb (g i) u) _ p) ∙ sym (eqb-true j x (and-r (eqb (g j) u) _ q))),
     )
+
+-- Rule 5 over entries by which each leader leads itself, as in every grouping.
+module _ (leadsPair : ℕ → ℕ → Bool) (n : ℕ) (g : ℕ → ℕ) (own : (v : ℕ) → v < n → g v < n → g (g v) ≡ g v) where
+  -- the new leader has as many members as the old
+  pub five-members : (v : ℕ) → v < n → g v < n → memberCount n (ruleFive leadsPair n g) (ruleFive leadsPair n g v) ≡ memberCount n g (g v)
+  unfolding memberCount
+  five-members v l k =
+      let (below, from) = five-entry leadsPair n g v k (own v l k) in
+      omega (
+        arith,
+        group-without n g (g v) (ruleFive leadsPair n g v) below from,
+        group-without n g (g v) (g v) k (own v l k),
+        count-ext n (λ w. eqb (ruleFive leadsPair n g w) (ruleFive leadsPair n g v) && not (eqb w (ruleFive leadsPair n g v))) (λ w. eqb (g w) (g v) && not (eqb w (ruleFive leadsPair n g v)))
+            (λ w m. ap (λ (b : Bool). b && not (eqb w (ruleFive leadsPair n g v))) (iff-test _ _
+            (λ e. eq-eqb (g w) (g v) (five-same leadsPair n g v w k (own v l k) (own w m) (eqb-true _ _ e)))
+            (λ e. eq-eqb _ _ (five-by leadsPair n g v w (eqb-true (g w) (g v) e))))),
+      )
+
+  -- gateways have one entry just where they had one
+  pub five-together : (v w : ℕ) → v < n → w < n → ruleFive leadsPair n g v ≡ ruleFive leadsPair n g w ↔ g v ≡ g w
+  five-together v w l m = (same, λ e. five-by leadsPair n g w v e)
+    where
+      past : ruleFive leadsPair n g v ≡ ruleFive leadsPair n g w → (g v < n → ⊥) → g v ≡ g w
+      past e h =
+          let stays = five-past leadsPair n g v h in
+          sym stays ∙ e ∙ five-past leadsPair n g w (λ k. h (rw (sym stays ∙ e) (five-entry leadsPair n g w k (own w m k) .0)))
+
+      same : ruleFive leadsPair n g v ≡ ruleFive leadsPair n g w → g v ≡ g w
+      same e = by-bool (ltb (g v) n) (λ t. let k = ltb-true (g v) n t in sym (five-same leadsPair n g v w k (own v l k) (own w m) (sym e))) (λ t. past e (λ k. clash _ (lt-ltb (g v) n k) t))
 
 module _
     (leadsPair : ℕ → ℕ → Bool) (n : ℕ) (limit : ℕ → ℕ) (adj : ℕ → ℕ → Bool) (g : ℕ → ℕ) (few : n ≤ NONE) (symmetric : Sym n adj) (loopless : Loopless n adj)
@@ -145,22 +186,6 @@ module _
     pair-linked u l pair =
         let (k, e, other) = partner-found n g u pair in
         symmetric (partner n g u) u k l (⊎-elim (λ s. absurd (other s)) (λ a. a) (star (partner n g u) u k l e .1))
-
-    -- the new leader has as many members as the old
-    five-members : (v : ℕ) → v < n → g v < n → memberCount n (ruleFive leadsPair n g) (ruleFive leadsPair n g v) ≡ memberCount n g (g v)
-    unfolding memberCount
-    five-members v l k =
-        let own : g (g v) ≡ g v = star v (g v) l k refl .0 in
-        let (below, from) = five-entry leadsPair n g v k own in
-        omega (
-          arith,
-          group-without n g (g v) (ruleFive leadsPair n g v) below from,
-          group-without n g (g v) (g v) k own,
-          count-ext n (λ w. eqb (ruleFive leadsPair n g w) (ruleFive leadsPair n g v) && not (eqb w (ruleFive leadsPair n g v))) (λ w. eqb (g w) (g v) && not (eqb w (ruleFive leadsPair n g v)))
-              (λ w m. ap (λ (b : Bool). b && not (eqb w (ruleFive leadsPair n g v))) (iff-test _ _
-              (λ e. eq-eqb (g w) (g v) (five-same leadsPair n g v w k own (λ j. star w (g w) m j refl .0) (eqb-true _ _ e)))
-              (λ e. eq-eqb _ _ (five-by leadsPair n g v w (eqb-true (g w) (g v) e))))),
-        )
 
     pub ruleFive-grouping : Grouping n limit adj (ruleFive leadsPair n g)
     unfolding Grouping
@@ -193,7 +218,7 @@ module _
             by-bool (eqb v x)
             (λ t.
             let here : v ≡ x = eqb-true v x t in
-            let size : memberCount n (ruleFive leadsPair n g) v ≡ memberCount n g (g v) = rw (← here) at (five-members v l k) in
+            let size : memberCount n (ruleFive leadsPair n g) v ≡ memberCount n g (g v) = rw (← here) at (five-members leadsPair n g (λ w m j. star w (g w) m j refl .0) v l k) in
             leader-is n limit adj (ruleFive leadsPair n g) v (sym here) (omega arith)
             (by-bool (eqb (memberCount n g (g v)) 1) (λ q. omega (arith, one v l, eqb-true (memberCount n g (g v)) 1 q))
             (λ q. let same : v ≡ g v = here ∙ five-keeps leadsPair n g v (λ m. eqb-false _ 1 q) in omega (arith, ap limit same))))

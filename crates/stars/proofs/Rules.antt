@@ -1,21 +1,21 @@
--- The leader list obeys rules 1 to 5: leaderOf are the entries by rules 1 to 4, and leaderListBy is rule 5 over leaderOf.
+-- The leader list obeys rules 1 to 5: leaderOf are the entries by rules 1 to 4, and leaderList is rule 5 over leaderOf.
 -- n is at most NONE, so that NONE is no gateway.
-use Prim.Native.Nat.{ℕ, _+_, _*_, _-_, _<_, _≤_, min}
+use Prim.Native.Nat.{ℕ, _+_, _*_, _-_, _<_, _≤_}
 use mathlib.Core.Path.{_≡_, refl, ap, _∙_}
-use mathlib.Core.Bool.{Bool}
+use mathlib.Core.Bool.{false}
 use mathlib.Core.List.{List}
 use native.Mathlib.Omega.{arith}
-use lib.Dec.{ltb}
-use borrow.Author.Tests.{ltb-true, ltb-false}
+use lib.Dec.{leb}
+use borrow.Author.Tests.{le-leb, lt-leb}
 use Rattle.packing.specs.Plant.{NONE, at}
-use Rattle.packing.specs.Grouping.{memberCount}
-use Rattle.packing.proofs.Tests.{by-bool}
-use Rattle.stars.specs.Stars.{leadsInTrees, leaderOf, pairLeader, ruleFive, leaderListBy}
+use Rattle.packing.specs.Pairs.{Two}
+use Rattle.stars.specs.Stars.{leadsInTrees, leaderOf, pairLeader, ruleFive, leaderListBy, placeOf, notLater, leaderList}
 use Rattle.stars.specs.Rules.{RuleOne, RuleTwo, Leaderless, Pair, RuleThree, RuleFour, Itself, RuleFive, OneToFour, ByRules}
 use Rattle.stars.proofs.Cycles.{cycle-held, next-only}
 use Rattle.stars.proofs.Leads.{cut-cycle, trees-child, leads-tree, leads-more}
 use Rattle.stars.proofs.Stretches.{idle, pairs}
 use Rattle.stars.proofs.StretchesOfRules.{leaderless-stretch, run-kept, run-stretch}
+use Rattle.stars.proofs.OrderPlaces.{earlier-place, place-last}
 use Rattle.stars.proofs.RuleFive.{partner-only, five-pair, five-keeps}
 use Rattle.stars.proofs.Groups.{entry-leads, entry-cut, entry-held, entry-none}
 
@@ -74,21 +74,32 @@ module _ (n : ℕ) (hs : List ℕ) (few : n ≤ NONE) where
   pub entries-hold : OneToFour n hs (leadsInTrees n hs) (leaderOf n hs)
   entries-hold = record { one = one-holds; two = two-holds; three = three-holds; four = four-holds; itself = itself-holds }
 
--- rule 5 of any entries
-five-holds : (leadsPair : ℕ → ℕ → Bool) (n : ℕ) (g : ℕ → ℕ) → RuleFive leadsPair n g (ruleFive leadsPair n g)
-five-holds leadsPair n g = record { pair = λ u w l k e f other one. (both u w l k f other one u e, both u w l k f other one w f); keeps = λ v l. five-keeps leadsPair n g v }
-  where
-    both : (u w : ℕ) → u < n → w < n → g w ≡ u → (w ≡ u → ⊥) → memberCount n g u ≡ 1 → (v : ℕ) → g v ≡ u → ruleFive leadsPair n g v ≡ pairLeader leadsPair u w
-    both u w l k f other one v e = five-pair leadsPair n g v u e l one ∙ ap (pairLeader leadsPair u) (partner-only n g u one w k f other)
-
-pub list-holds : (leadsPair : ℕ → ℕ → Bool) (n : ℕ) (hs : List ℕ) → RuleFive leadsPair n (leaderOf n hs) (leaderListBy leadsPair n hs)
-unfolding leaderListBy
-list-holds leadsPair n hs = five-holds leadsPair n (leaderOf n hs)
-
-pub rules-hold : (leadsPair : ℕ → ℕ → Bool) (n : ℕ) (hs : List ℕ) → n ≤ NONE → ByRules leadsPair n hs (leaderListBy leadsPair n hs)
-rules-hold leadsPair n hs few = record { lead = leadsInTrees n hs; entry = leaderOf n hs; grouped = entries-hold n hs few; five = list-holds leadsPair n hs }
-
--- 01's rule 5, "the lower number leads": by `ltb` the leader of a pair is the lower of the two
-pub lower-leads : (a b : ℕ) → pairLeader ltb a b ≡ min a b
+-- rule 5 of any entries, by any list
+five-holds : (n : ℕ) (order g : ℕ → ℕ) → RuleFive n order g (ruleFive (notLater (placeOf n order)) n g)
 unfolding pairLeader
-lower-leads a b = by-bool (ltb a b) (λ t. rw t (omega (arith, ltb-true a b t))) (λ t. rw t (omega (arith, ltb-false a b t)))
+five-holds n order g =
+    record {
+      leader = λ u w t e. first u w t (omega (arith, earlier-place n order e));
+      member = λ u w t e.
+          let other = earlier-place n order e in
+          let (a, b) = both u w t in
+          let later : leb (placeOf n order u) (placeOf n order w) ≡ false = lt-leb (placeOf n order u) (placeOf n order w) other in
+          (rw later at b, rw later at a);
+      neither = λ u w t nowhere. first u w t (place-last n order u w (λ i l. nowhere i l .1));
+      keeps = λ v l. five-keeps (notLater (placeOf n order)) n g v;
+    }
+  where
+    both : (u w : ℕ) → Two n g u w → (ruleFive (notLater (placeOf n order)) n g u ≡ pairLeader (notLater (placeOf n order)) u w) × (ruleFive (notLater (placeOf n order)) n g w ≡ pairLeader (notLater (placeOf n order)) u w)
+    both u w t =
+        let same = ap (pairLeader (notLater (placeOf n order)) u) (partner-only n g u (t .only) w (t .member) (t .led) (t .apart)) in
+        (five-pair _ n g u u (t .own) (t .leader) (t .only) ∙ same, five-pair _ n g w u (t .led) (t .leader) (t .only) ∙ same)
+
+    first : (u w : ℕ) → Two n g u w → placeOf n order u ≤ placeOf n order w → Pair (ruleFive (notLater (placeOf n order)) n g) u w
+    first u w t l = rw (le-leb (placeOf n order u) (placeOf n order w) l) at (both u w t)
+
+pub list-holds : (n : ℕ) (os hs : List ℕ) → RuleFive n (at os) (leaderOf n hs) (leaderList n os hs)
+unfolding leaderList leaderListBy
+list-holds n os hs = five-holds n (at os) (leaderOf n hs)
+
+pub rules-hold : (n : ℕ) (os hs : List ℕ) → n ≤ NONE → ByRules n (at os) hs (leaderList n os hs)
+rules-hold n os hs few = record { lead = leadsInTrees n hs; entry = leaderOf n hs; grouped = entries-hold n hs few; five = list-holds n os hs }

@@ -6,22 +6,33 @@ mod places;
 mod reading;
 mod rounds;
 
+use lists::PLACES;
 ghost use mathlib.Core.Path.{_≡_};
 ghost use Prim.Native.Nat.{_≤_};
 ghost use lib.ListN.{length};
 ghost use Rattle.packing.specs.Lists.{listOf, written, Lent};
-ghost use Rattle.stars.specs.Stars.{leaderList, leadersFit, leadersWritten};
+ghost use Rattle.packing.specs.Plant.{GATEWAYS};
+ghost use Rattle.stars.specs.Stars.{leaderOf, leaderList, leadersFit, leadersWritten};
+ghost use Rattle.stars.specs.Pre.{Table};
 
-// Each step fills one array: the cycles, who leads by rule 1, the cut arcs, who leads by rules 1 to 4, their leaders, and the places in the order.
-fn write_leaders(n: u16, order: &[u16], holders: &[u16], out: &mut [u16])
-    requires { ⌜ Lent n (now holders) (now out) ⌝ }
-    ensures { λ _. ⌜ now (out .exit) ≡ written n (listOf n (leaderList n (now (order .entry)) (now (holders .entry)))) (now (out .entry)) ⌝ }
+// Each gateway's leader by rules 1 to 4. Each step fills one array: the cycles, who leads by rule 1, the cut arcs, who leads by rules 1 to 4, and the leaders.
+fn groups_of(n: u16, holders: &[u16]) -> [u16; PLACES]
+    requires { ⌜ n ≤ GATEWAYS ⌝ }
+    ensures { λ r. ⌜ Table n (leaderOf n (now (holders .entry))) r ⌝ }
 {
     let cycles = arcs::on_cycles(n, holders);
     let trees = rounds::leading(n, holders, &cycles);
     let cut = cuts::cut_arcs(n, holders, &cycles, &trees);
     let leading = rounds::leading(n, holders, &cut);
-    let groups = reading::leaders_of(n, holders, &cycles, &cut, &leading);
+    reading::leaders_of(n, holders, &cycles, &cut, &leading)
+}
+
+// The groups by rules 1 to 4, then rule 5 by the places in the order.
+fn write_leaders(n: u16, order: &[u16], holders: &[u16], out: &mut [u16])
+    requires { ⌜ Lent n (now holders) (now out) ⌝ }
+    ensures { λ _. ⌜ now (out .exit) ≡ written n (listOf n (leaderList n (now (order .entry)) (now (holders .entry)))) (now (out .entry)) ⌝ }
+{
+    let groups = groups_of(n, holders);
     let places = places::places_of(n, order);
     groups_of_two::write_list(n, &places, &groups, out);
 }

@@ -1,49 +1,20 @@
--- Each array holds the test that the next step goes by.
-use Rattle.stars.proofs.LeaderTables.{trees-marked, leads-marked, list-joined}
+-- The arrays of places and leaders, put together by rule 5.
+use Rattle.stars.proofs.LeaderTables.{list-joined}
 use borrow.Author.Needs.{needs}
 use Rattle.stars.proofs.write_leaders.Statement.{statement}
 use Rattle.stars.proofs.write_leaders.Tie as tie
 
-on-cycles-requires : tie.Need-on-cycles-requires
-on-cycles-requires c κs = search needs
+groups-of-requires : tie.Need-groups-of-requires
+groups-of-requires c κs = search needs
 
-slice-aggregate-leading : tie.Need-slice-aggregate-leading
-slice-aggregate-leading c = search needs
-
-leading-requires : tie.Need-leading-requires
-leading-requires c κs = search needs
-
-slice-aggregate-cut-arcs : tie.Need-slice-aggregate-cut-arcs
-slice-aggregate-cut-arcs c = search needs
-
-slice-aggregate-cut-arcs-2 : tie.Need-slice-aggregate-cut-arcs-2
-slice-aggregate-cut-arcs-2 c = search needs
-
-cut-arcs-requires : tie.Need-cut-arcs-requires
-cut-arcs-requires c κs = let first = c .before .before .before .before in
-    record { few = search needs; cycles = first .on-cycles .ensures; trees = trees-marked _ _ (first .on-cycles .ensures) (c .before .before .leading .ensures) }
-
-slice-aggregate-leading-2 : tie.Need-slice-aggregate-leading-2
-slice-aggregate-leading-2 c = search needs
-
-leading-requires-2 : tie.Need-leading-requires-2
-leading-requires-2 c κs = search needs
-
-slice-aggregate-leaders-of : tie.Need-slice-aggregate-leaders-of
-slice-aggregate-leaders-of c = search needs
-
-slice-aggregate-leaders-of-2 : tie.Need-slice-aggregate-leaders-of-2
-slice-aggregate-leaders-of-2 c = search needs
-
-slice-aggregate-leaders-of-3 : tie.Need-slice-aggregate-leaders-of-3
-slice-aggregate-leaders-of-3 c = search needs
-
-leaders-of-requires : tie.Need-leaders-of-requires
-leaders-of-requires c κs = let third = c .before .before .before .before .before in
-    record { few = search needs; cycles = third .before .before .before .before .before .on-cycles .ensures; cuts = third .cut-arcs .ensures; led = leads-marked _ _ (third .cut-arcs .ensures) (c .before .before .before .leading2 .ensures) }
+places-of-requires : tie.Need-places-of-requires
+places-of-requires c κs = search needs
 
 slice-aggregate-write-list : tie.Need-slice-aggregate-write-list
 slice-aggregate-write-list c = search needs
+
+slice-aggregate-write-list-2 : tie.Need-slice-aggregate-write-list-2
+slice-aggregate-write-list-2 c = search needs
 
 write-list-requires : tie.Need-write-list-requires
 write-list-requires c κs = search needs
@@ -52,25 +23,9 @@ same-length : tie.Need-same-length
 same-length c = search needs
 
 returns : tie.Need-returns
-returns c = list-joined _ _ _ (c .before .before .before .before .before .leaders-of .ensures) (c .before .before .write-list .ensures)
+returns c = let written = c .before .before in
+    let filled = written .before .before .before .before in
+    list-joined _ _ _ _ (filled .places-of .ensures) (filled .before .groups-of .ensures) (written .write-list .ensures)
 
 pub write-leaders-spec : {M : Type 1} → statement M
-write-leaders-spec =
-    tie.close
-    (tie.spec
-    on-cycles-requires
-    slice-aggregate-leading
-    leading-requires
-    slice-aggregate-cut-arcs
-    slice-aggregate-cut-arcs-2
-    cut-arcs-requires
-    slice-aggregate-leading-2
-    leading-requires-2
-    slice-aggregate-leaders-of
-    slice-aggregate-leaders-of-2
-    slice-aggregate-leaders-of-3
-    leaders-of-requires
-    slice-aggregate-write-list
-    write-list-requires
-    same-length
-    returns)
+write-leaders-spec = tie.close (tie.spec groups-of-requires places-of-requires slice-aggregate-write-list slice-aggregate-write-list-2 write-list-requires same-length returns)

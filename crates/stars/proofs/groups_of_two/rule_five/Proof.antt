@@ -1,6 +1,6 @@
 -- Each return is one case of rule 5.
-use lib.Dec.{ltb}
 use Rattle.packing.specs.Plant.{at}
+use Rattle.stars.specs.Stars.{notLater}
 use Rattle.stars.proofs.RuleFive.{five-none, five-more, five-two}
 use borrow.Author.Needs.{needs}
 use Rattle.stars.proofs.groups_of_two.rule_five.Statement.{statement}
@@ -10,14 +10,16 @@ entry-requires : tie.Need-entry-requires
 entry-requires c κs = search needs
 
 returns : tie.Need-returns
-returns c = five-none ltb _ (at (c .before .before .before .args .groups .now)) _ (c .before .entry .ensures) (c .if1 .taken)
+returns c = let lent = c .before .before .before .before .args in
+    five-none (notLater (at (lent .places .now))) _ (at (lent .groups .now)) _ (c .before .entry .ensures) (c .if1 .taken)
 
 member-count-requires : tie.Need-member-count-requires
 member-count-requires c κs = search needs
 
 returns-2 : tie.Need-returns-2
 returns-2 c = let first = c .before .before in
-    five-more ltb _ (at (first .before .before .before .args .groups .now)) _ (first .before .entry .ensures) (c .before .member-count .ensures) (c .if2 .taken)
+    let lent = first .before .before .before .before .args in
+    five-more (notLater (at (lent .places .now))) _ (at (lent .groups .now)) _ (first .before .entry .ensures) (c .before .member-count .ensures) (c .if2 .taken)
 
 partner-of-requires : tie.Need-partner-of-requires
 partner-of-requires c κs = search needs
@@ -28,7 +30,8 @@ pair-leader-requires c κs = search needs
 returns-3 : tie.Need-returns-3
 returns-3 c = let second = c .before .before in
     let first = second .before .before in
-    five-two ltb _ (at (first .before .before .before .args .groups .now)) _ (first .before .entry .ensures) (first .if1 .left) (second .before .member-count .ensures) (second .if2 .left) (c .before .partner-of .ensures) (c .pair-leader .ensures)
+    let lent = first .before .before .before .before .args in
+    five-two (notLater (at (lent .places .now))) _ (at (lent .groups .now)) _ (first .before .entry .ensures) (first .if1 .left) (second .before .member-count .ensures) (second .if2 .left) (c .before .partner-of .ensures) (c .pair-leader .ensures)
 
 pub rule-five-spec : {M : Type 1} → statement M
 rule-five-spec =

@@ -1,0 +1,40 @@
+-- The lists lent for the leader list: what their test says, and what it takes.
+use Prim.Native.Nat.{ℕ, _<_, _≤_}
+use mathlib.Core.Path.{_≡_, sym, _∙_}
+use mathlib.Core.Bool.{Bool, true, false, not}
+use mathlib.Core.List.{List}
+use lib.Dec.{leb}
+use lib.ListN.{length}
+use borrow.Author.Tests.{leb-true, le-leb, lt-leb, not-true, not-false}
+use Rattle.packing.specs.Lists.{listOf, written, fits, Lent}
+use Rattle.packing.proofs.Tests.{and-l, and-r}
+use Rattle.packing.proofs.Fitted.{fits-means, fits-holds}
+use Rattle.stars.specs.Stars.{leaderList, leadersFit, leadersWritten}
+
+-- the test, by the order's length and then the others
+pub short-order : (n order holders out : ℕ) → order < n → false ≡ leadersFit n order holders out
+unfolding leadersFit
+short-order n order holders out l = rw (lt-leb n order l)
+
+pub long-order : (n order holders out : ℕ) {b : Bool} → n ≤ order → b ≡ fits n holders out → b ≡ leadersFit n order holders out
+unfolding leadersFit
+long-order n order holders out l e = rw (le-leb n order l) e
+
+-- what it says of the lists that it is read from and written to
+pub lent : (n order : ℕ) (hs out : List ℕ) {b : Bool} → b ≡ leadersFit n order (length hs) (length out) → not b ≡ false → Lent n hs out
+unfolding leadersFit
+lent n order hs out {b} e t = fits-means n hs out (and-r (leb n order) _ (sym e ∙ not-false b t))
+
+-- where all fit, the list is written
+pub leaders-written : (n : ℕ) (os hs out : List ℕ) → n ≤ length os → Lent n hs out → leadersWritten n os hs out ≡ written n (listOf n (leaderList n os hs)) out
+unfolding leadersWritten leadersFit
+leaders-written n os hs out l lent = rw (le-leb n (length os) l, fits-holds lent)
+
+module _ (n : ℕ) (os hs out : List ℕ) {b : Bool} (e : b ≡ leadersFit n (length os) (length hs) (length out)) where
+  pub lent-refuses : not b ≡ true → (false ≡ leadersFit n (length os) (length hs) (length out)) × (out ≡ leadersWritten n os hs out)
+  unfolding leadersWritten
+  lent-refuses t = (sym (not-true b t) ∙ e, rw (sym e ∙ not-true b t))
+
+  pub lent-writes : {new : List ℕ} → not b ≡ false → new ≡ written n (listOf n (leaderList n os hs)) out → (true ≡ leadersFit n (length os) (length hs) (length out)) × (new ≡ leadersWritten n os hs out)
+  unfolding leadersWritten
+  lent-writes t h = (sym (not-false b t) ∙ e, h ∙ rw (sym e ∙ not-false b t))
