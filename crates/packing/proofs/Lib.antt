@@ -4,7 +4,6 @@ pub mod Sums
 pub mod Counting
 pub mod Flat
 pub mod Lists
-pub mod Fitted
 pub mod Refusals
 pub mod Turns
 pub mod Tight

@@ -50,7 +50,3 @@ pub record Lent (n : ℕ) (read out : List ℕ) : Type 0 where
   pub few : n ≤ GATEWAYS
   pub entries : n ≤ length read
   pub places : n ≤ length out
-
--- a lent list after a call that writes f's value for each gateway where that fits: as it came where it does not
-unfoldable pub fitted : ℕ → List ℕ → (ℕ → ℕ) → List ℕ → List ℕ
-fitted n read f out = cond (fits n (length read) (length out)) (written n (listOf n f) out) out

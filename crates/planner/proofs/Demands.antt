@@ -15,15 +15,16 @@ use Rattle.packing.specs.SoFar.{SoFar}
 use Rattle.packing.proofs.Sums.{count-ext}
 use Rattle.packing.proofs.Counting.{pick-test}
 use Rattle.packing.proofs.Lists.{listed-at}
-use Rattle.packing.proofs.Prefixes.{IsOrder, order-whole}
+use Rattle.packing.proofs.Prefixes.{IsOrder, order-place, order-whole}
 use Rattle.packing.proofs.SoFar.{all-placed, so-far-below}
-use Rattle.packing.proofs.Below.{difference-below, difference-limits}
+use Rattle.packing.proofs.Below.{difference-below, difference-limits, leads-below}
 use Rattle.stars.specs.Stars.{leaderList}
+use Rattle.stars.proofs.Pairs.{earlier-leads}
 use Rattle.search.specs.ChokeSet.{inChoke, chokeByte}
 use Rattle.planner.specs.State.{State, limitOf}
 use Rattle.planner.specs.Calls.{Call, order, read, callRefusal, call, readLeaders, readChoke}
 use Rattle.planner.specs.Told.{Told, beginning, refuses}
-use Rattle.planner.specs.Claims.{toldBy, madeBy, leadersRead, chokeRead, GroupingTold, SameNumbers, OnceRead, DemandThree, DemandThreeOf, MostCovered, MostCoveredOf, DemandTwo, DemandTwoOf, AnyRead, SoFarRead, ReadAnyTime}
+use Rattle.planner.specs.Claims.{toldBy, madeBy, leadersRead, chokeRead, GroupingTold, SameNumbers, OnceRead, DemandThree, DemandThreeOf, MostCovered, MostCoveredOf, DemandTwo, DemandTwoOf, AnyRead, SoFarRead, ReadAnyTime, EarlierLeadsRead, EarlierLeadsPairs}
 use Rattle.planner.proofs.Tells.{onward}
 use Rattle.planner.proofs.Agree.{Agrees, stateTold, by-told, same-number, same-numbers, run-agrees, open-agrees}
 use Rattle.planner.proofs.Optimal.{made-so-far, choke-unheld}
@@ -55,9 +56,9 @@ module _ (p : Told) (ls os hs : List ℕ) (a : Agrees p (stateTold p ls os hs)) 
   unfolding call
   accepts = same-number a (read leaders choke) ∙ z
 
-  leaders-are : (v : ℕ) → v < p .n → leaderList (p .n) hs v ≡ leadersRead (stateTold p ls os hs) leaders choke v
+  leaders-are : (v : ℕ) → v < p .n → leaderList (p .n) os hs v ≡ leadersRead (stateTold p ls os hs) leaders choke v
   unfolding readLeaders
-  leaders-are v l = sym (rw accepts (listed-at (p .n) (leaderList (p .n) hs) leaders v l))
+  leaders-are v l = sym (rw accepts (listed-at (p .n) (leaderList (p .n) os hs) leaders v l))
 
   choke-at : (v : ℕ) → v < p .n → at (readChoke (stateTold p ls os hs) leaders choke) v ≡ chokeByte (p .n) (p .links) hs v
   unfolding readChoke
@@ -69,6 +70,12 @@ module _ (p : Told) (ls os hs : List ℕ) (a : Agrees p (stateTold p ls os hs)) 
 
   pub read-so-far : SoFarRead (p .n) p (stateTold p ls os hs) leaders choke
   read-so-far = so-far-below (a .made .sound .placed) (a .made .sound .order .below) (a .limits) (a .order) leaders-are (rw (a .links) at (made-so-far (a .made)))
+
+  pub read-earlier : EarlierLeadsRead (p .n) p (stateTold p ls os hs) leaders choke
+  read-earlier =
+      let sound = a .made .sound in
+      leads-below (p .n) (at os) (at (p .order)) (leaderList (p .n) os hs) (leadersRead (stateTold p ls os hs) leaders choke) (a .order) leaders-are
+      (earlier-leads (p .n) os hs (omega (arith, sound .few)) (order-place (sound .order)))
 
   module _ (full : p .placed ≡ p .n) where
     read-all : SoFar (p .n) (p .limit) (linked (p .links)) (at (p .order)) (p .n) (at hs) (leadersRead (stateTold p ls os hs) leaders choke)
@@ -107,6 +114,10 @@ once-read claim proved n t ls os hs ok calls placed leaders choke z =
 pub read-any-time : ReadAnyTime
 unfolding ReadAnyTime
 read-any-time = any-read SoFarRead read-so-far
+
+pub earlier-leads-pairs : EarlierLeadsPairs
+unfolding EarlierLeadsPairs
+earlier-leads-pairs = any-read EarlierLeadsRead read-earlier
 
 pub demand-three : DemandThree
 unfolding DemandThree

@@ -57,7 +57,7 @@ module _ {s : State} (made : Made s) (more : s .small .k < s .small .n) where
   kept-together e = (e, λ i l h. still-held (made .standing) more (next-placing made next) (at (s .order) i) (made .standing .ordered .below i (omega arith)) h)
 
   kept-covered : held (s .small .n) (at (changed s place .holders)) (at (s .order) (s .small .k)) ≡ true
-      → KeptAnd (s .small .n) (s .small .k) (at (s .order)) (at (s .holders)) (covered (leaderList (s .small .n) (changed s place .holders)))
+      → KeptAnd (s .small .n) (s .small .k) (at (s .order)) (at (s .holders)) (covered (leaderList (s .small .n) (s .order) (changed s place .holders)))
   unfolding changed
   kept-covered e =
       let cover = leaders-cover (made-place made next .sound) in
@@ -71,7 +71,7 @@ module _ {s : State} (made : Made s) (more : s .small .k < s .small .n) where
   unfolding changed limitOf
   feasible-after = made-place made next .standing .feasible
 
-  grouping-after : Grouping (s .small .n) (limitOf s) (linked (linksOf s)) (leaderList (s .small .n) (changed s place .holders))
+  grouping-after : Grouping (s .small .n) (limitOf s) (linked (linksOf s)) (leaderList (s .small .n) (s .order) (changed s place .holders))
   unfolding changed limitOf
   grouping-after = sound-grouping (made-place made next .sound)
 
@@ -99,9 +99,9 @@ module _ (p : Told) (ls os hs : List ℕ) (a : Agrees p (stateTold p ls os hs)) 
     λ e g group c. left-groupings (a .made) more (sym next-same ∙ e) g
         (rw (a .links) (grouping-limits (p .n) (p .limit) (limitOf (stateTold p ls os hs)) (linked (p .links)) (λ u l. sym (a .limits u l)) g group)) (by-own-order (covered g) c),
     λ no. next-same ∙ by-bool (held (p .n) (at after) (at os (p .placed)))
-        (λ e. absurd (no (leaderList (p .n) after)
-        (grouping-limits (p .n) (limitOf (stateTold p ls os hs)) (p .limit) (linked (p .links)) (a .limits) (leaderList (p .n) after) (rw (a .links) at (grouping-after (a .made) more)))
-        (by-told-order (covered (leaderList (p .n) after)) (kept-covered (a .made) more e)))) (λ e. e),
+        (λ e. absurd (no (leaderList (p .n) os after)
+        (grouping-limits (p .n) (limitOf (stateTold p ls os hs)) (p .limit) (linked (p .links)) (a .limits) (leaderList (p .n) os after) (rw (a .links) at (grouping-after (a .made) more)))
+        (by-told-order (covered (leaderList (p .n) os after)) (kept-covered (a .made) more e)))) (λ e. e),
   )
 
   exactly-holders : NextLeft (p .n) p (stateTold p ls os hs) ↔ ((h : ℕ → ℕ) → Feasible (p .n) (p .limit) (linked (p .links)) h → CoversKept (p .n) p (stateTold p ls os hs) (held (p .n) h) → ⊥)

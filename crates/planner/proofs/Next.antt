@@ -9,7 +9,6 @@ use borrow.Author.Tests.{le-ltb, not-false}
 use Rattle.packing.specs.Lists.{listOf, written}
 use Rattle.packing.specs.Plant.{GATEWAYS, NONE, at}
 use Rattle.packing.specs.Holders.{held}
-use Rattle.packing.proofs.Fitted.{fitted-written}
 use Rattle.search.specs.Search.{placedHolders, holdersAfter}
 use Rattle.search.specs.ChokeSet.{chokeByte, chokeWritten}
 use Rattle.search.specs.Pre.{Placeable}
@@ -19,6 +18,7 @@ use Rattle.sound.specs.Sound.{isSound}
 use Rattle.sound.proofs.Meaning.{Sound, sound-means}
 use Rattle.sound.proofs.Searchable.{sound-searchable}
 use Rattle.stars.specs.Stars.{leaderList, leadersWritten}
+use Rattle.stars.proofs.Lent.{leaders-written}
 use Rattle.planner.specs.State.{State, linksOf, limitOf}
 
 -- what it is for a record to be sound
@@ -53,10 +53,9 @@ module _ (s : State) (sound : SoundState s) where
   next-placed limits more is e = e ∙ rw is (placed-common (s .small .t) (linksOf s) (next-placeable more))
 
   -- the leader list and the choke bytes are written where there is a place for each
-  pub leaders-placed : (leaders : List ℕ) {leaders' : List ℕ} → s .small .n ≤ length leaders → leaders' ≡ leadersWritten (s .small .n) (s .holders) leaders
-      → leaders' ≡ written (s .small .n) (listOf (s .small .n) (leaderList (s .small .n) (s .holders))) leaders
-  unfolding leadersWritten
-  leaders-placed leaders room e = e ∙ fitted-written (leaderList (s .small .n) (s .holders)) (record { few = sound .few; entries = sound .holders-long; places = room })
+  pub leaders-placed : (leaders : List ℕ) {leaders' : List ℕ} → s .small .n ≤ length leaders → leaders' ≡ leadersWritten (s .small .n) (s .order) (s .holders) leaders
+      → leaders' ≡ written (s .small .n) (listOf (s .small .n) (leaderList (s .small .n) (s .order) (s .holders))) leaders
+  leaders-placed leaders room e = e ∙ leaders-written (s .small .n) (s .order) (s .holders) leaders (sound .order-long) (record { few = sound .few; entries = sound .holders-long; places = room })
 
   pub choke-placed : (choke : List ℕ) {choke' : List ℕ} → s .small .n ≤ length choke → choke' ≡ chokeWritten (s .small .n) (linksOf s) (s .holders) choke
       → choke' ≡ written (s .small .n) (listOf (s .small .n) (chokeByte (s .small .n) (linksOf s) (s .holders))) choke

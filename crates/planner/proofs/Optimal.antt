@@ -40,20 +40,20 @@ module _ {s : State} (sound : SoundState s) where
   below-none = omega (arith, sound .few)
 
   -- "Every held gateway is covered."
-  pub leaders-cover : (v : ℕ) → v < s .small .n → held (s .small .n) (at (s .holders)) v ≡ true → covered (leaderList (s .small .n) (s .holders)) v ≡ true
-  leaders-cover = leaderList-covers (s .small .n) (s .holders) below-none
+  pub leaders-cover : (v : ℕ) → v < s .small .n → held (s .small .n) (at (s .holders)) v ≡ true → covered (leaderList (s .small .n) (s .order) (s .holders)) v ≡ true
+  leaders-cover = leaderList-covers (s .small .n) (s .order) (s .holders) below-none
 
   -- the leader list is a grouping of the record's plant
-  pub sound-grouping : Grouping (s .small .n) (limitOf s) (linked (linksOf s)) (leaderList (s .small .n) (s .holders))
+  pub sound-grouping : Grouping (s .small .n) (limitOf s) (linked (linksOf s)) (leaderList (s .small .n) (s .order) (s .holders))
   unfolding limitOf
-  sound-grouping = leaderList-grouping (s .small .n) (s .holders) below-none (limitOf s) (linked (linksOf s)) (sound .feasible) links-symmetric links-loopless limit-two
+  sound-grouping = leaderList-grouping (s .small .n) (s .order) (s .holders) below-none (limitOf s) (linked (linksOf s)) (sound .feasible) links-symmetric links-loopless limit-two
 
 module _ {s : State} (made : Made s) where
   -- the leader list so far
-  pub made-so-far : SoFar (s .small .n) (limitOf s) (linked (linksOf s)) (at (s .order)) (s .small .k) (at (s .holders)) (leaderList (s .small .n) (s .holders))
+  pub made-so-far : SoFar (s .small .n) (limitOf s) (linked (linksOf s)) (at (s .order)) (s .small .k) (at (s .holders)) (leaderList (s .small .n) (s .order) (s .holders))
   made-so-far =
       let sound = made .sound in
-      so-far (made .standing) (links-symmetric sound) (links-loopless sound) (limit-one sound) (leaderList (s .small .n) (s .holders)) (sound-grouping sound) (leaders-cover sound)
+      so-far (made .standing) (links-symmetric sound) (links-loopless sound) (limit-one sound) (leaderList (s .small .n) (s .order) (s .holders)) (sound-grouping sound) (leaders-cover sound)
 
   -- once all are placed the choke difference is the number without holder
   pub choke-unheld : s .small .k ≡ s .small .n

@@ -80,7 +80,7 @@ module _ (s : State) (leaders choke : List ℕ) where
   read-refused g h = (ap answerOf (call-refused s (read leaders choke) g h), (refused _ _ g h, refused _ _ g h))
 
   pub read-accepted : {e : ℕ} {leaders' choke' : List ℕ} → e ≡ callRefusal s (read leaders choke) → e ≡ 0
-      → leaders' ≡ written (s .small .n) (listOf (s .small .n) (leaderList (s .small .n) (s .holders))) leaders
+      → leaders' ≡ written (s .small .n) (listOf (s .small .n) (leaderList (s .small .n) (s .order) (s .holders))) leaders
       → choke' ≡ written (s .small .n) (listOf (s .small .n) (chokeByte (s .small .n) (linksOf s) (s .holders))) choke
       → (_≡_ {A = Answer} (record { refusal = 0; small = s .small }) (answerOf (call s (read leaders choke)))) × ((leaders' ≡ readLeaders s leaders choke) × (choke' ≡ readChoke s leaders choke))
   unfolding readLeaders readChoke changed

@@ -1,7 +1,7 @@
 -- The statements of specs/Records.antt: what holds of any call on any record.
-use Prim.Native.Nat.{ℕ, zero, suc, _+_, _*_}
+use Prim.Native.Nat.{ℕ, zero, suc, _+_, _*_, _≤_}
 use mathlib.Core.Path.{_≡_, refl, sym, _∙_}
-use mathlib.Core.Bool.{not}
+use mathlib.Core.Bool.{Bool, not}
 use mathlib.Core.List.{List}
 use native.Mathlib.Omega.{arith}
 use lib.ListN.{length, drop, set, replicate, length-replicate, getD-replicate, length-set}
@@ -9,19 +9,23 @@ use lib.Seq.{drop-set-lt, getD-set-same, getD-set-other}
 use borrow.Author.Tests.{not-false}
 use Rattle.packing.specs.Lists.{listOf, written}
 use Rattle.packing.specs.Orders.{upTo}
-use Rattle.packing.specs.Plant.{NONE}
+use Rattle.packing.specs.Plant.{NONE, at}
 use Rattle.packing.specs.Refusals.{byNumber}
+use Rattle.packing.specs.Pairs.{SameGroups}
+use Rattle.packing.proofs.Below.{same-itself, same-below}
 use Rattle.packing.proofs.Lists.{listOf-length, written-at, written-past, listed-at}
 use Rattle.packing.proofs.Refusals.{refuse-none, refused}
 use Rattle.search.proofs.Placing.{placed-past}
 use Rattle.sound.specs.Facts.{SoundMeans}
 use Rattle.sound.proofs.Facts.{sound-means-facts}
 use Rattle.sound.proofs.Meaning.{sound-means}
-use Rattle.stars.specs.Stars.{leaderList}
+use Rattle.stars.specs.Stars.{leaderListBy, leaderList}
+use Rattle.stars.specs.Rules.{WhoeverLeads}
+use Rattle.stars.proofs.Pairs.{whoever-leads}
 use Rattle.search.specs.ChokeSet.{chokeByte}
 use Rattle.planner.specs.State.{State, stateOf, linksOf, limitOf, soundState}
 use Rattle.planner.specs.Calls.{smallOpened, opened, openCall, Call, link, order, place, read, conditions, callRefusal, changed, call, readLeaders, readChoke}
-use Rattle.planner.specs.Records.{OpenGives, OpenRefused, LinkGives, OrderGives, PlaceGives, ReadGives, RefusedUnchanged, ReadRefused, Past, PastUnchanged, ReadPast, HeldCovered, ReadWrites}
+use Rattle.planner.specs.Records.{OpenGives, OpenRefused, LinkGives, OrderGives, PlaceGives, ReadGives, RefusedUnchanged, ReadRefused, Past, PastUnchanged, ReadPast, HeldCovered, ReadWrites, readLeadersBy, ReadWhoeverLeads, ReadAnyOrder}
 use Rattle.planner.proofs.Conditions.{link-allowed, order-allowed, place-allowed}
 use Rattle.planner.proofs.Next.{SoundState, next-placeable}
 use Rattle.planner.proofs.Optimal.{sound-grouping, leaders-cover}
@@ -145,6 +149,32 @@ unfolding ReadWrites SoundMeans call callRefusal soundState readLeaders readChok
 read-writes s leaders choke z =
     let sound = not-false (soundState s) (refuse-none (not (soundState s)) 26 (conditions s (read leaders choke)) (omega arith) z .0) in (
       sound-means-facts (s .small .n) (s .small .t) (s .small .m) (s .small .k) (s .links) (s .order) (s .holders) .0 sound,
-      λ v l. rw z (listed-at (s .small .n) (leaderList (s .small .n) (s .holders)) leaders v l),
+      λ v l. rw z (listed-at (s .small .n) (leaderList (s .small .n) (s .order) (s .holders)) leaders v l),
       λ v l. rw z (listed-at (s .small .n) (chokeByte (s .small .n) (linksOf s) (s .holders)) choke v l),
     )
+
+-- the groups of the lists that two ways to decide who leads a pair write
+written-groups : (leadsPair other : ℕ → ℕ → Bool) (n : ℕ) (hs leaders : List ℕ) → n ≤ NONE
+    → SameGroups n (at (written n (listOf n (leaderListBy leadsPair n hs)) leaders)) (at (written n (listOf n (leaderListBy other n hs)) leaders))
+unfolding WhoeverLeads
+written-groups leadsPair other n hs leaders few =
+    same-below n (leaderListBy leadsPair n hs) (leaderListBy other n hs) _ _
+    (λ v l. sym (listed-at n (leaderListBy leadsPair n hs) leaders v l)) (λ v l. sym (listed-at n (leaderListBy other n hs) leaders v l)) (whoever-leads leadsPair other n hs few .0)
+
+-- an accepted read is of few gateways
+read-few : (s : State) (leaders choke : List ℕ) → callRefusal s (read leaders choke) ≡ 0 → s .small .n ≤ NONE
+unfolding ReadWrites call
+read-few s leaders choke z = omega (arith, read-writes s leaders choke z .0 .gateways)
+
+pub read-whoever-leads : ReadWhoeverLeads
+unfolding ReadWhoeverLeads readLeaders readLeadersBy leaderList
+read-whoever-leads s leaders choke = (refl, λ leadsPair other. by leadsPair other (callRefusal s (read leaders choke)) refl)
+  where
+    by : (leadsPair other : ℕ → ℕ → Bool) (e : ℕ) → callRefusal s (read leaders choke) ≡ e
+        → SameGroups (s .small .n) (at (byNumber e (written (s .small .n) (listOf (s .small .n) (leaderListBy leadsPair (s .small .n) (s .holders))) leaders) leaders)) (at (byNumber e (written (s .small .n) (listOf (s .small .n) (leaderListBy other (s .small .n) (s .holders))) leaders) leaders))
+    by leadsPair other zero z = written-groups leadsPair other (s .small .n) (s .holders) leaders (read-few s leaders choke z)
+    by leadsPair other (suc e) z = same-itself (s .small .n) (at leaders)
+
+pub read-any-order : ReadAnyOrder
+unfolding ReadAnyOrder call readLeaders readChoke leaderList
+read-any-order s os leaders choke z z' = (rw (z, z') (written-groups _ _ (s .small .n) (s .holders) leaders (read-few s leaders choke z)), rw (z, z'))

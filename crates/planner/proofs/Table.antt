@@ -16,25 +16,28 @@ use Rattle.packing.specs.Choke.{stranded}
 use Rattle.packing.proofs.Tests.{and-l, and-r}
 use Rattle.sound.specs.Sound.{numbersSound, listsLong, endsSound, onceEach, holdersLinked, holdersWithin, onlyPlacedHeld, isSound}
 use Rattle.search.specs.Search.{heldBy, look, visit, turn, turns, walk, shift, settled, placedHolders}
-use Rattle.stars.specs.Stars.{holder, back, onCycle, nextOnCycle, leadsIn, leadsInTrees, begins, cut, leads, leaderOf, pairLeader, partner, ruleFive, leaderListBy, leaderList}
+use Rattle.stars.specs.Stars.{holder, back, onCycle, nextOnCycle, leadsIn, leadsInTrees, begins, cut, leads, leaderOf, pairLeader, partner, ruleFive, leaderListBy, placeOf, leaderList}
 use Rattle.search.specs.ChokeSet.{withoutHolder, chokeWalk, seenIn, walkSaw, inChoke, chokeByte}
 use Rattle.packing.specs.Orders.{upTo, repeatsOrOutside}
 use Rattle.planner.specs.Refusals.{openRefusal, linkConditions, orderConditions, placeConditions, readConditions}
 use Rattle.planner.specs.State.{limitOf, soundState}
 use Rattle.planner.specs.Calls.{opened, openCall, conditions, callRefusal, changed, call, readLeaders, readChoke}
 use Rattle.planner.specs.Run.{run, linkCalls, placeCalls}
-use Rattle.planner.specs.Cases.{Row, stands, readsAfter, holds, gives, differsAfter, after, leadersOf, chokeOf, withoutLink, limitsOf, aloneOf, sameList, rowHolds, empty, one, two, path, star, starBack, star4, listed, ring, table, early, rowsHold, Means}
+use Rattle.planner.specs.Cases.{Row, stands, readsAfter, holds, gives, differsAfter, after, leadersOf, chokeOf, withoutLink, limitsOf, aloneOf, sameList, rowHolds, empty, one, two, path, star, starBack, star4, listed, ring, twoLinked, twoLinkedBack, ringBack, table, early, pairs, rowsHold, Means}
 
--- both, computed
-tables-hold : (rowsHold table ≡ true) × (rowsHold early ≡ true)
-unfolding sum count sumOver all any listOf listWhere common firstLinks linked neighbours memberCount heldCount stranded numbersSound listsLong endsSound onceEach holdersLinked holdersWithin onlyPlacedHeld isSound heldBy look visit turn turns walk shift settled placedHolders firstWith holder back onCycle nextOnCycle leadsIn leadsInTrees begins cut leads leaderOf pairLeader partner ruleFive leaderListBy leaderList withoutHolder chokeWalk seenIn walkSaw inChoke chokeByte upTo written repeatsOrOutside openRefusal linkConditions orderConditions placeConditions readConditions limitOf soundState opened openCall conditions callRefusal changed call readLeaders readChoke run linkCalls placeCalls after leadersOf chokeOf withoutLink limitsOf aloneOf sameList rowHolds empty one two path star starBack star4 listed ring table early rowsHold
-tables-hold = (refl, refl)
+-- all of them, computed
+tables-hold : (rowsHold table ≡ true) × (rowsHold early ≡ true) × (rowsHold pairs ≡ true)
+unfolding sum count sumOver all any listOf listWhere common firstLinks linked neighbours memberCount heldCount stranded numbersSound listsLong endsSound onceEach holdersLinked holdersWithin onlyPlacedHeld isSound heldBy look visit turn turns walk shift settled placedHolders firstWith holder back onCycle nextOnCycle leadsIn leadsInTrees begins cut leads leaderOf pairLeader partner ruleFive leaderListBy placeOf leaderList withoutHolder chokeWalk seenIn walkSaw inChoke chokeByte upTo written repeatsOrOutside openRefusal linkConditions orderConditions placeConditions readConditions limitOf soundState opened openCall conditions callRefusal changed call readLeaders readChoke run linkCalls placeCalls after leadersOf chokeOf withoutLink limitsOf aloneOf sameList rowHolds empty one two path star starBack star4 listed ring twoLinked twoLinkedBack ringBack table early pairs rowsHold
+tables-hold = (refl, refl, refl)
 
 pub table-holds : rowsHold table ≡ true
 table-holds = tables-hold .0
 
 pub early-holds : rowsHold early ≡ true
 early-holds = tables-hold .1
+
+pub pairs-hold : rowsHold pairs ≡ true
+pairs-hold = tables-hold .2
 
 same-list : (l r : List ℕ) → sameList l r ≡ true → l ≡ r
 unfolding sameList
@@ -66,9 +69,12 @@ rows-mean [] e i l d = absurd (not-suc-le-zero l)
 rows-mean (r ∷ rows) e zero l d = row-means r (and-l (rowHolds r) (rowsHold rows) e)
 rows-mean (r ∷ rows) e (suc i) l d = rows-mean rows (and-r (rowHolds r) (rowsHold rows) e) i (le-of-suc-le-suc l) d
 
--- each row of both means what it says
+-- each row means what it says
 pub case : (i : ℕ) → i < length table → (d : Row) → Means (getD table i d)
 case = rows-mean table table-holds
 
 pub early-case : (i : ℕ) → i < length early → (d : Row) → Means (getD early i d)
 early-case = rows-mean early early-holds
+
+pub pairs-case : (i : ℕ) → i < length pairs → (d : Row) → Means (getD pairs i d)
+pairs-case = rows-mean pairs pairs-hold

@@ -81,10 +81,10 @@ changed s (read leaders choke) = s
 unfoldable pub call : State → Call → Outcome
 call s c = outcome (callRefusal s c) (changed s c) s
 
--- Read: "leaders and choke set", in the lists lent for them, at any k: "It gives groups for the holders so far" (02, change 1)
+-- Read: "leaders and choke set", in the lists lent for them, at any k: "It gives groups for the holders so far" (02, change 1). The order decides who leads a pair (02, change 2), and nothing else here.
 unfoldable pub readLeaders : State → List ℕ → List ℕ → List ℕ
 readLeaders s leaders choke =
-    byNumber (callRefusal s (read leaders choke)) (written (s .small .n) (listOf (s .small .n) (leaderList (s .small .n) (s .holders))) leaders) leaders
+    byNumber (callRefusal s (read leaders choke)) (written (s .small .n) (listOf (s .small .n) (leaderList (s .small .n) (s .order) (s .holders))) leaders) leaders
 
 unfoldable pub readChoke : State → List ℕ → List ℕ → List ℕ
 readChoke s leaders choke =

@@ -1,5 +1,5 @@
--- 01, "At the edges": the cases marked P, in one table over the definitions; and one of reads before the last placing (02, change 1).
--- proofs/Table.antt has the checker compute both, and says what each row means.
+-- 01, "At the edges": the cases marked P, in one table over the definitions; one of reads before the last placing (02, change 1); and one of pairs by the order (02, change 2).
+-- proofs/Table.antt has the checker compute them, and says what each row means.
 use Prim.Native.Nat.{ℕ}
 use mathlib.Core.Path.{_≡_}
 use mathlib.Core.Bool.{Bool, true, false, _&&_}
@@ -92,6 +92,15 @@ listed = record { n = 5; t = 2; links = 0 ∷ 2 ∷ 0 ∷ 3 ∷ 0 ∷ 4 ∷ 1 �
 unfoldable pub ring : Plant
 ring = record { n = 5; t = 2; links = 0 ∷ 1 ∷ 1 ∷ 2 ∷ 2 ∷ 3 ∷ 3 ∷ 4 ∷ 4 ∷ 0 ∷ []; ordering = [] }
 
+unfoldable pub twoLinked : Plant
+twoLinked = record { n = 2; t = 2; links = 0 ∷ 1 ∷ []; ordering = [] }
+
+unfoldable pub twoLinkedBack : Plant
+twoLinkedBack = record { n = 2; t = 2; links = 0 ∷ 1 ∷ []; ordering = order (1 ∷ 0 ∷ []) ∷ [] }
+
+unfoldable pub ringBack : Plant
+ringBack = record { n = 5; t = 2; links = 0 ∷ 1 ∷ 1 ∷ 2 ∷ 2 ∷ 3 ∷ 3 ∷ 4 ∷ 4 ∷ 0 ∷ []; ordering = order (4 ∷ 3 ∷ 2 ∷ 1 ∷ 0 ∷ []) ∷ [] }
+
 -- rows about the fully placed plant
 abbrev pub reads : Plant → List ℕ → List ℕ → Row
 reads p leaders choke = readsAfter p (p .n) leaders choke
@@ -111,7 +120,7 @@ table =
     ∷ stands star (0 ∷ 1 ∷ 2 ∷ 3 ∷ 4 ∷ []) ∷ reads star (0 ∷ 0 ∷ 0 ∷ 0 ∷ NONE ∷ []) (1 ∷ 0 ∷ 0 ∷ 0 ∷ 0 ∷ []) ∷ differs star 4 3 1
     ∷ stands starBack (4 ∷ 3 ∷ 2 ∷ 1 ∷ 0 ∷ []) ∷ reads starBack (0 ∷ NONE ∷ 0 ∷ 0 ∷ 0 ∷ []) (1 ∷ 0 ∷ 0 ∷ 0 ∷ 0 ∷ [])
     ∷ reads star4 (0 ∷ 0 ∷ 0 ∷ 0 ∷ 0 ∷ []) (0 ∷ 0 ∷ 0 ∷ 0 ∷ 0 ∷ [])
-    ∷ holds listed 2 (NONE ∷ NONE ∷ 0 ∷ 0 ∷ NONE ∷ []) ∷ holds listed 3 (NONE ∷ NONE ∷ 1 ∷ 0 ∷ 0 ∷ []) ∷ reads listed (0 ∷ 1 ∷ 1 ∷ 0 ∷ 0 ∷ []) (0 ∷ 0 ∷ 0 ∷ 0 ∷ 0 ∷ [])
+    ∷ holds listed 2 (NONE ∷ NONE ∷ 0 ∷ 0 ∷ NONE ∷ []) ∷ holds listed 3 (NONE ∷ NONE ∷ 1 ∷ 0 ∷ 0 ∷ []) ∷ reads listed (0 ∷ 2 ∷ 2 ∷ 0 ∷ 0 ∷ []) (0 ∷ 0 ∷ 0 ∷ 0 ∷ 0 ∷ [])
     ∷ stands ring (0 ∷ 1 ∷ 2 ∷ 3 ∷ 4 ∷ []) ∷ reads ring (1 ∷ 1 ∷ 1 ∷ 3 ∷ 3 ∷ []) (0 ∷ 0 ∷ 0 ∷ 0 ∷ 0 ∷ [])
     ∷ []
 
@@ -121,9 +130,16 @@ unfoldable pub early : List Row
 early =
     gives one 0 (read (0 ∷ []) (0 ∷ [])) 0 ∷ readsAfter one 0 (NONE ∷ []) (0 ∷ []) ∷ gives path 2 (read (0 ∷ 0 ∷ 0 ∷ []) (0 ∷ 0 ∷ [])) 10
     ∷ readsAfter star 1 (0 ∷ 0 ∷ NONE ∷ NONE ∷ NONE ∷ []) (1 ∷ 0 ∷ 0 ∷ 0 ∷ 0 ∷ []) ∷ differsAfter star 1 4 3 3
-    ∷ readsAfter listed 0 (NONE ∷ NONE ∷ NONE ∷ NONE ∷ NONE ∷ []) (1 ∷ 1 ∷ 1 ∷ 1 ∷ 1 ∷ []) ∷ readsAfter listed 1 (0 ∷ NONE ∷ 0 ∷ NONE ∷ NONE ∷ []) (1 ∷ 1 ∷ 1 ∷ 1 ∷ 1 ∷ [])
-    ∷ readsAfter listed 2 (0 ∷ NONE ∷ 0 ∷ 0 ∷ NONE ∷ []) (1 ∷ 1 ∷ 1 ∷ 1 ∷ 1 ∷ []) ∷ readsAfter listed 3 (0 ∷ 1 ∷ 1 ∷ 0 ∷ 0 ∷ []) (0 ∷ 0 ∷ 1 ∷ 1 ∷ 1 ∷ [])
-    ∷ readsAfter listed 4 (0 ∷ 1 ∷ 1 ∷ 0 ∷ 0 ∷ []) (0 ∷ 0 ∷ 1 ∷ 1 ∷ 1 ∷ []) ∷ readsAfter starBack 4 (0 ∷ NONE ∷ 0 ∷ 0 ∷ 0 ∷ []) (1 ∷ 1 ∷ 1 ∷ 1 ∷ 1 ∷ [])
+    ∷ readsAfter listed 0 (NONE ∷ NONE ∷ NONE ∷ NONE ∷ NONE ∷ []) (1 ∷ 1 ∷ 1 ∷ 1 ∷ 1 ∷ []) ∷ readsAfter listed 1 (2 ∷ NONE ∷ 2 ∷ NONE ∷ NONE ∷ []) (1 ∷ 1 ∷ 1 ∷ 1 ∷ 1 ∷ [])
+    ∷ readsAfter listed 2 (0 ∷ NONE ∷ 0 ∷ 0 ∷ NONE ∷ []) (1 ∷ 1 ∷ 1 ∷ 1 ∷ 1 ∷ []) ∷ readsAfter listed 3 (0 ∷ 2 ∷ 2 ∷ 0 ∷ 0 ∷ []) (0 ∷ 0 ∷ 1 ∷ 1 ∷ 1 ∷ [])
+    ∷ readsAfter listed 4 (0 ∷ 2 ∷ 2 ∷ 0 ∷ 0 ∷ []) (0 ∷ 0 ∷ 1 ∷ 1 ∷ 1 ∷ []) ∷ readsAfter starBack 4 (0 ∷ NONE ∷ 0 ∷ 0 ∷ 0 ∷ []) (1 ∷ 1 ∷ 1 ∷ 1 ∷ 1 ∷ [])
+    ∷ []
+
+-- 02, change 2: "In a group of two the one earlier in the order now leads." Two gateways that are linked, in both orders, and the ring with its order turned round: 4 leads 3, where in the order 0, 1, .. 3 leads 4.
+unfoldable pub pairs : List Row
+pairs =
+    reads twoLinked (0 ∷ 0 ∷ []) (0 ∷ 0 ∷ []) ∷ reads twoLinkedBack (1 ∷ 1 ∷ []) (0 ∷ 0 ∷ []) ∷ readsAfter twoLinkedBack 1 (1 ∷ 1 ∷ []) (0 ∷ 1 ∷ [])
+    ∷ reads ringBack (1 ∷ 1 ∷ 1 ∷ 4 ∷ 4 ∷ []) (0 ∷ 0 ∷ 0 ∷ 0 ∷ 0 ∷ [])
     ∷ []
 
 -- every row holds

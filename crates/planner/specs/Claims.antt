@@ -9,6 +9,7 @@ use lib.ListN.{length}
 use Rattle.packing.specs.Count.{count}
 use Rattle.packing.specs.Plant.{at, linked}
 use Rattle.packing.specs.Grouping.{Grouping, covered, coveredFirst}
+use Rattle.packing.specs.Pairs.{EarlierLeads}
 use Rattle.packing.specs.Holders.{held, Feasible}
 use Rattle.packing.specs.Choke.{ChokeDifference}
 use Rattle.packing.specs.SoFar.{SoFar}
@@ -90,6 +91,13 @@ SoFarRead n told made leaders choke = SoFar n (told .limit) (linked (told .links
 
 unfoldable pub ReadAnyTime : Type 0
 ReadAnyTime = AnyRead SoFarRead
+
+-- 02, change 2: "In a group of two the one earlier in the order now leads": in every group of two of the list read, at any k, by the order told.
+abbrev pub EarlierLeadsRead : (n : ℕ) (told : Told) (made : State) (leaders choke : List ℕ) → Type 0
+EarlierLeadsRead n told made leaders choke = EarlierLeads n (at (told .order)) (leadersRead made leaders choke)
+
+unfoldable pub EarlierLeadsPairs : Type 0
+EarlierLeadsPairs = AnyRead EarlierLeadsRead
 
 -- Two things that are not claimed of any read, for they would be false: proofs/Early.antt has a plant and a k < n for each.
 -- "gateways not yet placed may be covered too": not only placed ones are.

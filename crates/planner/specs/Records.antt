@@ -1,16 +1,19 @@
 -- What holds of any call, on any record that it may be handed, sound or not, however it was made. proofs/Records.antt proves it.
 use Prim.Native.Nat.{ℕ, _+_, _*_, _<_}
 use mathlib.Core.Path.{_≡_}
-use mathlib.Core.Bool.{true}
+use mathlib.Core.Bool.{Bool, true}
 use mathlib.Core.List.{List}
 use lib.ListN.{drop}
+use Rattle.packing.specs.Lists.{listOf, written}
 use Rattle.packing.specs.Plant.{at, linked}
+use Rattle.packing.specs.Refusals.{byNumber}
 use Rattle.packing.specs.Grouping.{Grouping, covered}
+use Rattle.packing.specs.Pairs.{SameGroups}
 use Rattle.packing.specs.Holders.{held}
-use Rattle.stars.specs.Stars.{leaderList}
+use Rattle.stars.specs.Stars.{leaderListBy, placeOf, notLater, leaderList}
 use Rattle.search.specs.ChokeSet.{chokeByte}
-use Rattle.planner.specs.State.{State, stateOf, linksOf, limitOf}
-use Rattle.planner.specs.Calls.{openCall, Call, link, order, place, read, call, readLeaders, readChoke}
+use Rattle.planner.specs.State.{State, stateOf, withOrder, linksOf, limitOf}
+use Rattle.planner.specs.Calls.{openCall, Call, link, order, place, read, callRefusal, call, readLeaders, readChoke}
 use Rattle.planner.specs.Turns.{SoundFacts}
 
 -- Open (n, T, lists): "order 0, 1, .., no holder, m = 0, k = 0", entry by entry, and nothing past n
@@ -101,13 +104,32 @@ ReadPast =
 unfoldable pub HeldCovered : Type 0
 HeldCovered =
     (s : State) → SoundFacts s
-    → Grouping (s .small .n) (limitOf s) (linked (linksOf s)) (leaderList (s .small .n) (s .holders))
-    × ((v : ℕ) → v < s .small .n → held (s .small .n) (at (s .holders)) v ≡ true → covered (leaderList (s .small .n) (s .holders)) v ≡ true)
+    → Grouping (s .small .n) (limitOf s) (linked (linksOf s)) (leaderList (s .small .n) (s .order) (s .holders))
+    × ((v : ℕ) → v < s .small .n → held (s .small .n) (at (s .holders)) v ≡ true → covered (leaderList (s .small .n) (s .order) (s .holders)) v ≡ true)
 
 -- .. and it is what an accepted read writes, with the choke bytes of the same holders
 unfoldable pub ReadWrites : Type 0
 ReadWrites =
     (s : State) (leaders choke : List ℕ) → call s (read leaders choke) .refusal ≡ 0
     → SoundFacts s
-    × ((v : ℕ) → v < s .small .n → at (readLeaders s leaders choke) v ≡ leaderList (s .small .n) (s .holders) v)
+    × ((v : ℕ) → v < s .small .n → at (readLeaders s leaders choke) v ≡ leaderList (s .small .n) (s .order) (s .holders) v)
     × ((v : ℕ) → v < s .small .n → at (readChoke s leaders choke) v ≡ chokeByte (s .small .n) (linksOf s) (s .holders) v)
+
+-- 02, change 2: "covered sets and choke sets are the same as before". What read writes with any way to decide who leads a pair; with `ltb`, the lower number, it is what read wrote before that change.
+unfoldable pub readLeadersBy : (ℕ → ℕ → Bool) → State → List ℕ → List ℕ → List ℕ
+readLeadersBy leadsPair s leaders choke =
+    byNumber (callRefusal s (read leaders choke)) (written (s .small .n) (listOf (s .small .n) (leaderListBy leadsPair (s .small .n) (s .holders))) leaders) leaders
+
+-- Of any record, sound or not, and any lists lent: the groups do not depend on it. The choke bytes do not either: `readChoke` is not told who leads.
+unfoldable pub ReadWhoeverLeads : Type 0
+ReadWhoeverLeads =
+    (s : State) (leaders choke : List ℕ)
+    → (readLeaders s leaders choke ≡ readLeadersBy (notLater (placeOf (s .small .n) (at (s .order)))) s leaders choke)
+    × ((leadsPair other : ℕ → ℕ → Bool) → SameGroups (s .small .n) (at (readLeadersBy leadsPair s leaders choke)) (at (readLeadersBy other s leaders choke)))
+
+-- So the order of a record decides nothing of what an accepted read writes but who leads a pair.
+unfoldable pub ReadAnyOrder : Type 0
+ReadAnyOrder =
+    (s : State) (os leaders choke : List ℕ) → call s (read leaders choke) .refusal ≡ 0 → call (withOrder os s) (read leaders choke) .refusal ≡ 0
+    → SameGroups (s .small .n) (at (readLeaders s leaders choke)) (at (readLeaders (withOrder os s) leaders choke))
+    × (readChoke s leaders choke ≡ readChoke (withOrder os s) leaders choke)

@@ -7,9 +7,13 @@ use lib.Dec.{leb}
 use lib.ListN.{length}
 use borrow.Author.Tests.{leb-true, le-leb, lt-leb, not-true, not-false}
 use Rattle.packing.specs.Lists.{listOf, written, fits, Lent}
-use Rattle.packing.proofs.Tests.{and-l, and-r}
-use Rattle.packing.proofs.Fitted.{fits-means, fits-holds}
+use Rattle.packing.specs.Plant.{GATEWAYS}
+use Rattle.packing.proofs.Tests.{tests, and-r}
 use Rattle.stars.specs.Stars.{leaderList, leadersFit, leadersWritten}
+
+fits-means : (n : ℕ) (hs out : List ℕ) → fits n (length hs) (length out) ≡ true → Lent n hs out
+unfolding fits
+fits-means n hs out e = record { few = search (tests, leb-true); entries = search (tests, leb-true); places = search (tests, leb-true) }
 
 -- the test, by the order's length and then the others
 pub short-order : (n order holders out : ℕ) → order < n → false ≡ leadersFit n order holders out
@@ -27,8 +31,8 @@ lent n order hs out {b} e t = fits-means n hs out (and-r (leb n order) _ (sym e 
 
 -- where all fit, the list is written
 pub leaders-written : (n : ℕ) (os hs out : List ℕ) → n ≤ length os → Lent n hs out → leadersWritten n os hs out ≡ written n (listOf n (leaderList n os hs)) out
-unfolding leadersWritten leadersFit
-leaders-written n os hs out l lent = rw (le-leb n (length os) l, fits-holds lent)
+unfolding leadersWritten leadersFit fits
+leaders-written n os hs out l lent = rw (le-leb n (length os) l, le-leb n GATEWAYS (lent .few), le-leb n (length hs) (lent .entries), le-leb n (length out) (lent .places))
 
 module _ (n : ℕ) (os hs out : List ℕ) {b : Bool} (e : b ≡ leadersFit n (length os) (length hs) (length out)) where
   pub lent-refuses : not b ≡ true → (false ≡ leadersFit n (length os) (length hs) (length out)) × (out ≡ leadersWritten n os hs out)

@@ -9,27 +9,24 @@ use Rattle.packing.specs.Plant.{NONE, at}
 use Rattle.packing.specs.Grouping.{memberCount}
 use Rattle.packing.specs.Pairs.{Two}
 use Rattle.packing.proofs.Tests.{by-bool}
+use Rattle.packing.proofs.Below.{members-below, two-below}
 use Rattle.stars.specs.Stars.{leaderOf, partner, leaderList}
 use Rattle.stars.specs.Rules.{Pair, RuleFive, ByRules, RulesFix}
 use Rattle.stars.proofs.OrderPlaces.{who-cases}
-use Rattle.stars.proofs.RuleFive.{partner-found, partner-only, two-cases, members-ext}
+use Rattle.stars.proofs.RuleFive.{partner-found, partner-only, two-cases}
 use Rattle.stars.proofs.Groups.{leaderOf-own}
 use Rattle.stars.proofs.Rules.{list-holds, rules-hold}
 use Rattle.stars.proofs.NamedEntries.{entry-only}
 
 -- Rule 5 goes by the entries below n, and changes them in one way where each leader leads itself.
 module _ (n : ℕ) (order g g' : ℕ → ℕ) (same : (w : ℕ) → w < n → g w ≡ g' w) where
-  two-agrees : (u w : ℕ) → Two n g' u w → Two n g u w
-  two-agrees u w t =
-      record { leader = t .leader; member = t .member; own = same u (t .leader) ∙ t .own; led = same w (t .member) ∙ t .led; apart = t .apart; only = members-ext n g g' same u ∙ t .only }
-
   five-agrees : {list : ℕ → ℕ} → RuleFive n order g list → RuleFive n order g' list
   five-agrees r =
       record {
-        leader = λ u w t. r .leader u w (two-agrees u w t);
-        member = λ u w t. r .member u w (two-agrees u w t);
-        neither = λ u w t. r .neither u w (two-agrees u w t);
-        keeps = λ v l h. r .keeps v l (λ k one. h (rw (same v l) at k) (rw (same v l) at (sym (members-ext n g g' same (g v)) ∙ one))) ∙ same v l;
+        leader = λ u w t. r .leader u w (two-below n g g' same t);
+        member = λ u w t. r .member u w (two-below n g g' same t);
+        neither = λ u w t. r .neither u w (two-below n g g' same t);
+        keeps = λ v l h. r .keeps v l (λ k one. h (rw (same v l) at k) (rw (same v l) at (sym (members-below n g g' same (g v)) ∙ one))) ∙ same v l;
       }
 
 module _ (n : ℕ) (order g : ℕ → ℕ) {list list' : ℕ → ℕ} (r : RuleFive n order g list) (r' : RuleFive n order g list') where

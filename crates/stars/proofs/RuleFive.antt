@@ -11,6 +11,7 @@ use Rattle.packing.specs.Plant.{NONE}
 use Rattle.packing.specs.Grouping.{Grouping, follows, memberCount, isAlone, isLeader, isMember, covered}
 use Rattle.packing.proofs.Tests.{by-bool, clash, and-l, and-r, and-i, or-l, or-r, not-test, iff-test, any-intro, first-found}
 use Rattle.packing.proofs.Sums.{count-ext, count-split, count-some, count-find, count-unique, count-one}
+use Rattle.packing.proofs.Below.{members-below}
 use Rattle.packing.proofs.Groupings.{Sym, Loopless, follows-is, follows-means, entry-cases, leader-within}
 use Rattle.stars.specs.Stars.{pairLeader, partner, ruleFive}
 use Rattle.stars.proofs.Loops.{first-ext}
@@ -111,18 +112,14 @@ module _ (leadsPair : ℕ → ℕ → Bool) (n : ℕ) (g : ℕ → ℕ) (v : ℕ
   pub five-two : {k w r : ℕ} → u < n → k ≡ memberCount n g u → k ≡ 1 → w ≡ partner n g u → r ≡ pairLeader leadsPair u w → r ≡ ruleFive leadsPair n g v
   five-two h e f q s = s ∙ ap (pairLeader leadsPair u) q ∙ sym (five-pair leadsPair n g v u (sym here) h (sym e ∙ f))
 
--- The members and the entries by rule 5 go by the entries below n.
+-- The entries by rule 5 go by the entries below n.
 module _ (n : ℕ) (g g' : ℕ → ℕ) (same : (w : ℕ) → w < n → g w ≡ g' w) where
   follows-ext : (u w : ℕ) → w < n → follows g u w ≡ follows g' u w
   follows-ext u w l = ap (λ (x : ℕ). eqb x u && not (eqb w u)) (same w l)
 
-  pub members-ext : (u : ℕ) → memberCount n g u ≡ memberCount n g' u
-  unfolding memberCount
-  members-ext u = count-ext n (follows g u) (follows g' u) (follows-ext u)
-
   pub five-ext : (leadsPair : ℕ → ℕ → Bool) (v : ℕ) → v < n → ruleFive leadsPair n g v ≡ ruleFive leadsPair n g' v
   unfolding ruleFive partner
-  five-ext leadsPair v l = rw (same v l, members-ext (g' v), first-ext n (follows g (g' v)) (follows g' (g' v)) (follows-ext (g' v)))
+  five-ext leadsPair v l = rw (same v l, members-below n g g' same (g' v), first-ext n (follows g (g' v)) (follows g' (g' v)) (follows-ext (g' v)))
 
 -- Who leads a pair is asked of gateways only.
 pub five-ways : (n : ℕ) (g : ℕ → ℕ) (leadsPair other : ℕ → ℕ → Bool) → ((a b : ℕ) → a < n → b < n → leadsPair a b ≡ other a b) → (v : ℕ) → ruleFive leadsPair n g v ≡ ruleFive other n g v
