@@ -9,19 +9,21 @@ use lib.ListN.{length, drop, length-append, List·getD-append}
 use lib.Seq.{getD-append-add}
 use Rattle.packing.specs.Lists.{written}
 use Rattle.packing.specs.Plant.{at}
+use Rattle.packing.specs.Pairs.{EarlierLeads}
+use Rattle.packing.proofs.Below.{leads-below}
 use Rattle.packing.proofs.Lists.{written-past}
 use Rattle.packing.proofs.Refusals.{refused}
 use Rattle.packing.proofs.SoFar.{placed-same}
-use Rattle.plant_file.specs.PlantFile.{number, fileN, fileRefusal}
+use Rattle.plant_file.specs.PlantFile.{number, fileN, fileOrder, fileRefusal}
 use Rattle.plant_file.specs.Encode.{lowFirst}
 use Rattle.plant_file.proofs.Encode.{low-long, number-low}
 use Rattle.plan.specs.Plan.{fileLeaders, fileChoke}
 use Rattle.plan.specs.After.{fileLeadersAfter, fileChokeAfter}
 use Rattle.plan.proofs.Refusing.{after-none}
-use Rattle.plan.proofs.After.{leaders-long, choke-long, choke-at, choke-bit, plan-so-far-below, lists-so-far}
+use Rattle.plan.proofs.After.{leaders-long, choke-long, choke-at, choke-bit, plan-so-far-below, lists-so-far, lists-pairs}
 use Rattle.plan.proofs.FilePlan.{leaders-all, choke-all, plan-below, lists-plan}
 use Rattle.daemon.specs.Groups.{planBytes, groupsRefusal, groupsOut, bytesAfter, groupsAfterRefusal, groupsAfterOut}
-use Rattle.daemon.specs.Claim.{leaderAt, chokeAt, BytesPlan, BytesRefused, BytesSoFar, BytesStay, BytesAfterRefused, BytesAfterAll}
+use Rattle.daemon.specs.Claim.{leaderAt, chokeAt, BytesPlan, BytesRefused, BytesSoFar, BytesPairs, BytesStay, BytesAfterRefused, BytesAfterAll}
 use Rattle.daemon.proofs.Groups.{bytes-after-all}
 
 -- the bytes of n leaders and n choke bytes, and what stands behind them
@@ -124,6 +126,15 @@ bytes-plan file out z = (
   choke-one file out z,
   rw (all-out file out z) at (past-after file (fileN file) out (all-fine file out z)),
 )
+
+pub bytes-pairs : BytesPairs
+unfolding BytesPairs
+bytes-pairs = (pairs, λ file out z. rw (all-out file out z) at (pairs file (fileN file) out (all-fine file out z)))
+  where
+    pairs : (file : List ℕ) (k : ℕ) (out : List ℕ) → groupsAfterRefusal file k (length out) ≡ 0 → EarlierLeads (fileN file) (at (fileOrder file)) (leaderAt (groupsAfterOut file k out))
+    pairs file k out z =
+        let (fine, within, long) = after-fine file k out z in
+        leads-below (fileN file) (at (fileOrder file)) (at (fileOrder file)) (at (fileLeadersAfter file k)) (leaderAt (groupsAfterOut file k out)) (λ i l. refl) (leader-after file k out z) (lists-pairs file k fine within)
 
 pub bytes-refused : BytesRefused
 unfolding BytesRefused groupsOut

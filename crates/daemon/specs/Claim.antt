@@ -1,4 +1,4 @@
--- 00, demands 2 and 3, and 02, change 1, of the bytes that the calls from C write. proofs/Claim.antt proves it.
+-- 00, demands 2 and 3, and 02, changes 1 and 2, of the bytes that the calls from C write. proofs/Claim.antt proves it.
 use Prim.Native.Nat.{ℕ, _+_, _*_, _<_, _≤_}
 use mathlib.Core.Path.{_≡_}
 use mathlib.Core.List.{List}
@@ -6,6 +6,7 @@ use lib.Dec.{eqb}
 use lib.ListN.{length, drop}
 use Rattle.packing.specs.Plant.{at}
 use Rattle.packing.specs.Grouping.{covered}
+use Rattle.packing.specs.Pairs.{EarlierLeads}
 use Rattle.search.specs.ChokeSet.{chokeByte}
 use Rattle.plant_file.specs.PlantFile.{fileN, fileLinks, fileOrder}
 use Rattle.plan.specs.Plan.{stateAfter}
@@ -42,6 +43,12 @@ BytesSoFar =
 
 unfoldable pub BytesAfterRefused : Type 0
 BytesAfterRefused = (file : List ℕ) (k : ℕ) (out : List ℕ) → (groupsAfterRefusal file k (length out) ≡ 0 → ⊥) → groupsAfterOut file k out ≡ out
+
+-- 02, change 2: in each group of two that the bytes say the one earlier in the file's order leads, after k placings and after all.
+unfoldable pub BytesPairs : Type 0
+BytesPairs =
+    ((file : List ℕ) (k : ℕ) (out : List ℕ) → groupsAfterRefusal file k (length out) ≡ 0 → EarlierLeads (fileN file) (at (fileOrder file)) (leaderAt (groupsAfterOut file k out)))
+    × ((file out : List ℕ) → groupsRefusal file (length out) ≡ 0 → EarlierLeads (fileN file) (at (fileOrder file)) (leaderAt (groupsOut file out)))
 
 -- What is settled stays so: the answers for two numbers of placings cover the same of the gateways that are placed in both.
 unfoldable pub BytesStay : Type 0

@@ -7,6 +7,7 @@ use native.Mathlib.Omega.{arith}
 use lib.ListN.{length, take, replicate, length-replicate, drop-of-length-le}
 use Rattle.packing.specs.Lists.{listOf, written}
 use Rattle.packing.specs.Plant.{GATEWAYS, ENDS, at}
+use Rattle.packing.specs.Pairs.{EarlierLeads}
 use Rattle.packing.proofs.Counting.{pick-few}
 use Rattle.packing.proofs.Lists.{listOf-length, listOf-at, written-room, written-front, listed-at}
 use Rattle.packing.proofs.SoFar.{so-far-below}
@@ -15,15 +16,15 @@ use Rattle.search.specs.ChokeSet.{inChoke, chokeByte}
 use Rattle.planner.specs.Refusals.{openRefusal}
 use Rattle.planner.specs.Calls.{read, callRefusal, call, readLeaders, readChoke}
 use Rattle.planner.specs.Told.{beginning, refuses, tell}
-use Rattle.planner.specs.Claims.{toldBy, ReadAnyTime}
+use Rattle.planner.specs.Claims.{toldBy, ReadAnyTime, EarlierLeadsPairs}
 use Rattle.planner.proofs.Agree.{Agrees, same-number, run-agrees, open-agrees}
-use Rattle.planner.proofs.Demands.{read-any-time}
-use Rattle.plant_file.specs.PlantFile.{fileN, fileT, fileLinks, fileRefusal}
+use Rattle.planner.proofs.Demands.{read-any-time, earlier-leads-pairs}
+use Rattle.plant_file.specs.PlantFile.{fileN, fileT, fileLinks, fileOrder, fileRefusal}
 use Rattle.plant_file.proofs.Accepted.{file-allowed}
 use Rattle.plant_file.proofs.Refusing.{then-alone}
 use Rattle.plan.specs.Plan.{callsAfter, stateAfter}
 use Rattle.plan.specs.After.{afterRefusal, planAfterRefusal, planLeadersAfter, planChokeAfter, fileLeadersAfter, fileChokeAfter}
-use Rattle.plan.specs.Claim.{PlanSoFar, FileSoFar}
+use Rattle.plan.specs.Claim.{PlanSoFar, FileSoFar, FilePairs}
 use Rattle.plan.proofs.Refusing.{after-file, after-within, plan-alone, plan-places}
 use Rattle.plan.proofs.ToldByFile.{placedTold, open-accepted, read-accepted, file-tells}
 
@@ -73,7 +74,7 @@ module _ (file : List ℕ) (z : fileRefusal file ≡ 0) where
       after-passes = plan-alone file k (length leaders) (length choke) room room₂ ∙ after-within file k false within ∙ then-alone file ∙ z
 
       -- what is written: the leaders of the record made, and its choke bytes
-      leaders-written : planLeadersAfter file k leaders choke ≡ written (fileN file) (listOf (fileN file) (leaderList (fileN file) (stateAfter file k .holders))) leaders
+      leaders-written : planLeadersAfter file k leaders choke ≡ written (fileN file) (listOf (fileN file) (leaderList (fileN file) (stateAfter file k .order) (stateAfter file k .holders))) leaders
       unfolding planLeadersAfter readLeaders
       leaders-written = rw (after-passes, reads, file-agrees .small)
 
@@ -82,9 +83,9 @@ module _ (file : List ℕ) (z : fileRefusal file ≡ 0) where
       choke-written = rw (after-passes, reads, file-agrees .small, file-agrees .links)
 
     -- into lists of n entries
-    leaders-whole : fileLeadersAfter file k ≡ listOf (fileN file) (leaderList (fileN file) (stateAfter file k .holders))
+    leaders-whole : fileLeadersAfter file k ≡ listOf (fileN file) (leaderList (fileN file) (stateAfter file k .order) (stateAfter file k .holders))
     unfolding fileLeadersAfter
-    leaders-whole = leaders-written (replicate (fileN file) 0) (replicate (fileN file) 0) zeros zeros ∙ whole (leaderList (fileN file) (stateAfter file k .holders))
+    leaders-whole = leaders-written (replicate (fileN file) 0) (replicate (fileN file) 0) zeros zeros ∙ whole (leaderList (fileN file) (stateAfter file k .order) (stateAfter file k .holders))
 
     choke-whole : fileChokeAfter file k ≡ listOf (fileN file) (chokeByte (fileN file) (fileLinks file) (stateAfter file k .holders))
     unfolding fileChokeAfter
@@ -131,14 +132,29 @@ module _ (file : List ℕ) (z : fileRefusal file ≡ 0) (k : ℕ) (within : k �
   pub choke-front : {l : List ℕ} → l ≡ planChokeAfter file k a b → Front n (fileChokeAfter file k) l
   choke-front e = rw (is, e, choke-written file z k within a b (own-room file z ea) (own-room file z eb), choke-whole file z k within) (written-has (fileN file) _ b (listOf-length (fileN file) _))
 
+-- an accepted read of the record made, as what was told has it
+module _ (file : List ℕ) (k : ℕ) (leaders choke : List ℕ) (passes : planAfterRefusal file k (length leaders) (length choke) ≡ 0) where
+  pub passed : (fileRefusal file ≡ 0) × (k ≤ fileN file) × (fileN file ≤ length leaders) × (fileN file ≤ length choke)
+  passed = plan-places file k (length leaders) (length choke) refl passes
+
+  told : toldBy (fileN file) (fileT file) ownLinks (callsAfter file k) ≡ placedTold file (length ownLinks) k
+  told = file-told file (passed .0) k (passed .1)
+
+  reads-told : refuses (toldBy (fileN file) (fileT file) ownLinks (callsAfter file k)) (read leaders choke) ≡ 0
+  reads-told = rw told (file-read file (passed .0) k (passed .1) leaders choke (passed .2) (passed .3))
+
 pub file-so-far : FileSoFar
 unfolding FileSoFar ReadAnyTime stateAfter planLeadersAfter
 file-so-far file k leaders choke passes =
-    let (fine, within, room, room₂) = plan-places file k (length leaders) (length choke) refl passes in
-    let told = file-told file fine k within in
-    let reads : refuses (toldBy (fileN file) (fileT file) ownLinks (callsAfter file k)) (read leaders choke) ≡ 0 = rw told (file-read file fine k within leaders choke room room₂) in
-    let so-far = read-any-time (fileN file) (fileT file) ownLinks own own (file-open file fine) (callsAfter file k) leaders choke reads in
-    (rw passes (rw told at so-far), λ v l. ap (λ (c : List ℕ). at c v) (choke-written file fine k within leaders choke room room₂) ∙ listed-at (fileN file) _ choke v l)
+    let (fine, within, room, room₂) = passed file k leaders choke passes in
+    let so-far = read-any-time (fileN file) (fileT file) ownLinks own own (file-open file fine) (callsAfter file k) leaders choke (reads-told file k leaders choke passes) in
+    (rw passes (rw (told file k leaders choke passes) at so-far), λ v l. ap (λ (c : List ℕ). at c v) (choke-written file fine k within leaders choke room room₂) ∙ listed-at (fileN file) _ choke v l)
+
+pub file-pairs : FilePairs
+unfolding FilePairs EarlierLeadsPairs stateAfter planLeadersAfter
+file-pairs file k leaders choke passes =
+    let pairs = earlier-leads-pairs (fileN file) (fileT file) ownLinks own own (file-open file (passed file k leaders choke passes .0)) (callsAfter file k) leaders choke (reads-told file k leaders choke passes) in
+    rw passes (rw (told file k leaders choke passes) at pairs)
 
 -- The claim goes by the entries below n, ..
 pub plan-so-far-below : (file : List ℕ) (k : ℕ) → fileRefusal file ≡ 0 → k ≤ fileN file → (g h : ℕ → ℕ) → ((v : ℕ) → v < fileN file → g v ≡ h v) → PlanSoFar file k g → PlanSoFar file k h
@@ -149,3 +165,8 @@ pub lists-so-far : (file : List ℕ) (k : ℕ) → fileRefusal file ≡ 0 → k 
 unfolding FileSoFar fileLeadersAfter
 lists-so-far file k z within =
     file-so-far file k (replicate (fileN file) 0) (replicate (fileN file) 0) (after-passes file z k within (replicate (fileN file) 0) (replicate (fileN file) 0) (zeros file z) (zeros file z)) .0
+
+pub lists-pairs : (file : List ℕ) (k : ℕ) → fileRefusal file ≡ 0 → k ≤ fileN file → EarlierLeads (fileN file) (at (fileOrder file)) (at (fileLeadersAfter file k))
+unfolding FilePairs fileLeadersAfter
+lists-pairs file k z within =
+    file-pairs file k (replicate (fileN file) 0) (replicate (fileN file) 0) (after-passes file z k within (replicate (fileN file) 0) (replicate (fileN file) 0) (zeros file z) (zeros file z))

@@ -1,4 +1,4 @@
--- 00, demands 2 and 3, and 02, change 1, for a plan made from a file.
+-- 00, demands 2 and 3, and 02, changes 1 and 2, for a plan made from a file.
 use Prim.Native.Nat.{ℕ, _<_, _≤_}
 use mathlib.Core.Path.{_≡_}
 use mathlib.Core.Bool.{Bool, not}
@@ -8,6 +8,7 @@ use lib.ListN.{length}
 use Rattle.packing.specs.Count.{count}
 use Rattle.packing.specs.Plant.{at, common, linked}
 use Rattle.packing.specs.Grouping.{Grouping, covered, coveredFirst}
+use Rattle.packing.specs.Pairs.{EarlierLeads}
 use Rattle.packing.specs.Choke.{ChokeDifference}
 use Rattle.packing.specs.SoFar.{SoFar}
 use Rattle.search.specs.ChokeSet.{chokeByte}
@@ -44,6 +45,12 @@ FileSoFar =
     (file : List ℕ) (k : ℕ) (leaders choke : List ℕ) → planAfterRefusal file k (length leaders) (length choke) ≡ 0
     → PlanSoFar file k (at (planLeadersAfter file k leaders choke))
     × ((v : ℕ) → v < fileN file → at (planChokeAfter file k leaders choke) v ≡ chokeByte (fileN file) (fileLinks file) (stateAfter file k .holders) v)
+
+-- 02, change 2: "In a group of two the one earlier in the order now leads": of what is written for every accepted file and number of placings, by the file's order.
+unfoldable pub FilePairs : Type 0
+FilePairs =
+    (file : List ℕ) (k : ℕ) (leaders choke : List ℕ) → planAfterRefusal file k (length leaders) (length choke) ≡ 0
+    → EarlierLeads (fileN file) (at (fileOrder file)) (at (planLeadersAfter file k leaders choke))
 
 -- With n placings it is the plan, whatever is handed in.
 unfoldable pub AfterAll : Type 0
