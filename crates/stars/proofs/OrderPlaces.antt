@@ -8,14 +8,28 @@ use native.Mathlib.Omega.{arith}
 use lib.Dec.{eqb, ltb}
 use lib.ListN.{length, set, replicate, length-set, length-replicate, getD-replicate}
 use lib.Seq.{getD-set-same, getD-set-other}
-use borrow.Author.Tests.{eqb-true, eqb-false, eq-eqb, ne-eqb, ltb-true, ltb-false}
+use borrow.Author.Tests.{eqb-true, eqb-false, eq-eqb, ne-eqb, ltb-true, ltb-false, leb-true, leb-false, le-leb, lt-leb}
 use Rattle.packing.specs.Count.{any, firstWith}
 use Rattle.packing.specs.Plant.{GATEWAYS, at}
 use Rattle.packing.specs.Pairs.{Earlier}
 use Rattle.packing.proofs.Tests.{by-bool, any-intro, any-fails, first-found}
-use Rattle.stars.specs.Stars.{placeOf}
+use Rattle.stars.specs.Stars.{placeOf, notLater}
 use Rattle.stars.specs.Pre.{Table}
 use Rattle.stars.proofs.Loops.{first-least, first-none}
+
+-- By a place for each, the one with the lower place leads a pair, and of two with one place the first named.
+module _ (place : ℕ → ℕ) (a b : ℕ) where
+  pub not-later : place a ≤ place b → notLater place a b ≡ true
+  not-later = le-leb (place a) (place b)
+
+  pub later : place b < place a → notLater place a b ≡ false
+  later = lt-leb (place a) (place b)
+
+  pub not-later-means : notLater place a b ≡ true → place a ≤ place b
+  not-later-means = leb-true (place a) (place b)
+
+  pub later-means : notLater place a b ≡ false → place b < place a
+  later-means = leb-false (place a) (place b)
 
 module _ (n : ℕ) (order : ℕ → ℕ) where
   -- v stands at its place, if it stands anywhere, and not before it

@@ -5,8 +5,8 @@ use mathlib.Core.Logic.{_⊎_, inl, inr, ⊎-elim, _↔_}
 use mathlib.Core.Bool.{Bool, true, false, not}
 use mathlib.Core.List.{List}
 use native.Mathlib.Omega.{arith}
-use lib.Dec.{eqb, ltb, leb}
-use borrow.Author.Tests.{eqb-true, eqb-false, ltb-true, ltb-false, leb-true, leb-false}
+use lib.Dec.{eqb, ltb}
+use borrow.Author.Tests.{eqb-true, eqb-false, ltb-true, ltb-false}
 use Rattle.packing.specs.Count.{count}
 use Rattle.packing.specs.Plant.{NONE, at}
 use Rattle.packing.specs.Grouping.{memberCount, covered}
@@ -17,7 +17,7 @@ use Rattle.packing.proofs.Sums.{count-ext}
 use Rattle.packing.proofs.Prefixes.{Among}
 use Rattle.stars.specs.Stars.{leaderOf, notLater, pairLeader, partner, placeOf, ruleFive, leaderListBy, leaderList}
 use Rattle.stars.specs.Rules.{WhoeverLeads}
-use Rattle.stars.proofs.OrderPlaces.{place-earlier, place-apart}
+use Rattle.stars.proofs.OrderPlaces.{not-later-means, later-means, place-earlier, place-apart}
 use Rattle.stars.proofs.RuleFive.{partner-only, five-pair, five-keeps, five-past, five-same, ruleFive-covered, five-members, five-together}
 use Rattle.stars.proofs.Groups.{leaderOf-own}
 
@@ -80,7 +80,7 @@ module _ (n : ℕ) (os hs : List ℕ) (few : n ≤ NONE) where
   pub leader-first : (u w : ℕ) → Two n (leaderList n os hs) u w → placeOf n (at os) u ≤ placeOf n (at os) w
   unfolding leaderList leaderListBy
   leader-first u w t =
-      ⊎-elim (λ e. leb-true (placeOf n (at os) u) (placeOf n (at os) w) e) (λ e. omega (arith, leb-false (placeOf n (at os) w) (placeOf n (at os) u) e))
+      ⊎-elim (λ e. not-later-means (placeOf n (at os)) u w e) (λ e. omega (arith, later-means (placeOf n (at os)) w u e))
       (two-decided n (leaderOf n hs) (leaderOf-own n hs few) (notLater (placeOf n (at os))) u w t)
 
   -- where every gateway stands in it, the leader is the earlier one

@@ -2,11 +2,8 @@
 -- n is at most NONE, so that NONE is no gateway.
 use Prim.Native.Nat.{ℕ, _+_, _*_, _-_, _<_, _≤_}
 use mathlib.Core.Path.{_≡_, refl, ap, _∙_}
-use mathlib.Core.Bool.{false}
 use mathlib.Core.List.{List}
 use native.Mathlib.Omega.{arith}
-use lib.Dec.{leb}
-use borrow.Author.Tests.{le-leb, lt-leb}
 use Rattle.packing.specs.Plant.{NONE, at}
 use Rattle.packing.specs.Pairs.{Two}
 use Rattle.stars.specs.Stars.{leadsInTrees, leaderOf, pairLeader, ruleFive, leaderListBy, placeOf, notLater, leaderList}
@@ -15,7 +12,7 @@ use Rattle.stars.proofs.Cycles.{cycle-held, next-only}
 use Rattle.stars.proofs.Leads.{cut-cycle, trees-child, leads-tree, leads-more}
 use Rattle.stars.proofs.Stretches.{idle, pairs}
 use Rattle.stars.proofs.StretchesOfRules.{leaderless-stretch, run-kept, run-stretch}
-use Rattle.stars.proofs.OrderPlaces.{earlier-place, place-last}
+use Rattle.stars.proofs.OrderPlaces.{not-later, later, earlier-place, place-last}
 use Rattle.stars.proofs.RuleFive.{partner-only, five-pair, five-keeps}
 use Rattle.stars.proofs.Groups.{entry-leads, entry-cut, entry-held, entry-none}
 
@@ -81,10 +78,8 @@ five-holds n order g =
     record {
       leader = λ u w t e. first u w t (omega (arith, earlier-place n order e));
       member = λ u w t e.
-          let other = earlier-place n order e in
-          let (a, b) = both u w t in
-          let later : leb (placeOf n order u) (placeOf n order w) ≡ false = lt-leb (placeOf n order u) (placeOf n order w) other in
-          (rw later at b, rw later at a);
+          let (a, b) = rw (later (placeOf n order) u w (earlier-place n order e)) at (both u w t) in
+          (b, a);
       neither = λ u w t nowhere. first u w t (place-last n order u w (λ i l. nowhere i l .1));
       keeps = λ v l. five-keeps (notLater (placeOf n order)) n g v;
     }
@@ -95,7 +90,7 @@ five-holds n order g =
         (five-pair _ n g u u (t .own) (t .leader) (t .only) ∙ same, five-pair _ n g w u (t .led) (t .leader) (t .only) ∙ same)
 
     first : (u w : ℕ) → Two n g u w → placeOf n order u ≤ placeOf n order w → Pair (ruleFive (notLater (placeOf n order)) n g) u w
-    first u w t l = rw (le-leb (placeOf n order u) (placeOf n order w) l) at (both u w t)
+    first u w t l = rw (not-later (placeOf n order) u w l) at (both u w t)
 
 pub list-holds : (n : ℕ) (os hs : List ℕ) → RuleFive n (at os) (leaderOf n hs) (leaderList n os hs)
 unfolding leaderList leaderListBy
