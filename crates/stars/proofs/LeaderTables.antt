@@ -43,11 +43,17 @@ module _ {n : ℕ} {hs cs ds ls : List ℕ} (r : Ruled n hs cs ds ls) (v : ℕ) 
   pub leader-holder : {b k : Bool} {w u : ℕ} → b ≡ marked ls v → b ≡ false → k ≡ marked ds v → k ≡ false → w ≡ at hs v → u ≡ cond (ltb w n) w NONE → u ≡ leaderOf n hs v
   leader-holder e f g q s t = rw s at t ∙ sym (entry-kept n hs v (sym (leading e) ∙ f) (sym (cutting g) ∙ q))
 
--- the list by rule 5 over the arrays of places and leaders is the leader list
-pub list-joined : (n : ℕ) (os hs old : List ℕ) {ps gs new : List ℕ} → Table n (placeOf n (at os)) ps → Table n (leaderOf n hs) gs → new ≡ written n (listOf n (ruleFive (notLater (at ps)) n (at gs))) old
+-- the list by rule 5 over an array of places is the one by the order, ..
+pub list-placed : (n : ℕ) (order g : ℕ → ℕ) (old : List ℕ) {ps new : List ℕ} → Table n (placeOf n order) ps → new ≡ written n (listOf n (ruleFive (notLater (at ps)) n g)) old
+    → new ≡ written n (listOf n (ruleFive (notLater (placeOf n order)) n g)) old
+list-placed n order g old {ps} p e =
+    e ∙ ap (λ (l : List ℕ). written n l old) (listOf-ext n (ruleFive (notLater (at ps)) n g) (ruleFive (notLater (placeOf n order)) n g)
+    (λ v l. five-ways n g (notLater (at ps)) (notLater (placeOf n order)) (λ a b k m. rw (p .entry a k, p .entry b m)) v))
+
+-- .. and over the array of leaders it is the leader list
+pub list-joined : (n : ℕ) (os hs old : List ℕ) {gs new : List ℕ} → Table n (leaderOf n hs) gs → new ≡ written n (listOf n (ruleFive (notLater (placeOf n (at os))) n (at gs))) old
     → new ≡ written n (listOf n (leaderList n os hs)) old
 unfolding leaderList leaderListBy
-list-joined n os hs old {ps} {gs} p t e =
-    e ∙ ap (λ (l : List ℕ). written n l old) (listOf-ext n (ruleFive (notLater (at ps)) n (at gs)) (ruleFive (notLater (placeOf n (at os))) n (leaderOf n hs))
-    (λ v l. five-ext n (at gs) (leaderOf n hs) (t .entry) (notLater (at ps)) v l
-    ∙ five-ways n (leaderOf n hs) (notLater (at ps)) (notLater (placeOf n (at os))) (λ a b k m. rw (p .entry a k, p .entry b m)) v))
+list-joined n os hs old {gs} t e =
+    e ∙ ap (λ (l : List ℕ). written n l old) (listOf-ext n (ruleFive (notLater (placeOf n (at os))) n (at gs)) (ruleFive (notLater (placeOf n (at os))) n (leaderOf n hs))
+    (five-ext n (at gs) (leaderOf n hs) (t .entry) (notLater (placeOf n (at os)))))

@@ -1,13 +1,14 @@
-// Rule 5, over any grouping and any places: who leads a group of two.
+// Rule 5, over any grouping and any order: who leads a group of two.
+use crate::places::places_of;
 use lists::counts::member_count;
 use lists::entry;
 use lists::tests::is_member;
 ghost use mathlib.Core.Path.{_≡_};
 ghost use Prim.Native.Nat.{_≤_};
 ghost use lib.ListN.{length};
-ghost use Rattle.packing.specs.Plant.{at};
+ghost use Rattle.packing.specs.Plant.{GATEWAYS, at};
 ghost use Rattle.packing.specs.Lists.{listOf, written};
-ghost use Rattle.stars.specs.Stars.{notLater, pairLeader, partner, ruleFive};
+ghost use Rattle.stars.specs.Stars.{notLater, pairLeader, partner, placeOf, ruleFive};
 
 // Of the pair a and b, whether a leads: b's place is not before a's.
 fn leads_pair(places: &[u16], a: u16, b: u16) -> bool
@@ -54,7 +55,7 @@ fn rule_five(n: u16, places: &[u16], groups: &[u16], v: u16) -> u16
 }
 
 // The list of n entries, written to the front of out.
-pub(crate) fn write_list(n: u16, places: &[u16], groups: &[u16], out: &mut [u16])
+fn write_entries(n: u16, places: &[u16], groups: &[u16], out: &mut [u16])
     requires { ⌜ n ≤ length (now out) ⌝ }
     ensures { λ _. ⌜ now (out .exit) ≡ written n (listOf n (ruleFive (notLater (at (now (places .entry)))) n (at (now (groups .entry))))) (now (out .entry)) ⌝ }
 {
@@ -64,4 +65,13 @@ pub(crate) fn write_list(n: u16, places: &[u16], groups: &[u16], out: &mut [u16]
         out[place] = rule_five(n, places, groups, v);
         v += 1;
     }
+}
+
+// .. by the places in the order.
+pub(crate) fn write_list(n: u16, order: &[u16], groups: &[u16], out: &mut [u16])
+    requires { ⌜ (n ≤ GATEWAYS) × (n ≤ length (now out)) ⌝ }
+    ensures { λ _. ⌜ now (out .exit) ≡ written n (listOf n (ruleFive (notLater (placeOf n (at (now (order .entry))))) n (at (now (groups .entry))))) (now (out .entry)) ⌝ }
+{
+    let places = places_of(n, order);
+    write_entries(n, &places, groups, out);
 }

@@ -27,14 +27,13 @@ fn groups_of(n: u16, holders: &[u16]) -> [u16; PLACES]
     reading::leaders_of(n, holders, &cycles, &cut, &leading)
 }
 
-// The groups by rules 1 to 4, then rule 5 by the places in the order.
+// The groups by rules 1 to 4, then rule 5 by the order.
 fn write_leaders(n: u16, order: &[u16], holders: &[u16], out: &mut [u16])
     requires { ⌜ Lent n (now holders) (now out) ⌝ }
     ensures { λ _. ⌜ now (out .exit) ≡ written n (listOf n (leaderList n (now (order .entry)) (now (holders .entry)))) (now (out .entry)) ⌝ }
 {
     let groups = groups_of(n, holders);
-    let places = places::places_of(n, order);
-    groups_of_two::write_list(n, &places, &groups, out);
+    groups_of_two::write_list(n, order, &groups, out);
 }
 
 // Whether n is in range and each list, by its length, has n entries.
