@@ -78,5 +78,5 @@ same-below n g h g' h' same alike groups =
     record {
       cover = λ v l. rw (← same v l, ← alike v l) (groups .cover v l);
       together = λ v w l m. rw (← same v l, ← same w m, ← alike v l, ← alike w m) (groups .together v w l m);
-      others = λ v l alone. sym (same v l) ∙ groups .others v l (λ one. alone (rw (← same v l) (sym (members-below n g g' same (g v)) ∙ one))) ∙ alike v l;
+      others = λ v l h. sym (same v l) ∙ groups .others v l (λ k one. h (rw (same v l) at k) (rw (← same v l) (sym (members-below n g g' same (g v)) ∙ one))) ∙ alike v l;
     }

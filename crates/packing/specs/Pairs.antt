@@ -32,4 +32,4 @@ pub record SameGroups (n : ℕ) (g g' : ℕ → ℕ) : Type 0 where
   -- those with one entry in the one list have one entry in the other
   pub together : (v w : ℕ) → v < n → w < n → g v ≡ g w ↔ g' v ≡ g' w
   -- who is in no group of two has the same entry
-  pub others : (v : ℕ) → v < n → (memberCount n g (g v) ≡ 1 → ⊥) → g v ≡ g' v
+  pub others : (v : ℕ) → v < n → (g v < n → memberCount n g (g v) ≡ 1 → ⊥) → g v ≡ g' v

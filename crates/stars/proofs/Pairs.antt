@@ -18,14 +18,14 @@ use Rattle.packing.proofs.Prefixes.{Among}
 use Rattle.stars.specs.Stars.{leaderOf, notLater, pairLeader, partner, placeOf, ruleFive, leaderListBy, leaderList}
 use Rattle.stars.specs.Rules.{WhoeverLeads}
 use Rattle.stars.proofs.OrderPlaces.{not-later-means, later-means, place-earlier, place-apart}
-use Rattle.stars.proofs.RuleFive.{partner-only, five-pair, five-keeps, five-past, five-same, ruleFive-covered, five-members, five-together}
+use Rattle.stars.proofs.RuleFive.{partner-only, five-pair, five-keeps, five-past, five-entry, five-same, ruleFive-covered, five-members, five-together}
 use Rattle.stars.proofs.Groups.{leaderOf-own}
 
 -- Rule 5 over entries by which each leader leads itself.
 module _ (n : ℕ) (g : ℕ → ℕ) (own : (v : ℕ) → v < n → g v < n → g (g v) ≡ g v) where
-  -- who is in no group of two has its old entry, ..
-  keeps-old : (leadsPair : ℕ → ℕ → Bool) (v : ℕ) → v < n → (memberCount n (ruleFive leadsPair n g) (ruleFive leadsPair n g v) ≡ 1 → ⊥) → g v < n → memberCount n g (g v) ≡ 1 → ⊥
-  keeps-old leadsPair v l h k one = h (five-members leadsPair n g own v l k ∙ one)
+  -- who is in no group of two was in none before, ..
+  was-other : (leadsPair : ℕ → ℕ → Bool) (v : ℕ) → v < n → (ruleFive leadsPair n g v < n → memberCount n (ruleFive leadsPair n g) (ruleFive leadsPair n g v) ≡ 1 → ⊥) → g v < n → memberCount n g (g v) ≡ 1 → ⊥
+  was-other leadsPair v l h k one = h (five-entry leadsPair n g v k (own v l k) .0) (five-members leadsPair n g own v l k ∙ one)
 
   -- .. so two ways to decide who leads a pair give the same groups
   pub five-groups : n ≤ NONE → (leadsPair other : ℕ → ℕ → Bool) → SameGroups n (ruleFive leadsPair n g) (ruleFive other n g)
@@ -36,7 +36,7 @@ module _ (n : ℕ) (g : ℕ → ℕ) (own : (v : ℕ) → v < n → g v < n → 
             let a = five-together leadsPair n g own v w l m in
             let b = five-together other n g own v w l m in
             (λ e. b .1 (a .0 e), λ e. a .1 (b .0 e));
-        others = λ v l h. let old = keeps-old leadsPair v l h in five-keeps leadsPair n g v old ∙ sym (five-keeps other n g v old);
+        others = λ v l h. let was = was-other leadsPair v l h in five-keeps leadsPair n g v was ∙ sym (five-keeps other n g v was);
       }
 
   -- In a group of two by rule 5 the leader was decided on, of the two in one turn or the other.

@@ -87,7 +87,7 @@ module _ (leadsPair : ℕ → ℕ → Bool) (n : ℕ) (g : ℕ → ℕ) where
       some x l = ne-eqb x NONE (omega arith)
 
   -- an entry becomes a gateway whose entry it was
-  five-entry : (v : ℕ) → g v < n → g (g v) ≡ g v → (ruleFive leadsPair n g v < n) × (g (ruleFive leadsPair n g v) ≡ g v)
+  pub five-entry : (v : ℕ) → g v < n → g (g v) ≡ g v → (ruleFive leadsPair n g v < n) × (g (ruleFive leadsPair n g v) ≡ g v)
   five-entry v l own = five-cases v (λ e. rw e (l, own)) (λ k one e. let (m, f, other) = partner-found n g (g v) one in rw e (m, f))
 
   -- all with an entry get the same one, and no other gets it
