@@ -46,6 +46,7 @@ extern "C" {
  *            out[2v], out[2v + 1]   gateway v's leader, low byte first: v itself where v leads, its
  *                                   leader's number where it is a member, 65535 where it is alone;
  *            out[2n + v]            1 where v is in the choke set, else 0.
+ *            In a group of two the one earlier in the order leads.
  *   else     the number of the refusal, and nothing is written.
  *
  * The refusals. Where several apply, the first in this turn is given; links are gone through one by
@@ -66,7 +67,7 @@ extern "C" {
  *
  * What it uses. The call is reentrant and keeps nothing: the library has no writable data and allocates
  * none. Calls may run at once in any threads, each with an out of its own; they may share a file that
- * nobody changes meanwhile. Its lists stand on the stack: about 61 KB, nearly the same for every file. A
+ * nobody changes meanwhile. Its lists stand on the stack: about 63 KB, nearly the same for every file. A
  * thread whose stack has PLAN_GROUPS_STACK bytes, with what the thread itself takes of them, can make
  * the call; what the thread does besides needs more.
  *

@@ -13,7 +13,7 @@ pub(crate) fn show(leaders: &[u16], leader: u16, out: &mut [u16]) -> usize {
 
 // the leader and the room
 pub(crate) fn case(label: &[u8], a: &[u16]) {
-    let leaders = [0u16, 1, 1, 0, 0];
+    let leaders = [0u16, 2, 2, 0, 0];
     let came = [9u16; 16];
     let mut out = came;
     let room = parts::place(a, 3);

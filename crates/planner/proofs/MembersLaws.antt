@@ -121,15 +121,15 @@ part-is leaders u lent e f = rw (e, f) (part leaders u lent)
 pub part-long : (leaders : List ℕ) (u : ℕ) (lent : List ℕ) {c : ℕ} {out : List ℕ} → c ≡ length (membersPart leaders u (length lent)) → out ≡ membersList leaders u lent → c ≡ length (take c out)
 part-long leaders u lent e f = e ∙ ap length (sym (part-is leaders u lent e f))
 
--- 01's listing, leaders 0 1 1 0 0: 0 leads 3 and 4; 2 leads nobody, 5 is outside the list, and two members need two places
+-- 01's listing, leaders 0 2 2 0 0: 0 leads 3 and 4; 1 leads nobody, 5 is outside the list, and two members need two places
 abbrev example-leaders : List ℕ
-example-leaders = 0 ∷ 1 ∷ 1 ∷ 0 ∷ 0 ∷ []
+example-leaders = 0 ∷ 2 ∷ 2 ∷ 0 ∷ 0 ∷ []
 
 example-part : membersPart example-leaders 0 2 ≡ 3 ∷ 4 ∷ []
 unfolding membersPart membersRefusal membersConditions membersOf listedLeaders listWhere
 example-part = refl
 
-example-refusals : (membersRefusal example-leaders 2 2 ≡ 11) × (membersRefusal example-leaders 5 2 ≡ 11) × (membersRefusal example-leaders 0 1 ≡ 10)
+example-refusals : (membersRefusal example-leaders 1 2 ≡ 11) × (membersRefusal example-leaders 5 2 ≡ 11) × (membersRefusal example-leaders 0 1 ≡ 10)
 unfolding membersRefusal membersConditions membersOf listedLeaders listWhere
 example-refusals = (refl, refl, refl)
 

@@ -6,13 +6,13 @@ use Rattle.packing.specs.Lists.{listWhere}
 use Rattle.packing.specs.Grouping.{membersOf}
 use Rattle.report.specs.Text.{wordGateways, wordLimit, wordCovered, wordLead, wordMembers, digitsIn, digits, spaced, field, line, coveredCount, lineOne, leadLine, leadLines, aloneLine, chokeLine, listing, refusedLine}
 
--- 01's listing: n = 5, T = 2, leaders 0 1 1 0 0, no choke set
+-- 01's listing, as 02, change 2 has it: n = 5, T = 2, leaders 0 2 2 0 0, no choke set
 --   gateways 5 limit 2 covered 5
 --   lead 0: 3 4
---   lead 1: 2
+--   lead 2: 1
 --   alone:
 --   choke:
-example : listing 5 2 (0 ∷ 1 ∷ 1 ∷ 0 ∷ 0 ∷ []) (0 ∷ 0 ∷ 0 ∷ 0 ∷ 0 ∷ []) ≡ 103 ∷ 97 ∷ 116 ∷ 101 ∷ 119 ∷ 97 ∷ 121 ∷ 115 ∷ 32 ∷ 53 ∷ 32 ∷ 108 ∷ 105 ∷ 109 ∷ 105 ∷ 116 ∷ 32 ∷ 50 ∷ 32 ∷ 99 ∷ 111 ∷ 118 ∷ 101 ∷ 114 ∷ 101 ∷ 100 ∷ 32 ∷ 53 ∷ 10 ∷ 108 ∷ 101 ∷ 97 ∷ 100 ∷ 32 ∷ 48 ∷ 58 ∷ 32 ∷ 51 ∷ 32 ∷ 52 ∷ 10 ∷ 108 ∷ 101 ∷ 97 ∷ 100 ∷ 32 ∷ 49 ∷ 58 ∷ 32 ∷ 50 ∷ 10 ∷ 97 ∷ 108 ∷ 111 ∷ 110 ∷ 101 ∷ 58 ∷ 10 ∷ 99 ∷ 104 ∷ 111 ∷ 107 ∷ 101 ∷ 58 ∷ 10 ∷ []
+example : listing 5 2 (0 ∷ 2 ∷ 2 ∷ 0 ∷ 0 ∷ []) (0 ∷ 0 ∷ 0 ∷ 0 ∷ 0 ∷ []) ≡ 103 ∷ 97 ∷ 116 ∷ 101 ∷ 119 ∷ 97 ∷ 121 ∷ 115 ∷ 32 ∷ 53 ∷ 32 ∷ 108 ∷ 105 ∷ 109 ∷ 105 ∷ 116 ∷ 32 ∷ 50 ∷ 32 ∷ 99 ∷ 111 ∷ 118 ∷ 101 ∷ 114 ∷ 101 ∷ 100 ∷ 32 ∷ 53 ∷ 10 ∷ 108 ∷ 101 ∷ 97 ∷ 100 ∷ 32 ∷ 48 ∷ 58 ∷ 32 ∷ 51 ∷ 32 ∷ 52 ∷ 10 ∷ 108 ∷ 101 ∷ 97 ∷ 100 ∷ 32 ∷ 50 ∷ 58 ∷ 32 ∷ 49 ∷ 10 ∷ 97 ∷ 108 ∷ 111 ∷ 110 ∷ 101 ∷ 58 ∷ 10 ∷ 99 ∷ 104 ∷ 111 ∷ 107 ∷ 101 ∷ 58 ∷ 10 ∷ []
 unfolding sum count listWhere digitsIn digits spaced field line membersOf coveredCount lineOne leadLine leadLines aloneLine chokeLine listing
 example = refl
 
