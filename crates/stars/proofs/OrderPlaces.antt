@@ -1,6 +1,6 @@
 -- The place of a number in an order: what it says of who is earlier, and how one pass over the order finds it for every gateway.
-use Prim.Native.Nat.{ℕ, _+_, _-_, _<_, _≤_}
-use mathlib.Core.Path.{_≡_, refl, sym, ap, _∙_}
+use Prim.Native.Nat.{ℕ, _-_, _<_, _≤_}
+use mathlib.Core.Path.{_≡_, sym, ap, _∙_}
 use mathlib.Core.Bool.{Bool, true, false}
 use mathlib.Core.List.{List}
 use native.Mathlib.Nat.{le-antisymm}
@@ -12,7 +12,7 @@ use borrow.Author.Tests.{eqb-true, eqb-false, eq-eqb, ne-eqb, ltb-true, ltb-fals
 use Rattle.packing.specs.Count.{any, firstWith}
 use Rattle.packing.specs.Plant.{GATEWAYS, at}
 use Rattle.packing.specs.Pairs.{Earlier}
-use Rattle.packing.proofs.Tests.{by-bool, any-intro, any-fails, first-found}
+use Rattle.packing.proofs.Tests.{by-bool, any-fails, first-found}
 use Rattle.stars.specs.Stars.{placeOf, notLater}
 use Rattle.stars.specs.Pre.{Table}
 use Rattle.stars.proofs.Loops.{first-least, first-none}

@@ -1,7 +1,7 @@
 -- 02, change 2: the groups are the same whoever leads a pair, and with the order it is the earlier one.
 use Prim.Native.Nat.{ℕ, _<_, _≤_}
 use mathlib.Core.Path.{_≡_, refl, sym, ap, _∙_}
-use mathlib.Core.Logic.{_⊎_, inl, inr, ⊎-elim, _↔_}
+use mathlib.Core.Logic.{_⊎_, inl, inr, ⊎-elim}
 use mathlib.Core.Bool.{Bool, true, false, not}
 use mathlib.Core.List.{List}
 use native.Mathlib.Omega.{arith}
@@ -12,13 +12,13 @@ use Rattle.packing.specs.Plant.{NONE, at}
 use Rattle.packing.specs.Grouping.{memberCount, covered}
 use Rattle.packing.specs.Pairs.{Two, Earlier, EarlierLeads, SameGroups}
 use Rattle.packing.specs.Choke.{ChokeDifference}
-use Rattle.packing.proofs.Tests.{by-bool, clash}
+use Rattle.packing.proofs.Tests.{by-bool}
 use Rattle.packing.proofs.Sums.{count-ext}
 use Rattle.packing.proofs.Prefixes.{Among}
 use Rattle.stars.specs.Stars.{leaderOf, notLater, pairLeader, partner, placeOf, ruleFive, leaderListBy, leaderList}
 use Rattle.stars.specs.Rules.{WhoeverLeads}
 use Rattle.stars.proofs.OrderPlaces.{not-later-means, later-means, place-earlier, place-apart}
-use Rattle.stars.proofs.RuleFive.{partner-only, five-pair, five-keeps, five-past, five-entry, five-same, ruleFive-covered, five-members, five-together}
+use Rattle.stars.proofs.RuleFive.{partner-only, five-pair, five-keeps, five-past, five-entry, ruleFive-covered, five-members, five-together}
 use Rattle.stars.proofs.Groups.{leaderOf-own}
 
 -- Rule 5 over entries by which each leader leads itself.
@@ -39,7 +39,7 @@ module _ (n : ℕ) (g : ℕ → ℕ) (own : (v : ℕ) → v < n → g v < n → 
         others = λ v l h. let was = was-other leadsPair v l h in five-keeps leadsPair n g v was ∙ sym (five-keeps other n g v was);
       }
 
-  -- In a group of two by rule 5 the leader was decided on, of the two in one turn or the other.
+  -- who leads a group of two by rule 5 is the one decided on, whichever of the two was named first
   pub two-decided : (leadsPair : ℕ → ℕ → Bool) (u w : ℕ) → Two n (ruleFive leadsPair n g) u w → (leadsPair u w ≡ true) ⊎ (leadsPair w u ≡ false)
   unfolding pairLeader
   two-decided leadsPair u w t = by-bool (leadsPair (g u) (partner n g (g u))) leader member
@@ -51,7 +51,7 @@ module _ (n : ℕ) (g : ℕ → ℕ) (own : (v : ℕ) → v < n → g v < n → 
       one = sym (five-members leadsPair n g own u (t .leader) k) ∙ ap (memberCount n (ruleFive leadsPair n g)) (t .own) ∙ t .only
 
       fellow : g w ≡ g u
-      fellow = five-same leadsPair n g u w k (own u (t .leader) k) (own w (t .member)) (t .led ∙ sym (t .own))
+      fellow = five-together leadsPair n g own w u (t .member) (t .leader) .0 (t .led ∙ sym (t .own))
 
       chosen : u ≡ pairLeader leadsPair (g u) (partner n g (g u))
       chosen = sym (t .own) ∙ five-pair leadsPair n g u (g u) refl k one

@@ -95,7 +95,7 @@ module _ (leadsPair : ℕ → ℕ → Bool) (n : ℕ) (g : ℕ → ℕ) where
   unfolding ruleFive
   five-by v w e = rw e
 
-  pub five-same : (v w : ℕ) → g v < n → g (g v) ≡ g v → (g w < n → g (g w) ≡ g w) → ruleFive leadsPair n g w ≡ ruleFive leadsPair n g v → g w ≡ g v
+  five-same : (v w : ℕ) → g v < n → g (g v) ≡ g v → (g w < n → g (g w) ≡ g w) → ruleFive leadsPair n g w ≡ ruleFive leadsPair n g v → g w ≡ g v
   five-same v w l own owned e =
       let (below, from) = five-entry v l own in
       let k : g w < n = five-cases w (λ q. omega arith) (λ k one q. k) in

@@ -1,6 +1,6 @@
 -- The leader list obeys rules 1 to 5: leaderOf are the entries by rules 1 to 4, and leaderList is rule 5 over leaderOf.
 -- n is at most NONE, so that NONE is no gateway.
-use Prim.Native.Nat.{ℕ, _+_, _*_, _-_, _<_, _≤_}
+use Prim.Native.Nat.{ℕ, _+_, _*_, _-_, _≤_}
 use mathlib.Core.Path.{_≡_, refl, ap, _∙_}
 use mathlib.Core.List.{List}
 use native.Mathlib.Omega.{arith}

@@ -1,4 +1,4 @@
--- 01, "Reading": rules 1 to 5, each as 01 writes it. hs are the holders of n gateways; the arc into w comes from its holder.
+-- 01, "Reading": rules 1 to 5, each as 01 writes it, rule 5 as 02, change 2 does. hs are the holders of n gateways; the arc into w comes from its holder.
 -- lead u: u leads by rule 1. g are the entries by rules 1 to 4: its own number for a leader, the leader's number for a member, NONE for alone. list are the entries by all five.
 -- RulesFix says that they fix the leader list of specs/Stars.antt (proofs/Rules.antt, proofs/Only.antt).
 use Prim.Native.Nat.{ℕ, _+_, _*_, _<_, _≤_}
@@ -34,7 +34,7 @@ pub record Leaderless (n : ℕ) (hs : List ℕ) (lead : ℕ → Bool) (length : 
   pub none : (i : ℕ) → i < length → lead (c i) ≡ false
   pub lowest : (i : ℕ) → i < length → c 0 ≤ c i
 
--- a pair; until rule 5 its first leads
+-- a pair that a leads; until rule 5 that is its first
 abbrev pub Pair : (ℕ → ℕ) → ℕ → ℕ → Type 0
 Pair g a b = (g a ≡ a) × (g b ≡ a)
 

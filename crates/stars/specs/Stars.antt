@@ -1,6 +1,6 @@
 -- 01, "Reading", rules 1 to 5. hs are the holders of n gateways; the arc into w comes from its holder.
 -- Pairing a run of a cycle from its start, with the first of an odd run joining the gateway before it, gives the same groups as rule 1 once the arcs into
--- certain cycle gateways are cut: a run then ends in a leaf. specs/Rules.antt states each rule as 01 writes it; proofs/Rules.antt and proofs/Only.antt prove that they fix this list.
+-- certain cycle gateways are cut: a run then ends in a leaf. specs/Rules.antt states each rule in the papers' words; proofs/Rules.antt and proofs/Only.antt prove that they fix this list.
 use Prim.Native.Nat.{ℕ, zero, suc}
 use mathlib.Core.Bool.{Bool, false, not, cond, _&&_, _||_}
 use mathlib.Core.List.{List}
@@ -80,7 +80,7 @@ placeOf n order v = firstWith n (λ i. eqb (order i) v)
 abbrev pub notLater : (ℕ → ℕ) → ℕ → ℕ → Bool
 notLater place a b = leb (place a) (place b)
 
--- .. and with rule 5 as it is since 02, change 2: "In a group of two the one earlier in the order now leads". os is the list of the order; it may be any list.
+-- the leader list, with rule 5 as 02, change 2 has it: "In a group of two the one earlier in the order now leads". os is the list of the order, and may be any list.
 unfoldable pub leaderList : ℕ → List ℕ → List ℕ → ℕ → ℕ
 leaderList n os hs = leaderListBy (notLater (placeOf n (at os))) n hs
 

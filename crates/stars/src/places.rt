@@ -2,7 +2,6 @@
 use lists::PLACES;
 use lists::entry;
 use lists::put;
-ghost use mathlib.Core.Path.{_≡_};
 ghost use Prim.Native.Nat.{_≤_};
 ghost use Rattle.packing.specs.Plant.{GATEWAYS, at};
 ghost use Rattle.stars.specs.Stars.{placeOf};
