@@ -55,7 +55,7 @@ module _ (file : List ℕ) (z : fileRefusal file ≡ 0) where
 
   module _ (k : ℕ) (within : k ≤ fileN file) where
     -- what the calls tell: the file's n, T, links and order, and k placed
-    pub file-told : tell (beginning (fileN file) (fileT file) (length ownLinks)) (callsAfter file k) ≡ placedTold file (length ownLinks) k
+    file-told : tell (beginning (fileN file) (fileT file) (length ownLinks)) (callsAfter file k) ≡ placedTold file (length ownLinks) k
     file-told = file-tells file (length ownLinks) z (rw length-replicate (omega (arith, file-allowed file z .links-few))) k within
 
     file-agrees : Agrees (placedTold file (length ownLinks) k) (stateAfter file k)
@@ -63,7 +63,7 @@ module _ (file : List ℕ) (z : fileRefusal file ≡ 0) where
     file-agrees = rw file-told at (run-agrees (open-agrees (fileN file) (fileT file) ownLinks own own file-open) (callsAfter file k))
 
     module _ (leaders choke : List ℕ) (room : fileN file ≤ length leaders) (room₂ : fileN file ≤ length choke) where
-      pub file-read : refuses (placedTold file (length ownLinks) k) (read leaders choke) ≡ 0
+      file-read : refuses (placedTold file (length ownLinks) k) (read leaders choke) ≡ 0
       file-read = read-accepted file (length ownLinks) k leaders choke room room₂
 
       reads : callRefusal (stateAfter file k) (read leaders choke) ≡ 0
@@ -132,15 +132,15 @@ module _ (file : List ℕ) (z : fileRefusal file ≡ 0) (k : ℕ) (within : k �
   pub choke-front : {l : List ℕ} → l ≡ planChokeAfter file k a b → Front n (fileChokeAfter file k) l
   choke-front e = rw (is, e, choke-written file z k within a b (own-room file z ea) (own-room file z eb), choke-whole file z k within) (written-has (fileN file) _ b (listOf-length (fileN file) _))
 
--- an accepted read of the record made, as what was told has it
+-- where the call is accepted: what is told, and that it does not refuse the read
 module _ (file : List ℕ) (k : ℕ) (leaders choke : List ℕ) (passes : planAfterRefusal file k (length leaders) (length choke) ≡ 0) where
-  pub passed : (fileRefusal file ≡ 0) × (k ≤ fileN file) × (fileN file ≤ length leaders) × (fileN file ≤ length choke)
+  passed : (fileRefusal file ≡ 0) × (k ≤ fileN file) × (fileN file ≤ length leaders) × (fileN file ≤ length choke)
   passed = plan-places file k (length leaders) (length choke) refl passes
 
-  told : toldBy (fileN file) (fileT file) ownLinks (callsAfter file k) ≡ placedTold file (length ownLinks) k
+  pub told : toldBy (fileN file) (fileT file) ownLinks (callsAfter file k) ≡ placedTold file (length ownLinks) k
   told = file-told file (passed .0) k (passed .1)
 
-  reads-told : refuses (toldBy (fileN file) (fileT file) ownLinks (callsAfter file k)) (read leaders choke) ≡ 0
+  pub reads-told : refuses (toldBy (fileN file) (fileT file) ownLinks (callsAfter file k)) (read leaders choke) ≡ 0
   reads-told = rw told (file-read file (passed .0) k (passed .1) leaders choke (passed .2) (passed .3))
 
 pub file-so-far : FileSoFar

@@ -12,9 +12,8 @@ use Rattle.packing.specs.Grouping.{covered}
 use Rattle.packing.proofs.Sums.{count-ext}
 use Rattle.packing.proofs.SoFar.{first-same}
 use Rattle.packing.proofs.Below.{grouping-below, difference-below}
-use Rattle.planner.specs.Calls.{read}
-use Rattle.planner.specs.Told.{Told, refuses}
-use Rattle.planner.specs.Claims.{toldBy, DemandTwo, DemandThree}
+use Rattle.planner.specs.Told.{Told}
+use Rattle.planner.specs.Claims.{DemandTwo, DemandThree}
 use Rattle.planner.proofs.Demands.{demand-two, demand-three}
 use Rattle.plant_file.specs.PlantFile.{fileN, fileT, fileLinks, fileRefusal}
 use Rattle.plant_file.proofs.Accepted.{file-allowed}
@@ -24,7 +23,7 @@ use Rattle.plan.specs.After.{fileLeadersAfter, fileChokeAfter}
 use Rattle.plan.specs.Claim.{PlanOf, FilePlan, AfterAll}
 use Rattle.plan.proofs.Refusing.{after-within, number-all, after-all, plan-places}
 use Rattle.plan.proofs.After as after
-use Rattle.plan.proofs.After.{ownLinks, own, Front, file-open, file-told, file-read, zeros, after-passes, after-own}
+use Rattle.plan.proofs.After.{ownLinks, own, Front, file-open, told, reads-told, zeros, after-passes, after-own}
 
 -- after all placings the lists of n entries are the plan's
 pub leaders-all : (file : List ℕ) → fileLeadersAfter file (fileN file) ≡ fileLeaders file
@@ -56,13 +55,14 @@ module _ (file : List ℕ) (z : fileRefusal file ≡ 0) {n : ℕ} (is : n ≡ fi
 pub file-plan : FilePlan
 unfolding FilePlan DemandTwo DemandThree fileState stateAfter planLeaders planChoke
 file-plan file leaders choke passes =
-    let (fine, room, room₂) = plan-accepts file (length leaders) (length choke) passes in
-    let told = file-told file fine (fileN file) (omega arith) in
-    let reads : refuses (toldBy (fileN file) (fileT file) ownLinks (callsAfter file (fileN file))) (read leaders choke) ≡ 0 = rw told (file-read file fine (fileN file) (omega arith) leaders choke room room₂) in
-    let placed = ap (λ (p : Told). p .placed) told in
-    let three = demand-three (fileN file) (fileT file) ownLinks own own (file-open file fine) (callsAfter file (fileN file)) placed leaders choke reads in
-    let two = demand-two (fileN file) (fileT file) ownLinks own own (file-open file fine) (callsAfter file (fileN file)) placed leaders choke reads in
-    rw passes (rw told at (three .0), rw told at (three .1), rw told at (two .2))
+    let all = number-all file (length leaders) (length choke) ∙ passes in
+    let tells = told file (fileN file) leaders choke all in
+    let reads = reads-told file (fileN file) leaders choke all in
+    let opens = file-open file (plan-accepts file (length leaders) (length choke) passes .0) in
+    let placed = ap (λ (p : Told). p .placed) tells in
+    let three = demand-three (fileN file) (fileT file) ownLinks own own opens (callsAfter file (fileN file)) placed leaders choke reads in
+    let two = demand-two (fileN file) (fileT file) ownLinks own own opens (callsAfter file (fileN file)) placed leaders choke reads in
+    rw passes (rw tells at (three .0), rw tells at (three .1), rw tells at (two .2))
 
 -- The claim goes by the entries below n, ..
 pub plan-below : (file : List ℕ) → fileRefusal file ≡ 0 → (g h : ℕ → ℕ) (s r : ℕ → Bool) → ((v : ℕ) → v < fileN file → g v ≡ h v) → ((v : ℕ) → v < fileN file → s v ≡ r v)
