@@ -2,7 +2,7 @@
 
 document_listing='gateways 5 limit 2 covered 5
 lead 0: 3 4
-lead 1: 2
+lead 2: 1
 alone:
 choke:'
 

@@ -107,5 +107,6 @@ int main(void)
     some_of_each(&r, 4, 41, 120);
     large(&r);
     largest(&r);
+    judge_tally_pairs(50000);
     return tally_end();
 }

@@ -31,8 +31,10 @@ struct edge {
 static const struct edge edges[] = {
     {"no gateway", 0, 2, 0, {{0}}, {0}, {{{0}, {0}, 0, 0}}},
     {"one gateway", 1, 2, 0, {{0}}, {0}, {{{A}, {0}, 1, 1}, {{A}, {0}, 1, 1}}},
-    {"two linked", 2, 2, 1, {{1, 0}}, {1, 0},
-        {{{A, A}, {1, 1}, -4, 2}, {{0, 0}, {0, 1}, -1, 0}, {{0, 0}, {0, 0}, 0, 0}}},
+    {"two linked", 2, 2, 1, {{0, 1}}, {0, 1},
+        {{{A, A}, {1, 1}, -4, 2}, {{0, 0}, {1, 0}, -1, 0}, {{0, 0}, {0, 0}, 0, 0}}},
+    {"two linked, the higher number first", 2, 2, 1, {{1, 0}}, {1, 0},
+        {{{A, A}, {1, 1}, -4, 2}, {{1, 1}, {0, 1}, -1, 0}, {{1, 1}, {0, 0}, 0, 0}}},
     {"a star of four, T = 3", 5, 3, 4, STAR, {0, 1, 2, 3, 4},
         {{{A, A, A, A, A}, {1, 1, 1, 1, 1}, -15, 5},
          {{0, 0, A, A, A}, {1, 0, 0, 0, 0}, 1, 3},
@@ -40,18 +42,25 @@ static const struct edge edges[] = {
          {{0, 0, 0, A, A}, {1, 0, 0, 0, 0}, 1, 2},
          {{0, 0, 0, 0, A}, {1, 0, 0, 0, 0}, 1, 1},
          {{0, 0, 0, 0, A}, {1, 0, 0, 0, 0}, 1, 1}}},
+    /* rule 1 names the holder, the later of the two in the order; by rule 5 the other leads */
+    {"a ring of four from its end", 4, 2, 4, {{0, 1}, {1, 2}, {2, 3}, {3, 0}}, {3, 2, 1, 0},
+        {{{A, A, A, A}, {1, 1, 1, 1}, -8, 4},
+         {{A, A, 3, 3}, {1, 1, 1, 1}, -8, 2},
+         {{A, A, 3, 3}, {1, 1, 1, 1}, -8, 2},
+         {{1, 1, 3, 3}, {0, 1, 0, 1}, -2, 0},
+         {{1, 1, 3, 3}, {0, 0, 0, 0}, 0, 0}}},
     /* the third placing moves 2 from holder 0 to holder 1 */
     {"the listing's plant", 5, 2, 4, {{0, 2}, {0, 3}, {0, 4}, {1, 2}}, {2, 3, 4, 0, 1},
         {{{A, A, A, A, A}, {1, 1, 1, 1, 1}, -10, 5},
-         {{0, A, 0, A, A}, {1, 1, 1, 1, 1}, -10, 3},
+         {{2, A, 2, A, A}, {1, 1, 1, 1, 1}, -10, 3},
          {{0, A, 0, 0, A}, {1, 1, 1, 1, 1}, -10, 2},
-         {{0, 1, 1, 0, 0}, {0, 0, 1, 1, 1}, -4, 0},
-         {{0, 1, 1, 0, 0}, {0, 0, 1, 1, 1}, -4, 0},
-         {{0, 1, 1, 0, 0}, {0, 0, 0, 0, 0}, 0, 0}}},
+         {{0, 2, 2, 0, 0}, {0, 0, 1, 1, 1}, -4, 0},
+         {{0, 2, 2, 0, 0}, {0, 0, 1, 1, 1}, -4, 0},
+         {{0, 2, 2, 0, 0}, {0, 0, 0, 0, 0}, 0, 0}}},
     /* the third and the fourth placing leave 1 and 4 */
     {"left before the last placing", 5, 2, 4, STAR, {3, 2, 1, 4, 0},
         {{{A, A, A, A, A}, {1, 1, 1, 1, 1}, -10, 5},
-         {{0, A, A, 0, A}, {1, 1, 1, 1, 1}, -10, 3},
+         {{3, A, A, 3, A}, {1, 1, 1, 1, 1}, -10, 3},
          {{0, A, 0, 0, A}, {1, 1, 1, 1, 1}, -10, 2},
          {{0, A, 0, 0, A}, {1, 1, 1, 1, 1}, -10, 2},
          {{0, A, 0, 0, A}, {1, 1, 1, 1, 1}, -10, 2},
@@ -67,15 +76,6 @@ static const struct edge edges[] = {
 
 static struct plant plant;
 static struct outcome outcome;
-
-static void fill(const struct edge *e)
-{
-    plant_open(&plant, e->n, e->limit);
-    for (int i = 0; i < e->m; i++)
-        plant_link(&plant, e->ends[i][0], e->ends[i][1]);
-    for (int i = 0; i < e->n; i++)
-        plant.order[i] = e->order[i];
-}
 
 static bool is_answered(int k, const struct step *s)
 {
@@ -113,7 +113,7 @@ static void check(const struct edge *e, struct rng *r)
 {
     static struct answer a;
     int most[MOST + 1];
-    fill(e);
+    plant_fill(&plant, e->n, e->limit, e->m, e->ends, e->order);
     flow_every(&plant, most);
     for (int k = 0; k <= e->n; k++) {
         tally(is_answered(k, &e->after[k]), "%s after %d placings", e->name, k);

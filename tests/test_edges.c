@@ -27,20 +27,11 @@ static const struct edge edges[] = {
     {"a star of four, T = 3", 5, 3, 4, STAR, {0, 1, 2, 3, 4}, {0, 0, 0, 0, ALONE}, {1}, 1},
     {"the same from the other end", 5, 3, 4, STAR, {4, 3, 2, 1, 0}, {0, ALONE, 0, 0, 0}, {1}, 1},
     {"the same with T = 4", 5, 4, 4, STAR, {0, 1, 2, 3, 4}, {0, 0, 0, 0, 0}, {0}, 0},
-    {"the listing's plant", 5, 2, 4, {{0, 2}, {0, 3}, {0, 4}, {1, 2}}, {2, 3, 4, 0, 1}, {0, 1, 1, 0, 0}, {0}, 0},
+    {"the listing's plant", 5, 2, 4, {{0, 2}, {0, 3}, {0, 4}, {1, 2}}, {2, 3, 4, 0, 1}, {0, 2, 2, 0, 0}, {0}, 0},
     {"a ring of five", 5, 2, 5, {{0, 1}, {1, 2}, {2, 3}, {3, 4}, {4, 0}}, {0, 1, 2, 3, 4}, {1, 1, 1, 3, 3}, {0}, 0},
 };
 
 static struct plant plant;
-
-static void fill(const struct edge *e)
-{
-    plant_open(&plant, e->n, e->limit);
-    for (int i = 0; i < e->m; i++)
-        plant_link(&plant, e->ends[i][0], e->ends[i][1]);
-    for (int i = 0; i < e->n; i++)
-        plant.order[i] = e->order[i];
-}
 
 static bool is_answered(const struct edge *e)
 {
@@ -60,10 +51,11 @@ int main(void)
 {
     struct rng r = {3};
     for (size_t i = 0; i < sizeof edges / sizeof edges[0]; i++) {
-        fill(&edges[i]);
-        tally(is_answered(&edges[i]), "%s", edges[i].name);
+        const struct edge *e = &edges[i];
+        plant_fill(&plant, e->n, e->limit, e->m, e->ends, e->order);
+        tally(is_answered(e), "%s", e->name);
         const char *fault = judge_plant(&plant, &r);
-        tally(fault == NULL, "%s: %s", edges[i].name, fault);
+        tally(fault == NULL, "%s: %s", e->name, fault);
     }
     return tally_end();
 }

@@ -59,5 +59,6 @@ int main(void)
     largest_of(&r, "ring");
     largest_of(&r, "deep tree");
     largest_of(&r, "chain of rings");
+    judge_tally_pairs(500);
     return tally_end();
 }

@@ -65,7 +65,7 @@ static void expect_listing(const char *what, int which)
 static const char document_listing[] =
     "gateways 5 limit 2 covered 5\n"
     "lead 0: 3 4\n"
-    "lead 1: 2\n"
+    "lead 2: 1\n"
     "alone:\n"
     "choke:\n";
 
@@ -73,10 +73,7 @@ static void fill_document_plant(void)
 {
     static const int ends[4][2] = {{0, 2}, {0, 3}, {0, 4}, {1, 2}};
     static const int order[5] = {2, 3, 4, 0, 1};
-    plant_open(&plant, 5, 2);
-    for (int i = 0; i < 4; i++)
-        plant_link(&plant, ends[i][0], ends[i][1]);
-    memcpy(plant.order, order, sizeof order);
+    plant_fill(&plant, 5, 2, 4, ends, order);
     len = plant_write(&plant, file);
 }
 
@@ -85,7 +82,23 @@ static void document_plant(const uint8_t *sample, size_t sample_len)
     fill_document_plant();
     tally(len == sample_len && memcmp(file, sample, len) == 0, "the sample is another plant than document 01's");
     store_plant();
-    expect(document_listing, strlen(document_listing), "document 01's listing", 0);
+    expect(document_listing, strlen(document_listing), "the listing of document 01's plant", 0);
+}
+
+/* Two linked gateways under both orders. */
+static void two_linked(void)
+{
+    static const int ends[1][2] = {{0, 1}}, orders[2][2] = {{0, 1}, {1, 0}};
+    static const char *const listings[2] = {
+        "gateways 2 limit 16 covered 2\nlead 0: 1\nalone:\nchoke:\n",
+        "gateways 2 limit 16 covered 2\nlead 1: 0\nalone:\nchoke:\n",
+    };
+    for (int i = 0; i < 2; i++) {
+        plant_fill(&plant, 2, 16, 1, ends, orders[i]);
+        len = plant_write(&plant, file);
+        store_plant();
+        expect(listings[i], strlen(listings[i]), "two linked", i);
+    }
 }
 
 /* Every way in which the document's plant can be cut or a byte of it be changed a little. */
@@ -159,6 +172,7 @@ int main(int argc, char **argv)
     if (chdir(argv[2]) != 0)
         return 2;
     document_plant(sample, sample_len);
+    two_linked();
     refused_files();
     missing_file();
     long_files();

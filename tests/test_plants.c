@@ -47,5 +47,6 @@ int main(void)
     some_of_each(&r, 250, 3, 12);
     some_of_each(&r, 60, 13, 40);
     some_of_each(&r, 12, 41, 120);
+    judge_tally_pairs(5000);
     return tally_end();
 }

@@ -1,8 +1,13 @@
-/* The tests' own means: the flow against every packing there is, and the definition on lists made by hand. */
+/* The tests' own means: the flow against every packing there is, and the definitions on lists made by hand. */
+#include <string.h>
+
 #include "brute.h"
 #include "families.h"
 #include "flow.h"
+#include "groups.h"
 #include "packing.h"
+#include "placing.h"
+#include "reading.h"
 #include "tally.h"
 
 static struct plant plant;
@@ -83,11 +88,88 @@ static void differences_by_hand(void)
     tally(packing_difference(&plant, none) == 5, "the difference without links");
 }
 
+/* Six gateways; 0 to 5 stand at the places 1, 3, 5, 0, 4, 2 of the order. */
+static void pairs_by_hand(void)
+{
+    static const int order[6] = {3, 0, 5, 1, 4, 2};
+    static const struct {
+        int leader[6];
+        bool good;
+        long lower, higher;
+        const char *why;
+    } lists[] = {
+        {{ALONE, ALONE, ALONE, ALONE, ALONE, ALONE}, true, 0, 0, "all alone"},
+        {{0, 0, ALONE, ALONE, ALONE, ALONE}, true, 1, 0, "the lower number first"},
+        {{1, 1, ALONE, ALONE, ALONE, ALONE}, false, 1, 0, "the higher number leads and is later"},
+        {{3, ALONE, ALONE, 3, ALONE, ALONE}, true, 0, 1, "the higher number first"},
+        {{0, ALONE, ALONE, 0, ALONE, ALONE}, false, 0, 1, "the lower number leads and is later"},
+        {{2, 2, 2, ALONE, ALONE, ALONE}, true, 0, 0, "three led by the last of them"},
+        {{0, 0, 5, 3, 3, 5}, true, 2, 1, "three groups of two"},
+        {{0, 0, 2, 3, 3, 2}, false, 2, 1, "one of three led by the later"},
+        {{1, 1, 1, ALONE, 4, 4}, false, 0, 1, "a three, and two led by the later"},
+    };
+    plant_open(&plant, 6, 2);
+    memcpy(plant.order, order, sizeof order);
+    for (size_t i = 0; i < sizeof lists / sizeof lists[0]; i++) {
+        struct pairs_met met = {0, 0};
+        groups_count_pairs(&plant, lists[i].leader, &met);
+        tally(met.lower == lists[i].lower && met.higher == lists[i].higher, "groups of two counted: %s", lists[i].why);
+        tally(groups_pairs_in_order(&plant, lists[i].leader) == lists[i].good, "groups of two in order: %s", lists[i].why);
+    }
+}
+
+static void groups_by_hand(void)
+{
+    static const struct {
+        int a[5], b[5];
+        bool covered, sets, leaders;
+    } lists[] = {
+        {{0, 0, 2, 2, ALONE}, {1, 1, 3, 3, ALONE}, true, true, true},
+        {{0, 0, ALONE, 3, 3}, {0, 0, 2, 2, ALONE}, false, false, true},
+        {{0, 0, 2, 2, ALONE}, {0, 1, 0, 1, ALONE}, true, false, true},
+        {{0, 0, 0, 3, 3}, {0, 0, 0, 4, 4}, true, true, true},
+        {{0, 0, 0, 3, 3}, {1, 1, 1, 3, 3}, true, true, false},
+        {{0, 0, 0, 3, 3}, {0, 0, 2, 2, 2}, true, false, false},
+        {{0, 0, ALONE, ALONE, ALONE}, {ALONE, ALONE, ALONE, ALONE, ALONE}, false, false, true},
+    };
+    for (size_t i = 0; i < sizeof lists / sizeof lists[0]; i++) {
+        const int *a = lists[i].a, *b = lists[i].b;
+        tally(groups_same_covered(5, a, b) == lists[i].covered, "two lists (%zu): who is covered", i);
+        tally(groups_same_sets(5, a, b) == lists[i].sets, "two lists (%zu): the groups", i);
+        tally(groups_same_leaders(5, a, b) == lists[i].leaders, "two lists (%zu): the leaders of three", i);
+    }
+}
+
+/* 1 holds 0, 5 holds 2, 7 holds 6 and 8; 3 and 4 hold each other. */
+static void readings_by_hand(void)
+{
+    static const int holder[9] = {1, NOBODY, 5, 4, 3, NOBODY, 7, NOBODY, 7}, order[9] = {8, 3, 0, 5, 1, 6, 4, 2, 7};
+    static const struct {
+        enum pair_way way;
+        int leader[9];
+    } readings[] = {
+        {EARLIER_LEADS, {0, 0, 5, 3, 3, 5, 7, 7, 7}},
+        {LOWER_LEADS, {0, 0, 2, 3, 3, 2, 7, 7, 7}},
+        {HIGHER_LEADS, {1, 1, 5, 4, 4, 5, 7, 7, 7}},
+        {AS_GROUPED, {1, 1, 5, 3, 3, 5, 7, 7, 7}},
+    };
+    int leader[9];
+    reading_leaders(9, order, holder, leader);
+    tally(memcmp(leader, readings[0].leader, sizeof leader) == 0, "holders read by the rules");
+    for (size_t i = 0; i < sizeof readings / sizeof readings[0]; i++) {
+        reading_leaders_by(readings[i].way, 9, order, holder, leader);
+        tally(memcmp(leader, readings[i].leader, sizeof leader) == 0, "holders read, way %d", (int)readings[i].way);
+    }
+}
+
 int main(void)
 {
     struct rng r = {1};
     packings_by_hand();
     differences_by_hand();
+    pairs_by_hand();
+    groups_by_hand();
+    readings_by_hand();
     for (int n = 0; n <= 4; n++)
         for (int limit = 2; limit <= 4; limit++)
             every_graph(n, limit, &r);

@@ -3,14 +3,18 @@
 #include <string.h>
 
 #include "flow.h"
+#include "groups.h"
 #include "lent.h"
 #include "packing.h"
 #include "placing.h"
 #include "reading.h"
+#include "tally.h"
+
+static struct pairs_met met; /* in all answers that are packings */
 
 static void by_rules(const struct plant *p, const int *holder, struct answer *a)
 {
-    reading_leaders(p->n, holder, a->leader);
+    reading_leaders(p->n, p->order, holder, a->leader);
     placing_choke(p, holder, a->choke);
 }
 
@@ -63,6 +67,9 @@ static const char *fault_of(const struct plant *p, const int *most, int k, const
     int holder[MAX_GATEWAYS];
     if (!packing_is(p, a->leader))
         return "the leader list is no packing";
+    groups_count_pairs(p, a->leader, &met);
+    if (!groups_pairs_in_order(p, a->leader))
+        return "a group of two is led by the one later in the order";
     if (!covers_most(p, most, k, a->leader))
         return "over some first j the flow covers another number";
     if (!left_are_alone(p, most, k, a->leader))
@@ -119,4 +126,11 @@ const char *judge_after(const struct plant *p, const int *most, int k, struct rn
     if (fault == NULL && k == p->n && !is_whole_answer(p, &o))
         fault = "with all placed the bytes are not those of plan_groups";
     return fault;
+}
+
+void judge_tally_pairs(long least)
+{
+    tally(met.lower >= least && met.higher >= least,
+          "only %ld groups of two in which the lower number is the earlier one, and %ld in which the higher is", met.lower,
+          met.higher);
 }

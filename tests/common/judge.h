@@ -14,4 +14,7 @@ const char *judge_plant(const struct plant *p, struct rng *r);
 /* Calls plan_groups_after for k placings; most is what flow_every gives. NULL and the answer, or what is wrong with it. */
 const char *judge_after(const struct plant *p, const int *most, int k, struct rng *r, struct answer *a);
 
+/* One test: so many groups of two were judged in which the lower number is the earlier one, and in which the higher is. */
+void judge_tally_pairs(long least);
+
 #endif

@@ -42,6 +42,15 @@ void plant_link(struct plant *p, int a, int b)
     p->m++;
 }
 
+void plant_fill(struct plant *p, int n, int limit, int m, const int (*ends)[2], const int *order)
+{
+    plant_open(p, n, limit);
+    for (int i = 0; i < m; i++)
+        plant_link(p, ends[i][0], ends[i][1]);
+    for (int i = 0; i < n; i++)
+        p->order[i] = order[i];
+}
+
 size_t plant_write(const struct plant *p, uint8_t *file)
 {
     uint8_t *at = file;

@@ -30,6 +30,9 @@ bool plant_has_link(const struct plant *p, int a, int b);
 /* Appends the link a-b; does nothing where it is none, is there already or finds no room. */
 void plant_link(struct plant *p, int a, int b);
 
+/* n gateways with these m links in that order. */
+void plant_fill(struct plant *p, int n, int limit, int m, const int (*ends)[2], const int *order);
+
 /* Writes the plant's file and returns its length. */
 size_t plant_write(const struct plant *p, uint8_t *file);
 

@@ -7,7 +7,7 @@
 
 struct reading {
     int n;
-    const int *holder;
+    const int *order, *holder;
     bool on_cycle[MAX_GATEWAYS];
     int depth[MAX_GATEWAYS]; /* tree arcs from the root, or from the cycle */
     int *leader;             /* NOBODY where no rule has spoken yet */
@@ -174,22 +174,48 @@ static int only_member(const struct reading *r, int v)
     return count == 1 ? member : NOBODY;
 }
 
-/* Rule 5: in a group of two the lower number leads. */
-static void rule_5(struct reading *r)
+/* Whether a is met before b on the way through the order. */
+static bool is_earlier(const struct reading *r, int a, int b)
+{
+    int i = 0;
+    while (r->order[i] != a && r->order[i] != b)
+        i++;
+    return r->order[i] == a;
+}
+
+/* Whether the way makes the only member lead in place of the leader. */
+static bool changes(const struct reading *r, enum pair_way way, int leader, int member)
+{
+    switch (way) {
+    case EARLIER_LEADS:
+        return is_earlier(r, member, leader);
+    case LOWER_LEADS:
+        return member < leader;
+    case HIGHER_LEADS:
+        return member > leader;
+    case AS_GROUPED:
+        break;
+    }
+    return false;
+}
+
+/* Rule 5: in a group of two the one earlier in the order leads. */
+static void rule_5(struct reading *r, enum pair_way way)
 {
     for (int v = 0; v < r->n; v++) {
         if (!leads(r, v))
             continue;
         int member = only_member(r, v);
-        if (member != NOBODY && member < v)
+        if (member != NOBODY && changes(r, way, v, member))
             group(r, member, v);
     }
 }
 
-void reading_leaders(int n, const int *holder, int *leader)
+void reading_leaders_by(enum pair_way way, int n, const int *order, const int *holder, int *leader)
 {
     static struct reading r;
     r.n = n;
+    r.order = order;
     r.holder = holder;
     r.leader = leader;
     for (int v = 0; v < n; v++) {
@@ -201,5 +227,10 @@ void reading_leaders(int n, const int *holder, int *leader)
     rule_1(&r);
     rule_2(&r);
     rules_3_and_4(&r);
-    rule_5(&r);
+    rule_5(&r, way);
+}
+
+void reading_leaders(int n, const int *order, const int *holder, int *leader)
+{
+    reading_leaders_by(EARLIER_LEADS, n, order, holder, leader);
 }

@@ -1,8 +1,19 @@
-/* Document 01's "Reading", rules 1 to 5, as they are written. */
+/* Document 01's "Reading", rules 1 to 4, and document 02's rule 5 ("Who leads a pair"), as they are written. */
 #ifndef READING_H
 #define READING_H
 
-/* The leader list of any set of holders of n gateways. */
-void reading_leaders(int n, const int *holder, int *leader);
+/* Who leads a group of two. Rule 5 is the first; the others are there to be compared with it. */
+enum pair_way {
+    EARLIER_LEADS, /* the one earlier in the order */
+    LOWER_LEADS,
+    HIGHER_LEADS,
+    AS_GROUPED /* the one that rules 1 to 4 made the leader */
+};
+
+/* The leader list of any set of holders of n gateways in that order. */
+void reading_leaders(int n, const int *order, const int *holder, int *leader);
+
+/* The same with another way in place of rule 5. */
+void reading_leaders_by(enum pair_way way, int n, const int *order, const int *holder, int *leader);
 
 #endif
