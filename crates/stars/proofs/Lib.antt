@@ -21,5 +21,6 @@ pub mod Tables
 pub mod ArcsBack
 pub mod CutArcs
 pub mod RuleOneRounds
+pub mod OrderPass
 pub mod LeaderTables
 pub mod Lent

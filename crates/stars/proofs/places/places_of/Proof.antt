@@ -1,7 +1,7 @@
--- What is written for each gateway is its first place from i on.
+-- For each gateway its first place from i on is written.
 use mathlib.Core.Path.{refl}
 use borrow.Author.Needs.{needs}
-use Rattle.stars.proofs.OrderPlaces.{Passed, pass-start, pass-turn, pass-end}
+use Rattle.stars.proofs.OrderPass.{Passed, pass-start, pass-turn, pass-end}
 use Rattle.stars.proofs.places.places_of.Statement.{statement}
 use Rattle.stars.proofs.places.places_of.Tie as tie
 
