@@ -38,7 +38,7 @@ module _ (n : ℕ) (order : ℕ → ℕ) where
   unfolding placeOf
   place-is v p e = first-least n (λ i. eqb (order i) v) p (e .most) (λ l. eq-eqb (order p) v (e .here l)) (λ j l. ne-eqb (order j) v (e .before j (omega arith) l))
 
-  pub place : (v : ℕ) → FirstFrom 0 n order v (placeOf n order v)
+  place : (v : ℕ) → FirstFrom 0 n order v (placeOf n order v)
   unfolding placeOf
   place v = by-bool (any n stands) stood nowhere
     where
@@ -54,7 +54,7 @@ module _ (n : ℕ) (order : ℕ → ℕ) where
           record { most = omega arith; here = λ k. absurd (omega arith); before = λ j z k. eqb-false (order j) v (any-fails n stands t j k) }
 
   -- the one with the lower place is earlier, ..
-  pub place-earlier : (a b : ℕ) → placeOf n order a < placeOf n order b → Earlier n order a b
+  place-earlier : (a b : ℕ) → placeOf n order a < placeOf n order b → Earlier n order a b
   place-earlier a b l =
       let below : placeOf n order a < n = omega (arith, place b .most) in
       record { place = placeOf n order a; below = below; here = place a .here below; before = λ j k. place b .before j (omega arith) (omega arith) }
@@ -67,7 +67,7 @@ module _ (n : ℕ) (order : ℕ → ℕ) where
       (λ s. let low = ltb-false (e .place) (placeOf n order b) s in absurd (e .before (placeOf n order b) low (place b .here (omega (arith, e .below))))))
 
   -- two with one place stand nowhere
-  pub place-apart : (a b : ℕ) → (b ≡ a → ⊥) → placeOf n order a ≡ placeOf n order b → (i : ℕ) → i < n → (order i ≡ a → ⊥) × (order i ≡ b → ⊥)
+  place-apart : (a b : ℕ) → (b ≡ a → ⊥) → placeOf n order a ≡ placeOf n order b → (i : ℕ) → i < n → (order i ≡ a → ⊥) × (order i ≡ b → ⊥)
   place-apart a b apart same i l =
       let past : placeOf n order a < n → ⊥ = λ k. apart (sym (place b .here (rw same at k)) ∙ rw (← same) (place a .here k)) in
       (λ e. absurd (nowhere a past e), λ e. absurd (nowhere b (λ k. past (rw same k)) e))

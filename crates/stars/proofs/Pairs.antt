@@ -10,14 +10,14 @@ use borrow.Author.Tests.{eqb-true, eqb-false, ltb-true, ltb-false}
 use Rattle.packing.specs.Count.{count}
 use Rattle.packing.specs.Plant.{NONE, at}
 use Rattle.packing.specs.Grouping.{memberCount, covered}
-use Rattle.packing.specs.Pairs.{Two, Earlier, EarlierLeads, SameGroups}
+use Rattle.packing.specs.Pairs.{Two, EarlierLeads, SameGroups}
 use Rattle.packing.specs.Choke.{ChokeDifference}
 use Rattle.packing.proofs.Tests.{by-bool}
 use Rattle.packing.proofs.Sums.{count-ext}
 use Rattle.packing.proofs.Prefixes.{Among}
 use Rattle.stars.specs.Stars.{leaderOf, notLater, pairLeader, partner, placeOf, ruleFive, leaderListBy, leaderList}
 use Rattle.stars.specs.Rules.{WhoeverLeads}
-use Rattle.stars.proofs.OrderPlaces.{not-later-means, later-means, place-earlier, place-apart}
+use Rattle.stars.proofs.OrderPlaces.{not-later-means, later-means, earlier-place, who-cases}
 use Rattle.stars.proofs.RuleFive.{partner-only, five-pair, five-keeps, five-past, five-entry, ruleFive-covered, five-members, five-together}
 use Rattle.stars.proofs.Groups.{leaderOf-own}
 
@@ -87,10 +87,5 @@ module _ (n : ℕ) (os hs : List ℕ) (few : n ≤ NONE) where
   pub earlier-leads : ((v : ℕ) → v < n → Among (at os) n v) → EarlierLeads n (at os) (leaderList n os hs)
   unfolding EarlierLeads
   earlier-leads stands u w t =
-      by-bool (ltb (placeOf n (at os) u) (placeOf n (at os) w)) (λ e. place-earlier n (at os) u w (ltb-true (placeOf n (at os) u) (placeOf n (at os) w) e)) level
-    where
-      level : ltb (placeOf n (at os) u) (placeOf n (at os) w) ≡ false → Earlier n (at os) u w
-      level e =
-          let (i, l, here) = stands u (t .leader) in
-          let same : placeOf n (at os) u ≡ placeOf n (at os) w = omega (arith, leader-first u w t, ltb-false (placeOf n (at os) u) (placeOf n (at os) w) e) in
-          absurd (place-apart n (at os) u w (t .apart) same i l .0 here)
+      who-cases n (at os) u w (t .apart) (λ e. e) (λ e. absurd (omega (arith, leader-first u w t, earlier-place n (at os) e)))
+      (λ neither. let (i, l, here) = stands u (t .leader) in absurd (neither i l .0 here))
