@@ -1,6 +1,6 @@
 -- The claims of specs/Claims.antt.
 use Prim.Native.Nat.{ℕ, _<_, _≤_}
-use mathlib.Core.Path.{_≡_, sym, ap, subst, _∙_}
+use mathlib.Core.Path.{_≡_, refl, sym, ap, subst, _∙_}
 use mathlib.Core.Bool.{not}
 use mathlib.Core.List.{List}
 use native.Mathlib.Omega.{arith}
@@ -15,11 +15,10 @@ use Rattle.packing.specs.SoFar.{SoFar}
 use Rattle.packing.proofs.Sums.{count-ext}
 use Rattle.packing.proofs.Counting.{pick-test}
 use Rattle.packing.proofs.Lists.{listed-at}
-use Rattle.packing.proofs.Prefixes.{IsOrder, order-place, order-whole}
+use Rattle.packing.proofs.Prefixes.{IsOrder, order-whole}
 use Rattle.packing.proofs.SoFar.{all-placed, so-far-below}
 use Rattle.packing.proofs.Below.{difference-below, difference-limits, leads-below}
 use Rattle.stars.specs.Stars.{leaderList}
-use Rattle.stars.proofs.Pairs.{earlier-leads}
 use Rattle.search.specs.ChokeSet.{inChoke, chokeByte}
 use Rattle.planner.specs.State.{State, limitOf}
 use Rattle.planner.specs.Calls.{Call, order, read, callRefusal, call, readLeaders, readChoke}
@@ -27,6 +26,8 @@ use Rattle.planner.specs.Told.{Told, beginning, refuses}
 use Rattle.planner.specs.Claims.{toldBy, madeBy, leadersRead, chokeRead, GroupingTold, SameNumbers, OnceRead, DemandThree, DemandThreeOf, MostCovered, MostCoveredOf, DemandTwo, DemandTwoOf, AnyRead, SoFarRead, ReadAnyTime, EarlierLeadsRead, EarlierLeadsPairs}
 use Rattle.planner.proofs.Tells.{onward}
 use Rattle.planner.proofs.Agree.{Agrees, stateTold, by-told, same-number, same-numbers, run-agrees, open-agrees}
+use Rattle.planner.specs.Records.{ReadEarlierLeads}
+use Rattle.planner.proofs.Records.{read-earlier-leads}
 use Rattle.planner.proofs.Optimal.{made-so-far, choke-unheld}
 
 pub same-numbers-told : SameNumbers
@@ -72,10 +73,10 @@ module _ (p : Told) (ls os hs : List ℕ) (a : Agrees p (stateTold p ls os hs)) 
   read-so-far = so-far-below (a .made .sound .placed) (a .made .sound .order .below) (a .limits) (a .order) leaders-are (rw (a .links) at (made-so-far (a .made)))
 
   pub read-earlier : EarlierLeadsRead (p .n) p (stateTold p ls os hs) leaders choke
+  unfolding ReadEarlierLeads call
   read-earlier =
-      let sound = a .made .sound in
-      leads-below (p .n) (at os) (at (p .order)) (leaderList (p .n) os hs) (leadersRead (stateTold p ls os hs) leaders choke) (a .order) leaders-are
-      (earlier-leads (p .n) os hs (omega (arith, sound .few)) (order-place (sound .order)))
+      leads-below (p .n) (at os) (at (p .order)) (leadersRead (stateTold p ls os hs) leaders choke) (leadersRead (stateTold p ls os hs) leaders choke) (a .order) (λ v l. refl)
+      (read-earlier-leads (stateTold p ls os hs) leaders choke accepts)
 
   module _ (full : p .placed ≡ p .n) where
     read-all : SoFar (p .n) (p .limit) (linked (p .links)) (at (p .order)) (p .n) (at hs) (leadersRead (stateTold p ls os hs) leaders choke)

@@ -12,7 +12,8 @@ use Rattle.packing.specs.Orders.{upTo}
 use Rattle.packing.specs.Plant.{NONE, at}
 use Rattle.packing.specs.Refusals.{byNumber}
 use Rattle.packing.specs.Pairs.{SameGroups}
-use Rattle.packing.proofs.Below.{same-itself, same-below}
+use Rattle.packing.proofs.Below.{leads-below, same-itself, same-below}
+use Rattle.packing.proofs.Prefixes.{order-place}
 use Rattle.packing.proofs.Lists.{listOf-length, written-at, written-past, listed-at}
 use Rattle.packing.proofs.Refusals.{refuse-none, refused}
 use Rattle.search.proofs.Placing.{placed-past}
@@ -21,11 +22,12 @@ use Rattle.sound.proofs.Facts.{sound-means-facts}
 use Rattle.sound.proofs.Meaning.{sound-means}
 use Rattle.stars.specs.Stars.{leaderListBy, leaderList}
 use Rattle.stars.specs.Rules.{WhoeverLeads}
-use Rattle.stars.proofs.Pairs.{whoever-leads}
+use Rattle.stars.proofs.Pairs.{whoever-leads, earlier-leads}
 use Rattle.search.specs.ChokeSet.{chokeByte}
 use Rattle.planner.specs.State.{State, stateOf, linksOf, limitOf, soundState}
 use Rattle.planner.specs.Calls.{smallOpened, opened, openCall, Call, link, order, place, read, conditions, callRefusal, changed, call, readLeaders, readChoke}
-use Rattle.planner.specs.Records.{OpenGives, OpenRefused, LinkGives, OrderGives, PlaceGives, ReadGives, RefusedUnchanged, ReadRefused, Past, PastUnchanged, ReadPast, HeldCovered, ReadWrites, readLeadersBy, ReadWhoeverLeads, ReadAnyOrder}
+use Rattle.planner.specs.Records.{OpenGives, OpenRefused, LinkGives, OrderGives, PlaceGives, ReadGives, RefusedUnchanged, ReadRefused, Past, PastUnchanged, ReadPast, HeldCovered, ReadWrites, ReadEarlierLeads, readLeadersBy, ReadWhoeverLeads, ReadAnyOrder}
+use Rattle.planner.specs.Turns.{SoundFacts}
 use Rattle.planner.proofs.Conditions.{link-allowed, order-allowed, place-allowed}
 use Rattle.planner.proofs.Next.{SoundState, next-placeable}
 use Rattle.planner.proofs.Optimal.{sound-grouping, leaders-cover}
@@ -138,11 +140,14 @@ unfolding ReadPast readLeaders readChoke
 read-past s leaders choke =
     (part-past (callRefusal s (read leaders choke)) (s .small .n) _ leaders (listOf-length _ _), part-past (callRefusal s (read leaders choke)) (s .small .n) _ choke (listOf-length _ _))
 
+-- the facts of a sound record, as its calls use them
+facts-sound : (s : State) → SoundFacts s → SoundState s
+unfolding SoundMeans
+facts-sound s f = sound-means _ _ _ _ _ _ _ (sound-means-facts (s .small .n) (s .small .t) (s .small .m) (s .small .k) (s .links) (s .order) (s .holders) .1 f)
+
 pub held-covered : HeldCovered
-unfolding HeldCovered SoundMeans
-held-covered s f =
-    let sound : SoundState s = sound-means _ _ _ _ _ _ _ (sound-means-facts (s .small .n) (s .small .t) (s .small .m) (s .small .k) (s .links) (s .order) (s .holders) .1 f) in
-    (sound-grouping sound, leaders-cover sound)
+unfolding HeldCovered
+held-covered s f = let sound = facts-sound s f in (sound-grouping sound, leaders-cover sound)
 
 pub read-writes : ReadWrites
 unfolding ReadWrites SoundMeans call callRefusal soundState readLeaders readChoke
@@ -152,6 +157,14 @@ read-writes s leaders choke z =
       λ v l. rw z (listed-at (s .small .n) (leaderList (s .small .n) (s .order) (s .holders)) leaders v l),
       λ v l. rw z (listed-at (s .small .n) (chokeByte (s .small .n) (linksOf s) (s .holders)) choke v l),
     )
+
+pub read-earlier-leads : ReadEarlierLeads
+unfolding ReadEarlierLeads ReadWrites
+read-earlier-leads s leaders choke z =
+    let (facts, writes, _) = read-writes s leaders choke z in
+    let sound = facts-sound s facts in
+    leads-below (s .small .n) (at (s .order)) (at (s .order)) (leaderList (s .small .n) (s .order) (s .holders)) (at (readLeaders s leaders choke)) (λ i l. refl) (λ v l. sym (writes v l))
+    (earlier-leads (s .small .n) (s .order) (s .holders) (omega (arith, sound .few)) (order-place (sound .order)))
 
 -- the groups of the lists that two ways to decide who leads a pair write
 written-groups : (leadsPair other : ℕ → ℕ → Bool) (n : ℕ) (hs leaders : List ℕ) → n ≤ NONE

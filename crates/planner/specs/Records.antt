@@ -8,7 +8,7 @@ use Rattle.packing.specs.Lists.{listOf, written}
 use Rattle.packing.specs.Plant.{at, linked}
 use Rattle.packing.specs.Refusals.{byNumber}
 use Rattle.packing.specs.Grouping.{Grouping, covered}
-use Rattle.packing.specs.Pairs.{SameGroups}
+use Rattle.packing.specs.Pairs.{EarlierLeads, SameGroups}
 use Rattle.packing.specs.Holders.{held}
 use Rattle.stars.specs.Stars.{leaderListBy, placeOf, notLater, leaderList}
 use Rattle.search.specs.ChokeSet.{chokeByte}
@@ -115,7 +115,13 @@ ReadWrites =
     × ((v : ℕ) → v < s .small .n → at (readLeaders s leaders choke) v ≡ leaderList (s .small .n) (s .order) (s .holders) v)
     × ((v : ℕ) → v < s .small .n → at (readChoke s leaders choke) v ≡ chokeByte (s .small .n) (linksOf s) (s .holders) v)
 
--- 02, change 2: "covered sets and choke sets are the same as before". What read writes with any way to decide who leads a pair; with `ltb`, the lower number, it is what read wrote before that change.
+-- 02, change 2: "In a group of two the one earlier in the order now leads": in what an accepted read writes, by the record's order, however the record was made
+unfoldable pub ReadEarlierLeads : Type 0
+ReadEarlierLeads =
+    (s : State) (leaders choke : List ℕ) → call s (read leaders choke) .refusal ≡ 0
+    → EarlierLeads (s .small .n) (at (s .order)) (at (readLeaders s leaders choke))
+
+-- .. "covered sets and choke sets are the same as before". What read writes with any way to decide who leads a pair; with `ltb`, the lower number, it is what read wrote before that change.
 unfoldable pub readLeadersBy : (ℕ → ℕ → Bool) → State → List ℕ → List ℕ → List ℕ
 readLeadersBy leadsPair s leaders choke =
     byNumber (callRefusal s (read leaders choke)) (written (s .small .n) (listOf (s .small .n) (leaderListBy leadsPair (s .small .n) (s .holders))) leaders) leaders
