@@ -18,7 +18,8 @@ same-length c = search needs
 
 returns : tie.Need-returns
 returns c = let filled = c .before .before .before .before .before in
-    list-joined _ _ _ _ (filled .groups-of .ensures) (c .before .before .write-list .ensures)
+    let lent = filled .before .before .before .before .args in
+    list-joined _ (lent .order .now) (lent .holders .now) _ (filled .groups-of .ensures) (c .before .before .write-list .ensures)
 
 pub write-leaders-spec : {M : Type 1} → statement M
 write-leaders-spec = tie.close (tie.spec groups-of-requires slice-aggregate-write-list write-list-requires same-length returns)
