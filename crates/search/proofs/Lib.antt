@@ -2,8 +2,11 @@
 -- Laws of the choke set: of the lists and the loops that write them (Unheld, Seen), and of the walk itself. Tested has what the public calls test.
 pub mod Examples
 pub mod Queue
+pub mod Ascending
 pub mod States
-pub mod Loads
+pub mod Rows
+pub mod Gathering
+pub mod Joining
 pub mod Turns
 pub mod Reach
 pub mod Shifting
@@ -13,7 +16,6 @@ pub mod Repeats
 pub mod Twice
 pub mod Limits
 pub mod Unheld
-pub mod Ascending
 pub mod Seen
 pub mod ChokeLaws
 pub mod ChokeExamples

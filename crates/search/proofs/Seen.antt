@@ -13,10 +13,12 @@ use Rattle.packing.specs.Plant.{NONE, GATEWAYS, at, common}
 use Rattle.search.specs.Search.{Search, seen, walk}
 use Rattle.search.specs.declared.Walked.{Walked}
 use Rattle.search.specs.declared.Walked.the-variants.{Found, RanOut}
-use Rattle.search.specs.Pre.{asSearch, Is, Walkable}
+use Rattle.search.specs.Table.{heldTable}
+use Rattle.search.specs.Pre.{ForSome, ForEach, asSearch, Is, Walkable}
 use Rattle.search.specs.ChokeSet.{withoutHolder, chokeWalk, seenIn, walkSaw, inChoke, chokeByte}
 use Rattle.search.specs.ChokePre.{Queued, Workable, seenByte}
 use Rattle.packing.proofs.Lists.{listOf-ext, zero-at}
+use Rattle.sound.proofs.Searchable.{Searchable}
 use Rattle.search.proofs.Turns.{workspace}
 use Rattle.search.proofs.Unheld.{unheld-startable}
 
@@ -42,16 +44,18 @@ zero-limits : at (replicate GATEWAYS 0) ≡ common 0
 unfolding common
 zero-limits = fun-ext (λ u. zero-at GATEWAYS u)
 
-module _ {n : ℕ} {hs queue from out queue' : List ℕ} {tail : ℕ} (w : Workable n hs queue from out) (q : Queued n hs queue' tail) where
+module _ {n : ℕ} {rows : List (List ℕ)} {hs queue from out queue' : List ℕ} {tail : ℕ} (w : Workable n rows hs queue from out) (q : Queued n hs queue' tail) where
   -- the gateways without holder may be walked from
-  pub set-walkable : length queue' ≡ length queue → Walkable n hs queue' tail from
+  set-walkable : length queue' ≡ length queue → Walkable n hs queue' tail from
   set-walkable same =
       record {
         start = rw (q .state) (unheld-startable n hs (w .lent .few));
-        holders = w .lent .entries;
         within = q .within;
         space = record { places = omega (arith, w .space .places); unseen = w .space .unseen };
       }
+
+  pub set-some : length queue' ≡ length queue → ForSome rows (λ k l. Walkable k l queue' tail from)
+  set-some same = record { n = n; hs = hs; table = w .table; has = set-walkable same }
 
   -- the marks keep their number, which is n
   marks-long : {m : ℕ} → m ≡ length from → m ≡ n
@@ -62,10 +66,12 @@ module _ {n : ℕ} {hs queue from out queue' : List ℕ} {tail : ℕ} (w : Worka
   set-places same = omega (arith, marks-long same, w .lent .places)
 
   -- the bytes of those seen in a walk with limits of 0 are the choke bytes
-  pub set-written : (limits ls : List ℕ) {r : Walked} {queue'' from' new : List ℕ} → Is r queue'' from' (walk n (at limits) ls hs (take tail queue')) → limits ≡ replicate GATEWAYS 0
-      → length from' ≡ length from → new ≡ written (length from') (listOf (length from') (seenByte from')) out → new ≡ written n (listOf n (chokeByte n ls hs)) out
+  pub set-written : (limits ls : List ℕ) {r : Walked} {queue'' from' new : List ℕ}
+      → ForEach rows (λ k l. Walkable k l queue' tail from) (λ k l. Is r queue'' from' (walk k (at limits) ls l (take tail queue'))) → limits ≡ replicate GATEWAYS 0
+      → length queue' ≡ length queue → length from' ≡ length from → new ≡ written (length from') (listOf (length from') (seenByte from')) out → new ≡ written n (listOf n (chokeByte n ls hs)) out
   unfolding chokeByte inChoke walkSaw chokeWalk seenByte
-  set-written limits ls {r} {queue''} {from'} d none same e =
+  set-written limits ls {r} {queue''} {from'} each none long same e =
+      let d = each n hs (w .table) (set-walkable long) in
       (rw (marks-long same) at e)
       ∙ ap (λ (l : List ℕ). written n l out)
       (listOf-ext n (seenByte from') (chokeByte n ls hs) (λ v l. ap (λ (b : Bool). pick b 1) (walked-seen r queue'' from' (d .state ∙ same-walk) v)))
@@ -73,6 +79,12 @@ module _ {n : ℕ} {hs queue from out queue' : List ℕ} {tail : ℕ} (w : Worka
       same-walk : walk n (at limits) ls hs (take tail queue') ≡ walk n (common 0) ls hs (withoutHolder n hs)
       same-walk = rw (none, q .state) (ap (λ (limit : ℕ → ℕ). walk n limit ls hs (withoutHolder n hs)) zero-limits)
 
--- the arrays to work in
-pub lent-workable : {n : ℕ} {hs out queue all : List ℕ} → queue ≡ replicate GATEWAYS 0 → all ≡ replicate GATEWAYS NONE → Lent n hs out → Workable n hs queue (take n all) out
-lent-workable zeros unseen l = record { lent = l; space = workspace unseen zeros (l .few) }
+-- the table, and the arrays to work in
+pub searchable-workable : {n : ℕ} {hs out queue all : List ℕ} {rows : List (List ℕ)} → queue ≡ replicate GATEWAYS 0 → all ≡ replicate GATEWAYS NONE → rows ≡ heldTable n hs → Searchable n hs → n ≤ length out
+    → Workable n rows hs queue (take n all) out
+searchable-workable zeros unseen table s room =
+    record {
+      lent = record { few = s .few; entries = s .holders; places = room };
+      table = record { is = table; within = s .within };
+      space = workspace unseen zeros (s .few);
+    }

@@ -93,12 +93,9 @@ pub choke-written : (n : ℕ) (ls hs out : List ℕ) → chokeable n hs (length 
 unfolding chokeWritten
 choke-written n ls hs out e = rw e
 
-pub choke-few : (n : ℕ) (hs : List ℕ) (room : ℕ) {b : Bool} → b ≡ chokeable n hs room → not b ≡ false → n ≤ GATEWAYS
-choke-few n hs room {b} e t = chokeable-means n hs room (sym e ∙ not-false b t) .0 .few
-
 module _ (n : ℕ) (hs out : List ℕ) {b : Bool} (e : b ≡ chokeable n hs (length out)) where
-  pub choke-lent : not b ≡ false → Lent n hs out
-  choke-lent t = let (s, room) = chokeable-means n hs (length out) (sym e ∙ not-false b t) in record { few = s .few; entries = s .holders; places = room }
+  pub choke-may : not b ≡ false → Searchable n hs × (n ≤ length out)
+  choke-may t = chokeable-means n hs (length out) (sym e ∙ not-false b t)
 
   pub choke-refuses : (ls : List ℕ) → not b ≡ true → (false ≡ chokeable n hs (length out)) × (out ≡ chokeWritten n ls hs out)
   unfolding chokeWritten

@@ -1,7 +1,7 @@
 -- The loops over a gateway's links and over the queue: the invariant of each, its turns, and its end.
 use Prim.Native.Nat.{ℕ, zero, suc, _+_, _-_, _<_, _≤_}
 use mathlib.Core.Path.{_≡_, refl, sym, ap, _∙_}
-use mathlib.Core.Bool.{true, false, cond}
+use mathlib.Core.Bool.{Bool, true, false, cond}
 use mathlib.Core.List.{List, [], _∷_}
 use native.Mathlib.Nat.{sub-zero}
 use native.Mathlib.Numerals.{add-one}
@@ -9,17 +9,19 @@ use native.Mathlib.Omega.{arith}
 use lib.Dec.{eqb}
 use lib.ListN.{length, set, take, drop, replicate, length-set, length-replicate, List·getD-eq-default}
 use lib.Seq.{length-take-le, getD-take}
-use borrow.Author.Tests.{eq-eqb, ne-eqb}
+use borrow.Author.Tests.{eq-eqb, ne-eqb, ltb-true, ltb-false}
 use Rattle.packing.specs.Plant.{NONE, GATEWAYS, at, neighbours}
-use Rattle.packing.specs.Count.{count}
 use Rattle.packing.specs.Holders.{holds}
 use Rattle.packing.proofs.Tests.{by-bool, not-i, not-i-false}
 use Rattle.packing.proofs.Flat.{pair-at, pair-end}
 use Rattle.search.specs.Search.{Search, found, more, seen, look, visit, turns, walk, shift, settled, placedHolders}
 use Rattle.search.specs.declared.Walked.{Walked}
 use Rattle.search.specs.declared.Walked.the-variants.{Found, RanOut}
-use Rattle.search.specs.Pre.{asSearch, queued, Is, Going, Ready, Joinable, Joined, Workspace, Walkable, Placeable, Settleable}
-use Rattle.search.proofs.States.{look-seen, look-free, look-full, look-going, going-room, going-start, visit-found, visit-going, turns-found, turns-out, turns-step, placeable-startable}
+use Rattle.search.specs.Table.{heldTable, rowAt}
+use Rattle.search.specs.Pre.{TableOf, ForSome, ForEach, asSearch, queued, Is, Going, Ready, rowHasPlace, Joinable, Joined, Workspace, Walkable, Placeable, Settleable}
+use Rattle.search.proofs.Queue.{heldBy-length}
+use Rattle.search.proofs.Rows.{take-replicate, table-holds, table-place}
+use Rattle.search.proofs.States.{unseen-below, look-seen, look-free, look-full, look-going, going-room, going-start, visit-found, visit-going, turns-found, turns-out, turns-step, placeable-startable}
 
 -- a state read from a result and the lent lists
 found-state : {u x : ℕ} {queue from : List ℕ} {s : Search} → Is (Found u x) queue from s → s ≡ found u x from
@@ -42,33 +44,47 @@ more-is : {tail : ℕ} {queue from : List ℕ} {s : Search} → s ≡ more (take
 unfolding asSearch queued
 more-is e l = record { state = sym e; within = l }
 
--- The three ways of a look. The lent list of marks is from' once u is marked, k is u's entry, and t is u's limit.
-module _ (n : ℕ) (limit : ℕ → ℕ) (x u : ℕ) (hs queue : List ℕ) (tail : ℕ) (from : List ℕ) (r : Ready n x hs queue tail from) where
-  unseen : {k : ℕ} → k ≡ at from u → k ≡ NONE → seen from u ≡ false
-  unseen e none = not-i-false _ (eq-eqb (at from u) NONE (sym e ∙ none))
+-- What holds of some holders that the table is of holds of some.
+pub some-then : {rows : List (List ℕ)} {Has Gives : ℕ → List ℕ → Type 0} → ForSome rows Has → ForEach rows Has Gives → ForSome rows Gives
+some-then s each = record { n = s .n; hs = s .hs; table = s .table; has = each (s .n) (s .hs) (s .table) (s .has) }
 
-  pub look-is-seen : {k : ℕ} → k ≡ at from u → (k ≡ NONE → ⊥) → Is (RanOut tail) queue from (look n limit hs x u (take tail queue) from)
-  look-is-seen e some = more-is (look-seen n limit hs x u (take tail queue) from (not-i _ (ne-eqb (at from u) NONE (λ q. some (e ∙ q))))) (r .within)
+-- The three ways of a look. The lent list of marks is from' once u is marked, k is u's entry, t is u's limit, and b says whether its row has a place.
+module _
+    {n : ℕ} (limit : ℕ → ℕ) {x : ℕ} (u : ℕ) {hs : List ℕ} {rows : List (List ℕ)} {queue : List ℕ} {tail : ℕ} {from : List ℕ} (h : TableOf n hs rows)
+    (r : Ready n x hs queue tail from)
+  where
+    pub look-is-seen : {k : ℕ} → k ≡ at from u → (k ≡ NONE → ⊥) → Is (RanOut tail) queue from (look n limit hs x u (take tail queue) from)
+    look-is-seen e some = more-is (look-seen n limit hs x u (take tail queue) from (not-i _ (ne-eqb (at from u) NONE (λ q. some (e ∙ q))))) (r .within)
 
-  pub look-is-free : {k load t : ℕ} {from' : List ℕ} → k ≡ at from u → k ≡ NONE → from' ≡ set from u x → load ≡ count n (λ w. eqb (at hs w) u) → t ≡ limit u → load < t
-      → Is (Found u x) queue from' (look n limit hs x u (take tail queue) from)
-  unfolding holds
-  look-is-free e none mark load most less =
-      found-is (look-free n limit hs x u (take tail queue) from (unseen e none) (omega (arith, load, most)) ∙ ap (found u x) (sym mark))
+    module _ {k : ℕ} (e : k ≡ at from u) (none : k ≡ NONE) where
+      unseen : seen from u ≡ false
+      unseen = not-i-false _ (eq-eqb (at from u) NONE (sym e ∙ none))
 
-  pub look-joins : {k : ℕ} → k ≡ at from u → k ≡ NONE → Joinable n u hs queue tail
-  look-joins e none =
-      record {
-        few = r .going .few;
-        holders = r .holders;
-        room = omega (arith, r .places, length-take-le tail queue (r .within), going-room (r .going) u x (r .gateway) (unseen e none));
-      }
+      below : u < n
+      below = unseen-below from u (r .going .marks) unseen
 
-  pub look-is-full : {k load t tail' : ℕ} {queue' from' : List ℕ} → k ≡ at from u → k ≡ NONE → from' ≡ set from u x → load ≡ count n (λ w. eqb (at hs w) u) → t ≡ limit u → t ≤ load
-      → Joined n u hs queue queue' tail tail' → Is (RanOut tail') queue' from' (look n limit hs x u (take tail queue) from)
-  unfolding holds
-  look-is-full e none mark load most less j =
-      more-is (look-full n limit hs x u (take tail queue) from (unseen e none) (omega (arith, load, most)) ∙ rw (j .state, mark)) (j .within)
+      -- u has a row, ..
+      pub look-row : u < GATEWAYS
+      look-row = omega (arith, r .going .few, below)
+
+      -- .. and what stands in it finds room in the queue
+      pub look-joins : Joinable (rowAt rows u) queue tail
+      unfolding Joinable
+      look-joins =
+          rw (table-holds h (r .going .few) below)
+          (omega (arith, r .places, length-take-le tail queue (r .within), heldBy-length n hs u, going-room (r .going) u x (r .gateway) unseen))
+
+      pub look-is-free : {t : ℕ} {b : Bool} {from' : List ℕ} → from' ≡ set from u x → t ≡ limit u → b ≡ rowHasPlace (rowAt rows u) t → b ≡ true
+          → Is (Found u x) queue from' (look n limit hs x u (take tail queue) from)
+      look-is-free {t} mark most place yes' =
+          let less : holds n (at hs) u < t = ltb-true _ _ (sym (table-place h (r .going .few) below t) ∙ sym place ∙ yes') in
+          found-is (look-free n limit hs x u (take tail queue) from unseen (omega arith) ∙ ap (found u x) (sym mark))
+
+      pub look-is-full : {t tail' : ℕ} {b : Bool} {queue' from' : List ℕ} → from' ≡ set from u x → t ≡ limit u → b ≡ rowHasPlace (rowAt rows u) t → b ≡ false
+          → Joined (rowAt rows u) queue queue' tail tail' → Is (RanOut tail') queue' from' (look n limit hs x u (take tail queue) from)
+      look-is-full {t} mark most place no' j =
+          let full : t ≤ holds n (at hs) u = ltb-false _ _ (sym (table-place h (r .going .few) below t) ∙ sym place ∙ no') in
+          more-is (look-full n limit hs x u (take tail queue) from unseen (omega arith) ∙ rw (j .state, mark, table-holds h (r .going .few) below)) (j .within)
 
 -- one link: a look at its other end, where NONE stands for a link that x is no end of
 link-visit : (n : ℕ) (limit : ℕ → ℕ) (hs : List ℕ) (x a b : ℕ) (rest queue from : List ℕ) {u : ℕ} → length from ≤ GATEWAYS → u ≡ cond (eqb a x) b (cond (eqb b x) a NONE)
@@ -117,7 +133,6 @@ module _ (n : ℕ) (limit : ℕ → ℕ) (x : ℕ) (ls hs queue₀ : List ℕ) (
             ready = record {
               going = look-going limit (v .ready .going) u x (v .ready .gateway) same;
               gateway = v .ready .gateway;
-              holders = v .ready .holders;
               places = omega (arith, v .ready .places, long .0);
               within = more-within is;
             };
@@ -138,7 +153,6 @@ module _ (n : ℕ) (limit : ℕ → ℕ) (x : ℕ) (ls hs queue₀ : List ℕ) (
 -- what the turns from head on give is what the walk gives
 pub record Walking (n : ℕ) (limit : ℕ → ℕ) (ls hs queue₀ : List ℕ) (tail : ℕ) (from₀ queue from : List ℕ) (end head : ℕ) : Type 0 where
   pub going : Going n hs (take end queue) from
-  pub holders : n ≤ length hs
   pub places : n ≤ length queue
   pub within : end ≤ length queue
   pub same : (length queue ≡ length queue₀) × (length from ≡ length from₀)
@@ -150,7 +164,6 @@ module _ (n : ℕ) (limit : ℕ → ℕ) (ls hs queue₀ : List ℕ) (tail : ℕ
   walk-start w =
       record {
         going = rw (w .space .unseen) (going-start (w .start));
-        holders = w .holders;
         places = w .space .places;
         within = w .within;
         same = (refl, refl);
@@ -171,7 +184,7 @@ module _ (n : ℕ) (limit : ℕ → ℕ) (ls hs queue₀ : List ℕ) (tail : ℕ
     -- the gateway at the head looks at its neighbours
     pub walk-ready : Ready n (at queue head) hs queue end from
     walk-ready =
-        record { going = v .going; gateway = rw here at (v .going .below head (rw long l)); holders = v .holders; places = v .places; within = v .within }
+        record { going = v .going; gateway = rw here at (v .going .below head (rw long l)); places = v .places; within = v .within }
 
     module _
         {queue' from' : List ℕ} {w : Walked} (d : Is w queue' from' (visit n limit hs (at queue head) (neighbours ls (at queue head)) (more (take end queue) from)))
@@ -191,7 +204,6 @@ module _ (n : ℕ) (limit : ℕ → ℕ) (ls hs queue₀ : List ℕ) (tail : ℕ
             let same = more-state is in
             record {
               going = visit-going limit (at queue head) (neighbours ls (at queue head)) (v .going) (walk-ready .gateway) same;
-              holders = v .holders;
               places = omega (arith, v .places, long' .0);
               within = more-within is;
               same = (long' .0 ∙ v .same .0, long' .1 ∙ v .same .1);
@@ -213,21 +225,28 @@ first-set : (l : List ℕ) (v : ℕ) → 1 ≤ length l → take 1 (set l 0 v) �
 first-set [] v h = absurd (omega arith)
 first-set (a ∷ l) v h = refl
 
-pub settle-walkable : {n : ℕ} {hs : List ℕ} {v : ℕ} {queue from : List ℕ} → Settleable n hs v queue from → Walkable n hs (set queue 0 v) 1 from
-settle-walkable {n} {hs} {v} {queue} s =
-    record {
-      start = rw (first-set queue v (omega (arith, s .space .places, s .free .inside))) (placeable-startable (s .free));
-      holders = s .free .holders;
-      within = rw length-set (omega (arith, s .space .places, s .free .inside));
-      space = record { places = rw length-set (s .space .places); unseen = s .space .unseen };
-    }
+module _ {n : ℕ} {hs : List ℕ} {v : ℕ} {rows : List (List ℕ)} {queue from : List ℕ} (s : Settleable n hs v rows queue from) where
+  pub settle-table : TableOf n hs rows
+  settle-table = record { is = s .table; within = s .free .within }
+
+  pub settle-walkable : Walkable n hs (set queue 0 v) 1 from
+  settle-walkable =
+      record {
+        start = rw (first-set queue v (omega (arith, s .space .places, s .free .inside))) (placeable-startable (s .free));
+        within = rw length-set (omega (arith, s .space .places, s .free .inside));
+        space = record { places = rw length-set (s .space .places); unseen = s .space .unseen };
+      }
+
+  pub settle-some : ForSome rows (λ k l. Walkable k l (set queue 0 v) 1 from)
+  settle-some = record { n = n; hs = hs; table = settle-table; has = settle-walkable }
 
 module _
-    (n : ℕ) (limit : ℕ → ℕ) (ls hs : List ℕ) (v : ℕ) {queue from queue' from' : List ℕ} {w : Walked} (s : Settleable n hs v queue from)
-    (d : Is w queue' from' (walk n limit ls hs (take 1 (set queue 0 v))))
+    {n : ℕ} (limit : ℕ → ℕ) (ls : List ℕ) {hs : List ℕ} {v : ℕ} {rows : List (List ℕ)} {queue from queue' from' : List ℕ} {w : Walked}
+    (s : Settleable n hs v rows queue from)
+    (d : ForEach rows (λ k l. Walkable k l (set queue 0 v) 1 from) (λ k l. Is w queue' from' (walk k limit ls l (take 1 (set queue 0 v)))))
   where
     walked : Is w queue' from' (walk n limit ls hs (v ∷ []))
-    walked = rw (first-set queue v (omega (arith, s .space .places, s .free .inside))) at d
+    walked = rw (first-set queue v (omega (arith, s .space .places, s .free .inside))) at (d n hs (settle-table s) (settle-walkable s))
 
     pub settle-kept : {u x : ℕ} {hs' : List ℕ} → w ≡ Found u x → hs' ≡ shift n v from' u x hs → hs' ≡ placedHolders n limit ls hs v
     unfolding placedHolders settled
@@ -236,12 +255,6 @@ module _
     pub settle-left : {tail : ℕ} → w ≡ RanOut tail → hs ≡ placedHolders n limit ls hs v
     unfolding placedHolders settled
     settle-left {tail} q = let is : Is (RanOut tail) queue' from' (walk n limit ls hs (v ∷ [])) = rw q at walked in rw (more-state is)
-
--- the first n of a list of equal entries
-take-replicate : (n m a : ℕ) → n ≤ m → take n (replicate m a) ≡ replicate n a
-take-replicate zero m a h = refl
-take-replicate (suc n) zero a h = absurd (omega arith)
-take-replicate (suc n) (suc m) a h = ap {B = List ℕ} (λ l. a ∷ l) (take-replicate n m a (omega arith))
 
 -- The arrays to work in: zeros for the queue, and the first n of the marks of nobody.
 module _ {n : ℕ} {all : List ℕ} (unseen : all ≡ replicate GATEWAYS NONE) where
@@ -254,5 +267,5 @@ module _ {n : ℕ} {all : List ℕ} (unseen : all ≡ replicate GATEWAYS NONE) w
   pub workspace : {queue : List ℕ} → queue ≡ replicate GATEWAYS 0 → n ≤ GATEWAYS → Workspace n queue (take n all)
   workspace zeros few = record { places = rw (zeros, length-replicate) few; unseen = rw unseen (take-replicate n GATEWAYS NONE few) }
 
-  pub place-settles : {queue hs : List ℕ} {v : ℕ} → queue ≡ replicate GATEWAYS 0 → Placeable n hs v → Settleable n hs v queue (take n all)
-  place-settles zeros p = record { free = p; space = workspace zeros (p .few) }
+  pub place-settles : {queue hs : List ℕ} {rows : List (List ℕ)} {v : ℕ} → queue ≡ replicate GATEWAYS 0 → rows ≡ heldTable n hs → Placeable n hs v → Settleable n hs v rows queue (take n all)
+  place-settles zeros table p = record { free = p; table = table; space = workspace zeros (p .few) }

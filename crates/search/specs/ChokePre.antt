@@ -6,7 +6,7 @@ use lib.ListN.{length, take}
 use Rattle.packing.specs.Count.{pick}
 use Rattle.packing.specs.Lists.{Lent}
 use Rattle.search.specs.Search.{seen}
-use Rattle.search.specs.Pre.{Workspace}
+use Rattle.search.specs.Pre.{TableOf, Workspace}
 use Rattle.search.specs.ChokeSet.{withoutHolder}
 
 -- the first places of the queue are the gateways without holder
@@ -14,9 +14,10 @@ pub record Queued (n : ℕ) (hs queue : List ℕ) (tail : ℕ) : Type 0 where
   pub state : take tail queue ≡ withoutHolder n hs
   pub within : tail ≤ length queue
 
--- what a caller lends, with lists to work in
-pub record Workable (n : ℕ) (hs queue from out : List ℕ) : Type 0 where
+-- what a caller lends, with the table of the holders, and lists to work in
+pub record Workable (n : ℕ) (rows : List (List ℕ)) (hs queue from out : List ℕ) : Type 0 where
   pub lent : Lent n hs out
+  pub table : TableOf n hs rows
   pub space : Workspace n queue from
 
 -- 1 for a gateway that is seen

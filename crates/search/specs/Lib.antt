@@ -1,5 +1,6 @@
 -- 01, "Placing", and the choke set of 01, "Reading", as functions.
 pub mod Search
+pub mod Table
 pub mod Pre
 pub mod ChokeSet
 pub mod Twice

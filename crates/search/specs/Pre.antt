@@ -1,15 +1,34 @@
 -- What the functions of the search require, and how what they return and leave in the lent lists is read as a state of the model.
-use Prim.Native.Nat.{ℕ, _+_, _<_, _≤_}
+use Prim.Native.Nat.{ℕ, _+_, _-_, _<_, _≤_}
 use mathlib.Core.Path.{_≡_}
-use mathlib.Core.Bool.{Bool, false, not, _&&_}
-use mathlib.Core.List.{List, _++_}
-use lib.ListN.{length, take, replicate}
+use mathlib.Core.Bool.{Bool, false, not, cond, _&&_}
+use mathlib.Core.List.{List, [], _∷_, _++_}
+use lib.Dec.{eqb, ltb}
+use lib.ListN.{length, take, replicate, getD}
 use Rattle.packing.specs.Count.{count}
 use Rattle.packing.specs.Plant.{NONE, GATEWAYS, HIGHEST, at}
 use Rattle.packing.specs.Holders.{held, holds}
-use Rattle.search.specs.Search.{Search, found, more, seen, heldBy}
+use Rattle.search.specs.Search.{Search, found, more, seen}
+use Rattle.search.specs.Table.{heldTable}
 use Rattle.search.specs.declared.Walked.{Walked}
 use Rattle.search.specs.declared.Walked.the-variants.{Found, RanOut}
+
+-- rows is the table of the holders hs of n gateways, none of whom holds more than a row has places
+pub record TableOf (n : ℕ) (hs : List ℕ) (rows : List (List ℕ)) : Type 0 where
+  pub is : rows ≡ heldTable n hs
+  pub within : (u : ℕ) → u < n → holds n (at hs) u ≤ HIGHEST
+
+-- 02, change 3: "the search learns only from it what a gateway holds". A function of the search is handed the table and no holders.
+-- So it requires something of some holders that the table is of, ..
+pub record ForSome (rows : List (List ℕ)) (Has : ℕ → List ℕ → Type 0) : Type 0 where
+  pub n : ℕ
+  pub hs : List ℕ
+  pub table : TableOf n hs rows
+  pub has : Has n hs
+
+-- .. and gives something for all that the table is of and that have what it requires
+abbrev pub ForEach : List (List ℕ) → (ℕ → List ℕ → Type 0) → (ℕ → List ℕ → Type 0) → Type 0
+ForEach rows Has Gives = (n : ℕ) (hs : List ℕ) → TableOf n hs rows → Has n hs → Gives n hs
 
 -- the state that a result stands for: the first places of the lent queue are the queue
 unfoldable pub asSearch : Walked → List ℕ → List ℕ → Search
@@ -41,19 +60,25 @@ pub record Going (n : ℕ) (hs queue from : List ℕ) : Type 0 where
 pub record Ready (n x : ℕ) (hs queue : List ℕ) (tail : ℕ) (from : List ℕ) : Type 0 where
   pub going : Going n hs (take tail queue) from
   pub gateway : x < n
-  pub holders : n ≤ length hs
   pub places : n ≤ length queue
   pub within : tail ≤ length queue
 
--- what u holds finds room behind the queue
-pub record Joinable (n u : ℕ) (hs queue : List ℕ) (tail : ℕ) : Type 0 where
-  pub few : n ≤ GATEWAYS
-  pub holders : n ≤ length hs
-  pub room : tail + holds n (at hs) u ≤ length queue
+-- what stands in a row: all before the first 65535
+unfoldable pub inRow : List ℕ → List ℕ
+inRow [] = []
+inRow (v ∷ row) = cond (eqb v NONE) [] (v ∷ inRow row)
 
--- the queue once what u holds has joined
-pub record Joined (n u : ℕ) (hs queue queue' : List ℕ) (tail tail' : ℕ) : Type 0 where
-  pub state : take tail' queue' ≡ take tail queue ++ heldBy n hs u
+-- nobody is in the last place of a row that a limit allows; a limit of 0 allows none, and past the row's end there is nobody
+unfoldable pub rowHasPlace : List ℕ → ℕ → Bool
+rowHasPlace row limit = ltb 0 limit && eqb (getD row (limit - 1) NONE) NONE
+
+-- what stands in a row finds room behind the queue
+unfoldable pub Joinable : List ℕ → List ℕ → ℕ → Type 0
+Joinable row queue tail = tail + length (inRow row) ≤ length queue
+
+-- the queue once what stands in a row has joined
+pub record Joined (row queue queue' : List ℕ) (tail tail' : ℕ) : Type 0 where
+  pub state : take tail' queue' ≡ take tail queue ++ inRow row
   pub within : tail' ≤ length queue'
 
 -- a queue of n places, and marks of nobody, to work in
@@ -70,7 +95,6 @@ pub record Startable (n : ℕ) (hs start : List ℕ) : Type 0 where
 -- .. in the first places of the queue to work in
 pub record Walkable (n : ℕ) (hs queue : List ℕ) (tail : ℕ) (from : List ℕ) : Type 0 where
   pub start : Startable n hs (take tail queue)
-  pub holders : n ≤ length hs
   pub within : tail ≤ length queue
   pub space : Workspace n queue from
 
@@ -82,7 +106,8 @@ pub record Placeable (n : ℕ) (hs : List ℕ) (v : ℕ) : Type 0 where
   pub inside : v < n
   pub free : held n (at hs) v ≡ false
 
--- .. with lists to work in
-pub record Settleable (n : ℕ) (hs : List ℕ) (v : ℕ) (queue from : List ℕ) : Type 0 where
+-- .. with the table of the holders, and lists to work in
+pub record Settleable (n : ℕ) (hs : List ℕ) (v : ℕ) (rows : List (List ℕ)) (queue from : List ℕ) : Type 0 where
   pub free : Placeable n hs v
+  pub table : rows ≡ heldTable n hs
   pub space : Workspace n queue from

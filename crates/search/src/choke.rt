@@ -1,5 +1,7 @@
 // The choke set (01, "Reading"), on plain lists and numbers.
 use crate::bytes::write_seen;
+use crate::held::ROW;
+use crate::held::gather;
 use crate::start::queue_unheld;
 use crate::walk::walk;
 ghost use mathlib.Core.Path.{_≡_};
@@ -8,21 +10,22 @@ ghost use Rattle.packing.specs.Lists.{listOf, written};
 ghost use Rattle.search.specs.ChokeSet.{chokeByte, chokeable, chokeWritten};
 ghost use Rattle.search.specs.ChokePre.{Workable};
 
-// Writes the choke bytes with a queue and marks to work in.
+// Writes the choke bytes with the table of the holders, and a queue and marks to work in.
 fn write_set(
     n: u16,
     links: &[u16],
+    rows: &[[u16; ROW]; lists::PLACES],
     holders: &[u16],
     queue: &mut [u16],
     from: &mut [u16],
     out: &mut [u8],
 )
-    requires { ⌜ Workable n (now holders) (now queue) (now from) (now out) ⌝ }
+    requires { ⌜ Workable n (now rows) (now holders) (now queue) (now from) (now out) ⌝ }
     ensures { λ _. ⌜ now (out .exit) ≡ written n (listOf n (chokeByte n (now (links .entry)) (now (holders .entry)))) (now (out .entry)) ⌝ }
 {
     let tail = queue_unheld(n, holders, queue);
     let limits = lists::marks::bytes(0);
-    walk(n, &limits, links, holders, queue, tail, from);
+    walk(&limits, links, rows, queue, tail, from);
     write_seen(from, out);
 }
 
@@ -45,9 +48,10 @@ pub fn choke_set(n: u16, links: &[u16], holders: &[u16], out: &mut [u8]) -> bool
     if !is_chokeable(n, holders, out.len()) {
         return false;
     }
+    let rows = gather(n, holders);
     let mut queue = lists::marks::zeros();
     let mut from = lists::marks::nones();
     let end = n as usize;
-    write_set(n, links, holders, &mut queue, &mut from[..end], out);
+    write_set(n, links, &rows, holders, &mut queue, &mut from[..end], out);
     true
 }

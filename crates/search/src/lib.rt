@@ -6,6 +6,8 @@ mod shift;
 mod start;
 mod walk;
 
+use crate::held::ROW;
+use crate::held::gather;
 use crate::shift::shift_back;
 ghost use mathlib.Core.Path.{_≡_};
 ghost use Rattle.packing.specs.Plant.{at};
@@ -18,21 +20,22 @@ enum Walked {
     RanOut(usize),
 }
 
-// Places v with a queue and marks to work in.
+// Places v with the table of the holders, and a queue and marks to work in.
 fn settle(
     n: u16,
     v: u16,
     limits: &[u8],
     links: &[u16],
+    rows: &[[u16; ROW]; lists::PLACES],
     holders: &mut [u16],
     queue: &mut [u16],
     from: &mut [u16],
 )
-    requires { ⌜ Settleable n (now holders) v (now queue) (now from) ⌝ }
+    requires { ⌜ Settleable n (now holders) v (now rows) (now queue) (now from) ⌝ }
     ensures { λ _. ⌜ now (holders .exit) ≡ placedHolders n (at (now (limits .entry))) (now (links .entry)) (now (holders .entry)) v ⌝ }
 {
     queue[0] = v;
-    let w = walk::walk(n, limits, links, holders, queue, 1, from);
+    let w = walk::walk(limits, links, rows, queue, 1, from);
     match w {
         Walked::Found(u, x) => shift_back(n, v, u, x, from, holders),
         Walked::RanOut(_) => {}
@@ -44,10 +47,11 @@ fn place_unheld(n: u16, v: u16, limits: &[u8], links: &[u16], holders: &mut [u16
     requires { ⌜ Placeable n (now holders) v ⌝ }
     ensures { λ _. ⌜ now (holders .exit) ≡ placedHolders n (at (now (limits .entry))) (now (links .entry)) (now (holders .entry)) v ⌝ }
 {
+    let rows = gather(n, holders);
     let mut queue = lists::marks::zeros();
     let mut from = lists::marks::nones();
     let end = n as usize;
-    settle(n, v, limits, links, holders, &mut queue, &mut from[..end]);
+    settle(n, v, limits, links, &rows, holders, &mut queue, &mut from[..end]);
 }
 
 // Whether v may be placed.

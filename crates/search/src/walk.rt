@@ -1,5 +1,7 @@
-// The search for a gateway with a place free.
+// The search for a gateway with a place free. What a gateway holds, it learns from the table alone.
 use crate::Walked;
+use crate::held::ROW;
+use crate::held::has_place;
 use crate::held::join;
 ghost use mathlib.Core.Path.{_≡_};
 ghost use mathlib.Core.Bool.{cond};
@@ -8,7 +10,7 @@ ghost use lib.ListN.{take};
 ghost use Rattle.packing.specs.Plant.{NONE, at, neighbours};
 ghost use Rattle.search.specs.Search as model;
 ghost use Rattle.search.specs.Search.{more};
-ghost use Rattle.search.specs.Pre.{Is, Ready, Walkable};
+ghost use Rattle.search.specs.Pre.{ForEach, ForSome, Is, Ready, Walkable};
 
 // The other end of the link a-b where x is an end of it; else none.
 fn other_end(a: u16, b: u16, x: u16) -> u16
@@ -25,47 +27,45 @@ fn other_end(a: u16, b: u16, x: u16) -> u16
 
 // Looks at u from x.
 fn look(
-    n: u16,
     limits: &[u8],
     x: u16,
     u: u16,
-    holders: &[u16],
+    rows: &[[u16; ROW]; lists::PLACES],
     queue: &mut [u16],
     tail: usize,
     from: &mut [u16],
 ) -> Walked
-    requires { ⌜ Ready n x (now holders) (now queue) tail (now from) ⌝ }
-    ensures { λ r. ⌜ Is r (now (queue .exit)) (now (from .exit)) (model.look n (at (now (limits .entry))) (now (holders .entry)) x u (take tail (now (queue .entry))) (now (from .entry))) ⌝ }
+    requires { ⌜ ForSome (now rows) (λ n hs. Ready n x hs (now queue) tail (now from)) ⌝ }
+    ensures { λ r. ⌜ ForEach (now (rows .entry)) (λ n hs. Ready n x hs (now (queue .entry)) tail (now (from .entry))) (λ n hs. Is r (now (queue .exit)) (now (from .exit)) (model.look n (at (now (limits .entry))) hs x u (take tail (now (queue .entry))) (now (from .entry)))) ⌝ }
 {
     if lists::entry(from, u) != lists::NONE {
         return Walked::RanOut(tail);
     }
     lists::put(from, u, x);
-    if lists::counts::count_of(n, holders, u) < lists::byte(limits, u as usize) as u16 {
+    if has_place(&rows[u as usize], lists::byte(limits, u as usize)) {
         return Walked::Found(u, x);
     }
-    Walked::RanOut(join(n, u, holders, queue, tail))
+    Walked::RanOut(join(&rows[u as usize], queue, tail))
 }
 
 // Goes through x's links in order of arrival.
 fn visit(
-    n: u16,
     limits: &[u8],
     x: u16,
     links: &[u16],
-    holders: &[u16],
+    rows: &[[u16; ROW]; lists::PLACES],
     queue: &mut [u16],
     tail: usize,
     from: &mut [u16],
 ) -> Walked
-    requires { ⌜ Ready n x (now holders) (now queue) tail (now from) ⌝ }
-    ensures { λ r. ⌜ Is r (now (queue .exit)) (now (from .exit)) (model.visit n (at (now (limits .entry))) (now (holders .entry)) x (neighbours (now (links .entry)) x) (more (take tail (now (queue .entry))) (now (from .entry)))) ⌝ }
+    requires { ⌜ ForSome (now rows) (λ n hs. Ready n x hs (now queue) tail (now from)) ⌝ }
+    ensures { λ r. ⌜ ForEach (now (rows .entry)) (λ n hs. Ready n x hs (now (queue .entry)) tail (now (from .entry))) (λ n hs. Is r (now (queue .exit)) (now (from .exit)) (model.visit n (at (now (limits .entry))) hs x (neighbours (now (links .entry)) x) (more (take tail (now (queue .entry))) (now (from .entry))))) ⌝ }
 {
     let mut end = tail;
     let mut i: usize = 0;
     while i + 1 < links.len() {
         let u = other_end(links[i], links[i + 1], x);
-        let w = look(n, limits, x, u, holders, queue, end, from);
+        let w = look(limits, x, u, rows, queue, end, from);
         match w {
             Walked::Found(y, z) => return Walked::Found(y, z),
             Walked::RanOut(e) => end = e,
@@ -77,22 +77,21 @@ fn visit(
 
 // The search from the first `tail` of the queue, nobody seen yet. A limit of 0 leaves nobody a place free.
 pub(crate) fn walk(
-    n: u16,
     limits: &[u8],
     links: &[u16],
-    holders: &[u16],
+    rows: &[[u16; ROW]; lists::PLACES],
     queue: &mut [u16],
     tail: usize,
     from: &mut [u16],
 ) -> Walked
-    requires { ⌜ Walkable n (now holders) (now queue) tail (now from) ⌝ }
-    ensures { λ r. ⌜ Is r (now (queue .exit)) (now (from .exit)) (model.walk n (at (now (limits .entry))) (now (links .entry)) (now (holders .entry)) (take tail (now (queue .entry)))) ⌝ }
+    requires { ⌜ ForSome (now rows) (λ n hs. Walkable n hs (now queue) tail (now from)) ⌝ }
+    ensures { λ r. ⌜ ForEach (now (rows .entry)) (λ n hs. Walkable n hs (now (queue .entry)) tail (now (from .entry))) (λ n hs. Is r (now (queue .exit)) (now (from .exit)) (model.walk n (at (now (limits .entry))) (now (links .entry)) hs (take tail (now (queue .entry))))) ⌝ }
 {
     let mut end = tail;
     let mut head: usize = 0;
     while head < end {
         let x = queue[head];
-        let w = visit(n, limits, x, links, holders, queue, end, from);
+        let w = visit(limits, x, links, rows, queue, end, from);
         match w {
             Walked::Found(y, z) => return Walked::Found(y, z),
             Walked::RanOut(e) => end = e,
