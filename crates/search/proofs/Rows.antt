@@ -157,9 +157,11 @@ row-holds n hs u l h =
 pub table-holds-all : TableHolds
 unfolding TableHolds RowHolds holds
 table-holds-all n t m k ls os hs e =
-    let s : Sound n t m k ls os hs = sound-means n t m k ls os hs e in
-    (table-length n hs, λ u l. row-holds n hs u l (by-bool (ltb u n) (λ q. omega (arith, sound-searchable s .within u (ltb-true u n q)))
-    (λ q. rw (count-none n (λ v. eqb (at hs v) u) (λ v b. ne-eqb (at hs v) u (nobody s u v l (ltb-false u n q) b))) (omega arith))))
+    let s : Sound n t m k ls os hs = sound-means n t m k ls os hs e in (
+      table-length n hs,
+      λ u l. row-holds n hs u l (by-bool (ltb u n) (λ q. omega (arith, sound-searchable s .within u (ltb-true u n q)))
+          (λ q. rw (count-none n (λ v. eqb (at hs v) u) (λ v b. ne-eqb (at hs v) u (nobody s u v l (ltb-false u n q) b))) (omega arith))),
+    )
   where
     nobody : Sound n t m k ls os hs → (u v : ℕ) → u < 1024 → n ≤ u → v < n → at hs v ≡ u → ⊥
     nobody s u v l q b f = ⊎-elim (λ none. omega arith) (λ below. omega arith) (s .range v b)

@@ -93,10 +93,10 @@ pub choke-written : (n : ℕ) (ls hs out : List ℕ) → chokeable n hs (length 
 unfolding chokeWritten
 choke-written n ls hs out e = rw e
 
-module _ (n : ℕ) (hs out : List ℕ) {b : Bool} (e : b ≡ chokeable n hs (length out)) where
-  pub choke-may : not b ≡ false → Searchable n hs × (n ≤ length out)
-  choke-may t = chokeable-means n hs (length out) (sym e ∙ not-false b t)
+pub choke-may : (n : ℕ) (hs : List ℕ) (room : ℕ) {b : Bool} → b ≡ chokeable n hs room → not b ≡ false → Searchable n hs × (n ≤ room)
+choke-may n hs room {b} e t = chokeable-means n hs room (sym e ∙ not-false b t)
 
+module _ (n : ℕ) (hs out : List ℕ) {b : Bool} (e : b ≡ chokeable n hs (length out)) where
   pub choke-refuses : (ls : List ℕ) → not b ≡ true → (false ≡ chokeable n hs (length out)) × (out ≡ chokeWritten n ls hs out)
   unfolding chokeWritten
   choke-refuses ls t = (sym (not-true b t) ∙ e, rw (sym e ∙ not-true b t))

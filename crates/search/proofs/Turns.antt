@@ -103,122 +103,159 @@ visit-short n limit hs x [] s h = refl
 visit-short n limit hs x (a ∷ []) s h = refl
 visit-short n limit hs x (a ∷ b ∷ ls) s h = absurd (omega arith)
 
--- what the links from i on give is what all give
-pub record Visiting (n : ℕ) (limit : ℕ → ℕ) (x : ℕ) (ls hs queue₀ : List ℕ) (tail : ℕ) (from₀ queue from : List ℕ) (end i : ℕ) : Type 0 where
-  pub upto : i ≤ length ls
+-- with the holders hs, what the links from i on give is what all give
+pub record Visited (n : ℕ) (limit : ℕ → ℕ) (x : ℕ) (ls hs queue₀ : List ℕ) (tail : ℕ) (from₀ queue from : List ℕ) (end i : ℕ) : Type 0 where
   pub ready : Ready n x hs queue end from
-  pub same : (length queue ≡ length queue₀) × (length from ≡ length from₀)
   pub rest : visit n limit hs x (neighbours (drop i ls) x) (more (take end queue) from) ≡ visit n limit hs x (neighbours ls x) (more (take tail queue₀) from₀)
 
-module _ (n : ℕ) (limit : ℕ → ℕ) (x : ℕ) (ls hs queue₀ : List ℕ) (tail : ℕ) (from₀ : List ℕ) where
-  pub visit-start : Ready n x hs queue₀ tail from₀ → Visiting n limit x ls hs queue₀ tail from₀ queue₀ from₀ tail 0
-  visit-start r = record { upto = omega arith; ready = r; same = (refl, refl); rest = refl }
+-- .. and so with all that the table is of
+pub record Visiting (limit : ℕ → ℕ) (x : ℕ) (ls : List ℕ) (rows : List (List ℕ)) (queue₀ : List ℕ) (tail : ℕ) (from₀ queue from : List ℕ) (end i : ℕ) : Type 0 where
+  pub upto : i ≤ length ls
+  pub same : (length queue ≡ length queue₀) × (length from ≡ length from₀)
+  pub each : ForEach rows (λ n hs. Ready n x hs queue₀ tail from₀) (λ n hs. Visited n limit x ls hs queue₀ tail from₀ queue from end i)
+
+module _ (limit : ℕ → ℕ) (x : ℕ) (ls : List ℕ) (rows : List (List ℕ)) (queue₀ : List ℕ) (tail : ℕ) (from₀ : List ℕ) where
+  pub visit-start : Visiting limit x ls rows queue₀ tail from₀ queue₀ from₀ tail 0
+  visit-start = record { upto = omega arith; same = (refl, refl); each = λ n hs t r. record { ready = r; rest = refl } }
+
+  -- x may go on looking
+  pub visit-ready : {queue from : List ℕ} {end i : ℕ} → Visiting limit x ls rows queue₀ tail from₀ queue from end i → ForSome rows (λ n hs. Ready n x hs queue₀ tail from₀)
+      → ForSome rows (λ n hs. Ready n x hs queue end from)
+  visit-ready v s = some-then s (λ n hs t r. v .each n hs t r .ready)
 
   module _
-      {queue from queue' from' : List ℕ} {end i u : ℕ} {w : Walked} (v : Visiting n limit x ls hs queue₀ tail from₀ queue from end i) (l : i + 1 < length ls)
-      (e : u ≡ cond (eqb (at ls i) x) (at ls (i + 1)) (cond (eqb (at ls (i + 1)) x) (at ls i) NONE)) (d : Is w queue' from' (look n limit hs x u (take end queue) from))
+      {queue from queue' from' : List ℕ} {end i u : ℕ} {w : Walked} (v : Visiting limit x ls rows queue₀ tail from₀ queue from end i) (l : i + 1 < length ls)
+      (e : u ≡ cond (eqb (at ls i) x) (at ls (i + 1)) (cond (eqb (at ls (i + 1)) x) (at ls i) NONE))
+      (d : ForEach rows (λ n hs. Ready n x hs queue end from) (λ n hs. Is w queue' from' (look n limit hs x u (take end queue) from)))
     where
-      step : visit n limit hs x (neighbours (drop (i + 2) ls) x) (look n limit hs x u (take end queue) from)
-          ≡ visit n limit hs x (neighbours ls x) (more (take tail queue₀) from₀)
-      step =
-          sym (link-visit n limit hs x (at ls i) (at ls (i + 1)) (drop (i + 2) ls) (take end queue) from (omega (arith, v .ready .going .marks, v .ready .going .few)) e)
-          ∙ (rw (pair-at ls i l) at (v .rest))
+      module _ {n : ℕ} {hs : List ℕ} (t : TableOf n hs rows) (r : Ready n x hs queue₀ tail from₀) where
+        ready : Ready n x hs queue end from
+        ready = v .each n hs t r .ready
 
-      pub visit-turn : {end' : ℕ} → w ≡ RanOut end' → (length queue' ≡ length queue) × (length from' ≡ length from) → Visiting n limit x ls hs queue₀ tail from₀ queue' from' end' (i + 2)
+        looked : Is w queue' from' (look n limit hs x u (take end queue) from)
+        looked = d n hs t ready
+
+        step : visit n limit hs x (neighbours (drop (i + 2) ls) x) (look n limit hs x u (take end queue) from)
+            ≡ visit n limit hs x (neighbours ls x) (more (take tail queue₀) from₀)
+        step =
+            sym (link-visit n limit hs x (at ls i) (at ls (i + 1)) (drop (i + 2) ls) (take end queue) from (omega (arith, ready .going .marks, ready .going .few)) e)
+            ∙ (rw (pair-at ls i l) at (v .each n hs t r .rest))
+
+      pub visit-turn : {end' : ℕ} → w ≡ RanOut end' → (length queue' ≡ length queue) × (length from' ≡ length from) → Visiting limit x ls rows queue₀ tail from₀ queue' from' end' (i + 2)
       visit-turn {end'} q long =
-          let is : Is (RanOut end') queue' from' (look n limit hs x u (take end queue) from) = rw q at d in
-          let same : look n limit hs x u (take end queue) from ≡ more (take end' queue') from' = more-state is in
           record {
             upto = omega arith;
-            ready = record {
-              going = look-going limit (v .ready .going) u x (v .ready .gateway) same;
-              gateway = v .ready .gateway;
-              places = omega (arith, v .ready .places, long .0);
-              within = more-within is;
-            };
             same = (long .0 ∙ v .same .0, long .1 ∙ v .same .1);
-            rest = rw same at step;
+            each = λ n hs t r.
+                let is : Is (RanOut end') queue' from' (look n limit hs x u (take end queue) from) = rw q at (looked t r) in
+                let same : look n limit hs x u (take end queue) from ≡ more (take end' queue') from' = more-state is in
+                let before : Ready n x hs queue end from = ready t r in
+                record {
+                  ready = record {
+                    going = look-going limit (before .going) u x (before .gateway) same;
+                    gateway = before .gateway;
+                    places = omega (arith, before .places, long .0);
+                    within = more-within is;
+                  };
+                  rest = rw same at (step t r);
+                };
           }
 
-      pub visit-ends : {y z : ℕ} → w ≡ Found y z → Is (Found y z) queue' from' (visit n limit hs x (neighbours ls x) (more (take tail queue₀) from₀))
-      visit-ends {y} {z} q =
-          let is : Is (Found y z) queue' from' (look n limit hs x u (take end queue) from) = rw q at d in
-          found-is (sym step ∙ ap (visit n limit hs x (neighbours (drop (i + 2) ls) x)) (found-state is) ∙ visit-found n limit hs x (neighbours (drop (i + 2) ls) x))
+      pub visit-ends : {y z : ℕ} → w ≡ Found y z
+          → ForEach rows (λ n hs. Ready n x hs queue₀ tail from₀) (λ n hs. Is (Found y z) queue' from' (visit n limit hs x (neighbours ls x) (more (take tail queue₀) from₀)))
+      visit-ends {y} {z} q n hs t r =
+          let is : Is (Found y z) queue' from' (look n limit hs x u (take end queue) from) = rw q at (looked t r) in
+          found-is (sym (step t r) ∙ ap (visit n limit hs x (neighbours (drop (i + 2) ls) x)) (found-state is) ∙ visit-found n limit hs x (neighbours (drop (i + 2) ls) x))
 
-  pub visit-out : {queue from : List ℕ} {end i : ℕ} → Visiting n limit x ls hs queue₀ tail from₀ queue from end i → length ls ≤ i + 1
-      → Is (RanOut end) queue from (visit n limit hs x (neighbours ls x) (more (take tail queue₀) from₀))
-  visit-out {queue} {from} {end} {i} v l =
-      more-is (sym (v .rest) ∙ visit-short n limit hs x (drop i ls) (more (take end queue) from) (pair-end ls i l)) (v .ready .within)
+  pub visit-out : {queue from : List ℕ} {end i : ℕ} → Visiting limit x ls rows queue₀ tail from₀ queue from end i → length ls ≤ i + 1
+      → ForEach rows (λ n hs. Ready n x hs queue₀ tail from₀) (λ n hs. Is (RanOut end) queue from (visit n limit hs x (neighbours ls x) (more (take tail queue₀) from₀)))
+  visit-out {queue} {from} {end} {i} v l n hs t r =
+      let done = v .each n hs t r in
+      more-is (sym (done .rest) ∙ visit-short n limit hs x (drop i ls) (more (take end queue) from) (pair-end ls i l)) (done .ready .within)
 
--- what the turns from head on give is what the walk gives
-pub record Walking (n : ℕ) (limit : ℕ → ℕ) (ls hs queue₀ : List ℕ) (tail : ℕ) (from₀ queue from : List ℕ) (end head : ℕ) : Type 0 where
+-- with the holders hs, what the turns from head on give is what the walk gives
+pub record Walks (n : ℕ) (limit : ℕ → ℕ) (ls hs queue₀ : List ℕ) (tail : ℕ) (queue from : List ℕ) (end head : ℕ) : Type 0 where
   pub going : Going n hs (take end queue) from
   pub places : n ≤ length queue
-  pub within : end ≤ length queue
-  pub same : (length queue ≡ length queue₀) × (length from ≡ length from₀)
   pub rest : turns (n - head) n limit ls hs head (more (take end queue) from) ≡ walk n limit ls hs (take tail queue₀)
 
-module _ (n : ℕ) (limit : ℕ → ℕ) (ls hs queue₀ : List ℕ) (tail : ℕ) (from₀ : List ℕ) where
-  pub walk-start : Walkable n hs queue₀ tail from₀ → Walking n limit ls hs queue₀ tail from₀ queue₀ from₀ tail 0
-  unfolding walk
-  walk-start w =
-      record {
-        going = rw (w .space .unseen) (going-start (w .start));
-        places = w .space .places;
-        within = w .within;
-        same = (refl, refl);
-        rest = rw (w .space .unseen, sub-zero);
-      }
+-- .. and so with all that the table is of
+pub record Walking (limit : ℕ → ℕ) (ls : List ℕ) (rows : List (List ℕ)) (queue₀ : List ℕ) (tail : ℕ) (from₀ queue from : List ℕ) (end head : ℕ) : Type 0 where
+  pub within : end ≤ length queue
+  pub same : (length queue ≡ length queue₀) × (length from ≡ length from₀)
+  pub each : ForEach rows (λ n hs. Walkable n hs queue₀ tail from₀) (λ n hs. Walks n limit ls hs queue₀ tail queue from end head)
 
-  module _ {queue from : List ℕ} {end head : ℕ} (v : Walking n limit ls hs queue₀ tail from₀ queue from end head) (l : head < end) where
-    long : length (take end queue) ≡ end
-    long = length-take-le end queue (v .within)
+module _
+    (limit : ℕ → ℕ) (ls : List ℕ) (rows : List (List ℕ)) (queue₀ : List ℕ) (tail : ℕ) (from₀ : List ℕ) (some : ForSome rows (λ n hs. Walkable n hs queue₀ tail from₀))
+  where
+    pub walk-start : Walking limit ls rows queue₀ tail from₀ queue₀ from₀ tail 0
+    unfolding walk
+    walk-start =
+        record {
+          within = some .has .within;
+          same = (refl, refl);
+          each = λ n hs t w. record { going = rw (w .space .unseen) (going-start (w .start)); places = w .space .places; rest = rw (w .space .unseen, sub-zero) };
+        }
 
-    here : at (take end queue) head ≡ at queue head
-    here = getD-take end queue head 0 l
+    module _ {queue from : List ℕ} {end head : ℕ} (v : Walking limit ls rows queue₀ tail from₀ queue from end head) (l : head < end) where
+      long : length (take end queue) ≡ end
+      long = length-take-le end queue (v .within)
 
-    -- there are fewer turns than gateways
-    pub walk-below : head < n
-    walk-below = omega (arith, v .going .room, long)
+      here : at (take end queue) head ≡ at queue head
+      here = getD-take end queue head 0 l
 
-    -- the gateway at the head looks at its neighbours
-    pub walk-ready : Ready n (at queue head) hs queue end from
-    walk-ready =
-        record { going = v .going; gateway = rw here at (v .going .below head (rw long l)); places = v .places; within = v .within }
+      -- the gateway at the head looks at its neighbours
+      head-ready : {n : ℕ} {hs : List ℕ} → Walks n limit ls hs queue₀ tail queue from end head → Ready n (at queue head) hs queue end from
+      head-ready w = record { going = w .going; gateway = rw here at (w .going .below head (rw long l)); places = w .places; within = v .within }
 
-    module _
-        {queue' from' : List ℕ} {w : Walked} (d : Is w queue' from' (visit n limit hs (at queue head) (neighbours ls (at queue head)) (more (take end queue) from)))
-      where
-        next : turns (n - (head + 1)) n limit ls hs (head + 1) (visit n limit hs (at queue head) (neighbours ls (at queue head)) (more (take end queue) from))
-            ≡ walk n limit ls hs (take tail queue₀)
-        next =
-            rw (add-one, ← here) (sym (turns-step (n - suc head) n limit ls hs head (take end queue) from (rw long l)))
-            ∙ ap (λ (k : ℕ). turns k n limit ls hs head (more (take end queue) from)) (one walk-below) ∙ v .rest
-          where
-            one : head < n → suc (n - suc head) ≡ n - head
-            one k = omega arith
+      pub walk-ready : ForSome rows (λ n hs. Ready n (at queue head) hs queue end from)
+      walk-ready = some-then some (λ n hs t w. head-ready (v .each n hs t w))
 
-        pub walk-turn : {end' : ℕ} → w ≡ RanOut end' → (length queue' ≡ length queue) × (length from' ≡ length from) → Walking n limit ls hs queue₀ tail from₀ queue' from' end' (head + 1)
-        walk-turn {end'} q long' =
-            let is = rw q at d in
-            let same = more-state is in
-            record {
-              going = visit-going limit (at queue head) (neighbours ls (at queue head)) (v .going) (walk-ready .gateway) same;
-              places = omega (arith, v .places, long' .0);
-              within = more-within is;
-              same = (long' .0 ∙ v .same .0, long' .1 ∙ v .same .1);
-              rest = rw same at next;
-            }
+      module _
+          {queue' from' : List ℕ} {w : Walked}
+          (d : ForEach rows (λ n hs. Ready n (at queue head) hs queue end from)
+          (λ n hs. Is w queue' from' (visit n limit hs (at queue head) (neighbours ls (at queue head)) (more (take end queue) from))))
+        where
+          module _ {n : ℕ} {hs : List ℕ} (t : TableOf n hs rows) (may : Walkable n hs queue₀ tail from₀) where
+            before : Walks n limit ls hs queue₀ tail queue from end head
+            before = v .each n hs t may
 
-        pub walk-ends : {y z : ℕ} → w ≡ Found y z → Is (Found y z) queue' from' (walk n limit ls hs (take tail queue₀))
-        walk-ends {y} {z} q =
-            let is = rw q at d in
-            found-is (sym next ∙ ap (turns (n - (head + 1)) n limit ls hs (head + 1)) (found-state is) ∙ turns-found (n - (head + 1)) n limit ls hs (head + 1))
+            visited : Is w queue' from' (visit n limit hs (at queue head) (neighbours ls (at queue head)) (more (take end queue) from))
+            visited = d n hs t (head-ready before)
 
-  pub walk-out : {queue from : List ℕ} {end head : ℕ} → Walking n limit ls hs queue₀ tail from₀ queue from end head → end ≤ head
-      → Is (RanOut end) queue from (walk n limit ls hs (take tail queue₀))
-  walk-out {queue} {from} {end} {head} v l =
-      more-is (sym (v .rest) ∙ turns-out (n - head) n limit ls hs head (take end queue) from (rw (length-take-le end queue (v .within)) l)) (v .within)
+            next : turns (n - (head + 1)) n limit ls hs (head + 1) (visit n limit hs (at queue head) (neighbours ls (at queue head)) (more (take end queue) from))
+                ≡ walk n limit ls hs (take tail queue₀)
+            next =
+                rw (add-one, ← here) (sym (turns-step (n - suc head) n limit ls hs head (take end queue) from (rw long l)))
+                ∙ ap (λ (k : ℕ). turns k n limit ls hs head (more (take end queue) from)) one ∙ before .rest
+              where
+                -- there are fewer turns than gateways
+                one : suc (n - suc head) ≡ n - head
+                one = omega (arith, before .going .room, long)
+
+          pub walk-turn : {end' : ℕ} → w ≡ RanOut end' → (length queue' ≡ length queue) × (length from' ≡ length from) → Walking limit ls rows queue₀ tail from₀ queue' from' end' (head + 1)
+          walk-turn {end'} q long' =
+              record {
+                within = more-within (rw q at (visited (some .table) (some .has)));
+                same = (long' .0 ∙ v .same .0, long' .1 ∙ v .same .1);
+                each = λ n hs t may.
+                    let same = more-state (rw q at (visited t may)) in
+                    record {
+                      going = visit-going limit (at queue head) (neighbours ls (at queue head)) (before t may .going) (head-ready (before t may) .gateway) same;
+                      places = omega (arith, before t may .places, long' .0);
+                      rest = rw same at (next t may);
+                    };
+              }
+
+          pub walk-ends : {y z : ℕ} → w ≡ Found y z → ForEach rows (λ n hs. Walkable n hs queue₀ tail from₀) (λ n hs. Is (Found y z) queue' from' (walk n limit ls hs (take tail queue₀)))
+          walk-ends {y} {z} q n hs t may =
+              let is = rw q at (visited t may) in
+              found-is (sym (next t may) ∙ ap (turns (n - (head + 1)) n limit ls hs (head + 1)) (found-state is) ∙ turns-found (n - (head + 1)) n limit ls hs (head + 1))
+
+    pub walk-out : {queue from : List ℕ} {end head : ℕ} → Walking limit ls rows queue₀ tail from₀ queue from end head → end ≤ head
+        → ForEach rows (λ n hs. Walkable n hs queue₀ tail from₀) (λ n hs. Is (RanOut end) queue from (walk n limit ls hs (take tail queue₀)))
+    walk-out {queue} {from} {end} {head} v l n hs t may =
+        more-is (sym (v .each n hs t may .rest) ∙ turns-out (n - head) n limit ls hs head (take end queue) from (rw (length-take-le end queue (v .within)) l)) (v .within)
 
 -- Placing v: a queue that starts with v.
 first-set : (l : List ℕ) (v : ℕ) → 1 ≤ length l → take 1 (set l 0 v) ≡ v ∷ []

@@ -51,7 +51,16 @@ fn place_unheld(n: u16, v: u16, limits: &[u8], links: &[u16], holders: &mut [u16
     let mut queue = lists::marks::zeros();
     let mut from = lists::marks::nones();
     let end = n as usize;
-    settle(n, v, limits, links, &rows, holders, &mut queue, &mut from[..end]);
+    settle(
+        n,
+        v,
+        limits,
+        links,
+        &rows,
+        holders,
+        &mut queue,
+        &mut from[..end],
+    );
 }
 
 // Whether v may be placed.

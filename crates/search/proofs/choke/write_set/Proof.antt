@@ -1,0 +1,54 @@
+use Rattle.search.proofs.Seen.{set-some, set-places, set-written}
+use borrow.Author.Needs.{needs}
+use Rattle.search.proofs.choke.write_set.Statement.{statement}
+use Rattle.search.proofs.choke.write_set.Tie as tie
+
+queue-unheld-requires : tie.Need-queue-unheld-requires
+queue-unheld-requires c κs = search needs
+
+bytes-requires : tie.Need-bytes-requires
+bytes-requires c κs = search needs
+
+slice-aggregate-walk : tie.Need-slice-aggregate-walk
+slice-aggregate-walk c = search needs
+
+walk-requires : tie.Need-walk-requires
+walk-requires c κs = let called = c .before .before .before .before .before .before in
+    let start = called .before .before .before .before .before .before .before in
+    set-some (start .pre) (called .queue-unheld .ensures) (called .queue-unheld .kept .1 .1 .0)
+
+write-seen-requires : tie.Need-write-seen-requires
+write-seen-requires c κs = let walked = c .before .before .before .before .before .before in
+    let called = walked .before .before .before .before .before .before .before in
+    let start = called .before .before .before .before .before .before .before in
+    set-places (start .pre) (called .queue-unheld .ensures) (walked .walk .kept .1 .1 .1 .1 .1 .0)
+
+same-length : tie.Need-same-length
+same-length c = search needs
+
+same-length-2 : tie.Need-same-length-2
+same-length-2 c = search needs
+
+same-length-3 : tie.Need-same-length-3
+same-length-3 c = search needs
+
+returns : tie.Need-returns
+returns c = let walked = c .before .before .before .before .before .before .before .before .before in
+    let made = walked .before .before .before .before in
+    let called = made .before .before .before in
+    let start = called .before .before .before .before .before .before .before in
+    set-written (start .pre) (called .queue-unheld .ensures) _ _ (walked .walk .ensures) (made .bytes .ensures) (called .queue-unheld .kept .1 .1 .0) (walked .walk .kept .1 .1 .1 .1 .1 .0) (c .before .before .write-seen .ensures)
+
+pub write-set-spec : {M : Type 1} → statement M
+write-set-spec =
+    tie.close
+    (tie.spec
+    queue-unheld-requires
+    bytes-requires
+    slice-aggregate-walk
+    walk-requires
+    write-seen-requires
+    same-length
+    same-length-2
+    same-length-3
+    returns)

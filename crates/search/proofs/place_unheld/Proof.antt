@@ -1,0 +1,49 @@
+use Rattle.search.proofs.Turns.{place-marks, place-settles}
+use borrow.Author.Needs.{needs}
+use Rattle.search.proofs.place_unheld.Statement.{statement}
+use Rattle.search.proofs.place_unheld.Tie as tie
+
+gather-requires : tie.Need-gather-requires
+gather-requires c κs = search needs
+
+zeros-requires : tie.Need-zeros-requires
+zeros-requires c κs = search needs
+
+nones-requires : tie.Need-nones-requires
+nones-requires c κs = search needs
+
+slice-aggregate-settle : tie.Need-slice-aggregate-settle
+slice-aggregate-settle c = search needs
+
+array-borrow-prefix-from : tie.Need-array-borrow-prefix-from
+array-borrow-prefix-from c = search needs
+
+slice-aggregate-settle-2 : tie.Need-slice-aggregate-settle-2
+slice-aggregate-settle-2 c = let marks = c .before .before .before .before in
+    place-marks (marks .nones .ensures) (marks .before .before .before .before .before .before .before .pre .few)
+
+settle-requires : tie.Need-settle-requires
+settle-requires c κs = let marks = c .before .before .before .before in
+    let zeros = marks .before in
+    let gathered = zeros .before in
+    place-settles (marks .nones .ensures) (zeros .zeros .ensures) (gathered .gather .ensures) (gathered .before .before .before .before .before .pre)
+
+same-length : tie.Need-same-length
+same-length c = search needs
+
+returns : tie.Need-returns
+returns c = search needs
+
+pub place-unheld-spec : {M : Type 1} → statement M
+place-unheld-spec =
+    tie.close
+    (tie.spec
+    gather-requires
+    zeros-requires
+    nones-requires
+    slice-aggregate-settle
+    array-borrow-prefix-from
+    slice-aggregate-settle-2
+    settle-requires
+    same-length
+    returns)

@@ -1,0 +1,92 @@
+use Rattle.packing.specs.Plant.{at}
+use Rattle.search.proofs.Turns.{look-is-seen, look-row, look-joins, look-is-free, look-is-full}
+use borrow.Author.Needs.{needs}
+use Rattle.search.proofs.walk.look.Statement.{statement}
+use Rattle.search.proofs.walk.look.Tie as tie
+
+entry-requires : tie.Need-entry-requires
+entry-requires c κs = search needs
+
+same-length : tie.Need-same-length
+same-length c = search needs
+
+returns : tie.Need-returns
+returns c = λ n hs t r. look-is-seen _ _ t r (c .before .entry .ensures) (c .if1 .taken)
+
+put-requires : tie.Need-put-requires
+put-requires c κs = search needs
+
+mul-has-place : tie.Need-mul-has-place
+mul-has-place c = search needs
+
+index-1-has-place : tie.Need-index-1-has-place
+index-1-has-place c = let left = c .before .before .before .before in
+    let start = left .before .before .before .before .before .before in
+    look-row (at (start .args .limits .now)) _ (start .pre .table) (start .pre .has) (left .before .entry .ensures) (left .if1 .left)
+
+byte-requires : tie.Need-byte-requires
+byte-requires c κs = search needs
+
+has-place-requires : tie.Need-has-place-requires
+has-place-requires c κs = search needs
+
+same-length-2 : tie.Need-same-length-2
+same-length-2 c = search needs
+
+returns-2 : tie.Need-returns-2
+returns-2 c = λ n hs t r.
+    let place = c .before in
+    let limit = place .before in
+    let mark = limit .before .before .before .before .before in
+    let left = mark .before .before in
+    look-is-free _ _ t r (left .before .entry .ensures) (left .if1 .left) (mark .put .ensures) (limit .byte .ensures) (place .has-place .ensures) (c .if2 .taken)
+
+mul-join : tie.Need-mul-join
+mul-join c = search needs
+
+index-1-join : tie.Need-index-1-join
+index-1-join c = let left = c .before .before .before .before .before .before .before .before .before in
+    let start = left .before .before .before .before .before .before in
+    look-row (at (start .args .limits .now)) _ (start .pre .table) (start .pre .has) (left .before .entry .ensures) (left .if1 .left)
+
+join-requires : tie.Need-join-requires
+join-requires c κs = let left = c .before .before .before .before .before .before .before .before .before .before .before .before in
+    let start = left .before .before .before .before .before .before in
+    look-joins (at (start .args .limits .now)) _ (start .pre .table) (start .pre .has) (left .before .entry .ensures) (left .if1 .left)
+
+same-length-3 : tie.Need-same-length-3
+same-length-3 c = search needs
+
+same-length-4 : tie.Need-same-length-4
+same-length-4 c = search needs
+
+returns-3 : tie.Need-returns-3
+returns-3 c = λ n hs t r.
+    let joined = c .before .before in
+    let full = joined .before .before .before .before in
+    let place = full .before in
+    let limit = place .before in
+    let mark = limit .before .before .before .before .before in
+    let left = mark .before .before in
+    look-is-full _ _ t r (left .before .entry .ensures) (left .if1 .left) (mark .put .ensures) (limit .byte .ensures) (place .has-place .ensures) (full .if2 .left) (joined .join .ensures)
+
+pub look-spec : {M : Type 1} → statement M
+look-spec =
+    tie.close
+    (tie.spec
+    entry-requires
+    same-length
+    returns
+    put-requires
+    mul-has-place
+    index-1-has-place
+    byte-requires
+    has-place-requires
+    same-length-2
+    returns-2
+    mul-join
+    index-1-join
+    join-requires
+    same-length-3
+    same-length-4
+    returns-3)
