@@ -7,7 +7,10 @@ pub mod States
 pub mod Rows
 pub mod Gathering
 pub mod Joining
+pub mod Results
+pub mod Looks
 pub mod Turns
+pub mod Settling
 pub mod Reach
 pub mod Shifting
 pub mod Placing

@@ -19,7 +19,7 @@ use Rattle.search.specs.ChokeSet.{withoutHolder, chokeWalk, seenIn, walk
 use Rattle.search.specs.ChokePre.{Queued, Workable, seenByte}
 use Rattle.packing.proofs.Lists.{listOf-ext, zero-at}
 use Rattle.sound.proofs.Searchable.{Searchable}
-use Rattle.search.proofs.Turns.{workspace}
+use Rattle.search.proofs.Settling.{workspace}
 use Rattle.search.proofs.Unheld.{unheld-startable}
 
 -- a byte of one that is not seen, and of one that is

@@ -1,4 +1,4 @@
-use Rattle.search.proofs.Turns.{place-marks, place-settles}
+use Rattle.search.proofs.Settling.{place-marks, place-settles}
 use borrow.Author.Needs.{needs}
 use Rattle.search.proofs.place_unheld.Statement.{statement}
 use Rattle.search.proofs.place_unheld.Tie as tie

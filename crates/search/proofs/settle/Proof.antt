@@ -1,6 +1,6 @@
 use mathlib.Core.Path.{_∙_}
 use lib.ListN.{length-set}
-use Rattle.search.proofs.Turns.{settle-some, settle-kept, settle-left}
+use Rattle.search.proofs.Settling.{settle-some, settle-kept, settle-left}
 use borrow.Author.Needs.{needs}
 use Rattle.search.proofs.settle.Statement.{statement}
 use Rattle.search.proofs.settle.Tie as tie

@@ -1,4 +1,4 @@
-use Rattle.search.proofs.Turns.{marks-room, place-marks}
+use Rattle.search.proofs.Settling.{marks-room, place-marks}
 use Rattle.search.proofs.Seen.{searchable-workable}
 use Rattle.search.proofs.Tested.{choke-may, choke-refuses, choke-writes}
 use borrow.Author.Needs.{needs}

@@ -1,5 +1,5 @@
 use Rattle.packing.specs.Plant.{at}
-use Rattle.search.proofs.Turns.{look-is-seen, look-row, look-joins, look-is-free, look-is-full}
+use Rattle.search.proofs.Looks.{look-is-seen, look-row, look-joins, look-is-free, look-is-full}
 use borrow.Author.Needs.{needs}
 use Rattle.search.proofs.walk.look.Statement.{statement}
 use Rattle.search.proofs.walk.look.Tie as tie

@@ -2,7 +2,7 @@ use borrow.Author.Needs.{needs}
 use Prim.Native.Nat.{_-_}
 use lib.ListN.{length}
 use Rattle.packing.specs.Plant.{at}
-use Rattle.search.proofs.Turns.{Visiting, visit-start, visit-ready, visit-turn, visit-ends, visit-out}
+use Rattle.search.proofs.Looks.{Visiting, visit-start, visit-ready, visit-turn, visit-ends, visit-out}
 use Rattle.search.proofs.walk.visit.Statement.{statement}
 use Rattle.search.proofs.walk.visit.Tie as tie
 
