@@ -34,31 +34,28 @@ module _
       unseen : seen from u ≡ false
       unseen = not-i-false _ (eq-eqb (at from u) NONE (sym e ∙ none))
 
-      below : u < n
-      below = unseen-below from u (r .going .marks) unseen
+      -- u is a gateway, ..
+      pub look-below : u < n
+      look-below = unseen-below from u (r .going .marks) unseen
 
-      -- u has a row, ..
-      pub look-row : u < GATEWAYS
-      look-row = omega (arith, r .going .few, below)
-
-      -- .. and what stands in it finds room in the queue
+      -- .. and what stands in its row finds room in the queue
       pub look-joins : Joinable (rowAt rows u) queue tail
       unfolding Joinable
       look-joins =
-          rw (table-holds h (r .going .few) below)
+          rw (table-holds h (r .going .few) look-below)
           (omega (arith, r .places, length-take-le tail queue (r .within), heldBy-length n hs u, going-room (r .going) u x (r .gateway) unseen))
 
       pub look-is-free : {t : ℕ} {b : Bool} {from' : List ℕ} → from' ≡ set from u x → t ≡ limit u → b ≡ rowHasPlace (rowAt rows u) t → b ≡ true
           → Is (Found u x) queue from' (look n limit hs x u (take tail queue) from)
       look-is-free {t} mark most place yes' =
-          let less : holds n (at hs) u < t = ltb-true _ _ (sym (table-place h (r .going .few) below t) ∙ sym place ∙ yes') in
+          let less : holds n (at hs) u < t = ltb-true _ _ (sym (table-place h (r .going .few) look-below t) ∙ sym place ∙ yes') in
           found-is (look-free n limit hs x u (take tail queue) from unseen (omega arith) ∙ ap (found u x) (sym mark))
 
       pub look-is-full : {t tail' : ℕ} {b : Bool} {queue' from' : List ℕ} → from' ≡ set from u x → t ≡ limit u → b ≡ rowHasPlace (rowAt rows u) t → b ≡ false
           → Joined (rowAt rows u) queue queue' tail tail' → Is (RanOut tail') queue' from' (look n limit hs x u (take tail queue) from)
       look-is-full {t} mark most place no' j =
-          let full : t ≤ holds n (at hs) u = ltb-false _ _ (sym (table-place h (r .going .few) below t) ∙ sym place ∙ no') in
-          more-is (look-full n limit hs x u (take tail queue) from unseen (omega arith) ∙ rw (j .state, mark, table-holds h (r .going .few) below)) (j .within)
+          let full : t ≤ holds n (at hs) u = ltb-false _ _ (sym (table-place h (r .going .few) look-below t) ∙ sym place ∙ no') in
+          more-is (look-full n limit hs x u (take tail queue) from unseen (omega arith) ∙ rw (j .state, mark, table-holds h (r .going .few) look-below)) (j .within)
 
 -- one link: a look at its other end, where NONE stands for a link that x is no end of
 link-visit : (n : ℕ) (limit : ℕ → ℕ) (hs : List ℕ) (x a b : ℕ) (rest queue from : List ℕ) {u : ℕ} → length from ≤ GATEWAYS → u ≡ cond (eqb a x) b (cond (eqb b x) a NONE)

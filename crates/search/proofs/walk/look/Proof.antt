@@ -1,6 +1,7 @@
 use Rattle.packing.specs.Plant.{at}
-use Rattle.search.proofs.Looks.{look-is-seen, look-row, look-joins, look-is-free, look-is-full}
+use Rattle.search.proofs.Looks.{look-is-seen, look-below, look-joins, look-is-free, look-is-full}
 use borrow.Author.Needs.{needs}
+use native.Mathlib.Omega.{arith}
 use Rattle.search.proofs.walk.look.Statement.{statement}
 use Rattle.search.proofs.walk.look.Tie as tie
 
@@ -22,7 +23,8 @@ mul-has-place c = search needs
 index-1-has-place : tie.Need-index-1-has-place
 index-1-has-place c = let left = c .before .before .before .before in
     let start = left .before .before .before .before .before .before in
-    look-row (at (start .args .limits .now)) _ (start .pre .table) (start .pre .has) (left .before .entry .ensures) (left .if1 .left)
+    let below = look-below (at (start .args .limits .now)) _ (start .pre .table) (start .pre .has) (left .before .entry .ensures) (left .if1 .left) in
+    omega (arith, start .pre .has .going .few, start .pre .has .gateway)
 
 byte-requires : tie.Need-byte-requires
 byte-requires c κs = search needs
@@ -47,7 +49,8 @@ mul-join c = search needs
 index-1-join : tie.Need-index-1-join
 index-1-join c = let left = c .before .before .before .before .before .before .before .before .before in
     let start = left .before .before .before .before .before .before in
-    look-row (at (start .args .limits .now)) _ (start .pre .table) (start .pre .has) (left .before .entry .ensures) (left .if1 .left)
+    let below = look-below (at (start .args .limits .now)) _ (start .pre .table) (start .pre .has) (left .before .entry .ensures) (left .if1 .left) in
+    omega (arith, start .pre .has .going .few, start .pre .has .gateway)
 
 join-requires : tie.Need-join-requires
 join-requires c κs = let left = c .before .before .before .before .before .before .before .before .before .before .before .before in
