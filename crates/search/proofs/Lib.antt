@@ -5,6 +5,8 @@ pub mod Queue
 pub mod Ascending
 pub mod States
 pub mod Rows
+pub mod TableExamples
+pub mod SameTable
 pub mod Gathering
 pub mod Joining
 pub mod Results

@@ -201,26 +201,35 @@ pub turns-step : (fuel n : ℕ) (limit : ℕ → ℕ) (ls hs : List ℕ) (head :
 unfolding turns turn
 turns-step fuel n limit ls hs head queue from l = rw (lt-ltb head (length queue) l)
 
--- Two searches by other limits or links, in which the looks of every gateway taken from the queue give the same, are the same.
+-- Two searches by other limits, links or holders, in which the looks of every gateway taken from the queue give the same, are the same. Inv is what is known of a queue and marks.
 module _
-    (n : ℕ) (limit limit' : ℕ → ℕ) (ls ls' hs : List ℕ)
-    (alike : (x : ℕ) (queue from : List ℕ) → Going n hs queue from → x < n → visit n limit hs x (neighbours ls x) (more queue from) ≡ visit n limit' hs x (neighbours ls' x) (more queue from))
+    (n : ℕ) (limit limit' : ℕ → ℕ) (ls ls' hs hs' : List ℕ) (Inv : List ℕ → List ℕ → Type 0)
+    (alike : (queue from : List ℕ) (head : ℕ) → Inv queue from → head < length queue
+        → visit n limit hs (at queue head) (neighbours ls (at queue head)) (more queue from) ≡ visit n limit' hs' (at queue head) (neighbours ls' (at queue head)) (more queue from))
+    (keeps : (queue from queue' from' : List ℕ) (head : ℕ) → Inv queue from → head < length queue
+        → visit n limit' hs' (at queue head) (neighbours ls' (at queue head)) (more queue from) ≡ more queue' from' → Inv queue' from')
   where
-    turns-alike : (fuel head : ℕ) {queue from : List ℕ} → Going n hs queue from → turns fuel n limit ls hs head (more queue from) ≡ turns fuel n limit' ls' hs head (more queue from)
-    turns-alike zero head {queue} {from} g = turns-zero n limit ls hs head (more queue from) ∙ sym (turns-zero n limit' ls' hs head (more queue from))
+    turns-alike : (fuel head : ℕ) {queue from : List ℕ} → Inv queue from → turns fuel n limit ls hs head (more queue from) ≡ turns fuel n limit' ls' hs' head (more queue from)
+    turns-alike zero head {queue} {from} g = turns-zero n limit ls hs head (more queue from) ∙ sym (turns-zero n limit' ls' hs' head (more queue from))
     turns-alike (suc fuel) head {queue} {from} g =
         by-bool (ltb head (length queue))
         (λ e.
         let l : head < length queue = ltb-true _ _ e in
-        let x : ℕ = at queue head in
-        let below : x < n = g .below head l in
         turns-step fuel n limit ls hs head queue from l
-        ∙ ap (turns fuel n limit ls hs (suc head)) (alike x queue from g below)
-        ∙ by-state (visit n limit' hs x (neighbours ls' x) (more queue from))
-        (λ u y f v. rw v (turns-found fuel n limit ls hs (suc head) ∙ sym (turns-found fuel n limit' ls' hs (suc head))))
-        (λ q f v. rw v (turns-alike fuel (suc head) (visit-going limit' x (neighbours ls' x) g below v))) ∙ sym (turns-step fuel n limit' ls' hs head queue from l))
-        (λ e. let k = ltb-false _ _ e in turns-out (suc fuel) n limit ls hs head queue from k ∙ sym (turns-out (suc fuel) n limit' ls' hs head queue from k))
+        ∙ ap (turns fuel n limit ls hs (suc head)) (alike queue from head g l)
+        ∙ by-state (visit n limit' hs' (at queue head) (neighbours ls' (at queue head)) (more queue from))
+        (λ u y f v. rw v (turns-found fuel n limit ls hs (suc head) ∙ sym (turns-found fuel n limit' ls' hs' (suc head))))
+        (λ q f v. rw v (turns-alike fuel (suc head) (keeps queue from q f head g l v))) ∙ sym (turns-step fuel n limit' ls' hs' head queue from l))
+        (λ e. let k = ltb-false _ _ e in turns-out (suc fuel) n limit ls hs head queue from k ∙ sym (turns-out (suc fuel) n limit' ls' hs' head queue from k))
 
-    pub walk-alike : {start : List ℕ} → Startable n hs start → walk n limit ls hs start ≡ walk n limit' ls' hs start
+    pub walk-same : {start : List ℕ} → Inv start (replicate n NONE) → walk n limit ls hs start ≡ walk n limit' ls' hs' start
     unfolding walk
-    walk-alike s = turns-alike n 0 (going-start s)
+    walk-same s = turns-alike n 0 s
+
+-- .. with the same holders, from gateways that may start a search
+pub walk-alike : (n : ℕ) (limit limit' : ℕ → ℕ) (ls ls' hs : List ℕ)
+    → ((x : ℕ) (queue from : List ℕ) → Going n hs queue from → x < n → visit n limit hs x (neighbours ls x) (more queue from) ≡ visit n limit' hs x (neighbours ls' x) (more queue from))
+    → {start : List ℕ} → Startable n hs start → walk n limit ls hs start ≡ walk n limit' ls' hs start
+walk-alike n limit limit' ls ls' hs alike s =
+    walk-same n limit limit' ls ls' hs hs (Going n hs) (λ queue from head g l. alike (at queue head) queue from g (g .below head l))
+    (λ queue from queue' from' head g l v. visit-going limit' (at queue head) (neighbours ls' (at queue head)) g (g .below head l) v) (going-start s)

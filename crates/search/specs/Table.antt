@@ -9,7 +9,8 @@ use Rattle.packing.specs.Lists.{Lists, listOf}
 use Rattle.packing.specs.Plant.{NONE, GATEWAYS, HIGHEST, at}
 use Rattle.packing.specs.Holders.{holds}
 use Rattle.sound.specs.Sound.{isSound}
-use Rattle.search.specs.Search.{heldBy}
+use Rattle.sound.specs.Searchable.{searchable}
+use Rattle.search.specs.Search.{heldBy, walk}
 
 -- the row of u: what u holds, ascending, then 65535, to the sixteenth place
 unfoldable pub heldRow : ℕ → List ℕ → ℕ → List ℕ
@@ -39,3 +40,9 @@ unfoldable pub TableHolds : Type 0
 TableHolds =
     (n t m k : ℕ) (ls os hs : List ℕ) → isSound n t m k ls os hs ≡ true
     → (length (heldTable n hs) ≡ 1024) × ((u : ℕ) → u < 1024 → Row n (λ v. at hs v ≡ u) (rowAt (heldTable n hs) u))
+
+-- "the search learns only from it what a gateway holds": holders that have the same table, and of which nobody holds more than sixteen, are searched alike
+unfoldable pub TableDecides : Type 0
+TableDecides =
+    (n : ℕ) (hs hs' : List ℕ) → searchable n hs ≡ true → searchable n hs' ≡ true → heldTable n hs ≡ heldTable n hs'
+    → (limit : ℕ → ℕ) (ls start : List ℕ) → walk n limit ls hs start ≡ walk n limit ls hs' start
