@@ -13,9 +13,9 @@ use Rattle.packing.specs.Lists.{listWhere}
 use Rattle.packing.specs.Plant.{NONE, GATEWAYS, HIGHEST, at}
 use Rattle.packing.specs.Holders.{holds}
 use Rattle.packing.proofs.Tests.{by-bool}
-use Rattle.lists.proofs.Tallies.{Counted, counted-start, counted-few, counted-long, counted-turn, counted-end, tally-at}
+use Rattle.lists.proofs.Tallies.{Counted, counted-start, counted-few, counted-long, counted-turn, tally-at}
 use Rattle.search.specs.Search.{heldBy}
-use Rattle.search.specs.Table.{heldRow, heldTable, rowAt}
+use Rattle.search.specs.Table.{asRow, heldRow, heldTable, rowAt}
 use Rattle.search.proofs.Queue.{heldBy-length}
 use Rattle.search.proofs.Rows.{row-length, table-length, table-row, table-is}
 
@@ -42,12 +42,12 @@ row-next (suc k) a v l =
 -- the rows of the first v, with one more: it stands in its holder's row, and in no other
 module _ (hs : List ℕ) (v : ℕ) where
   mine : heldRow (v + 1) hs (at hs v) ≡ set (heldRow v hs (at hs v)) (holds v (at hs) (at hs v)) v
-  unfolding heldRow heldBy listWhere
+  unfolding asRow heldRow heldBy listWhere
   mine =
       rw (add-one, eq-eqb (at hs v) (at hs v) refl, ← heldBy-length v hs (at hs v)) (sym (row-next HIGHEST NONE v (heldBy v hs (at hs v))))
 
   other : (u : ℕ) → (at hs v ≡ u → ⊥) → heldRow (v + 1) hs u ≡ heldRow v hs u
-  unfolding heldRow heldBy listWhere
+  unfolding asRow heldRow heldBy listWhere
   other u e = rw (add-one, ne-eqb (at hs v) u e, append-nil)
 
   -- .. so the table with it is the table without it, with that row set
@@ -72,7 +72,7 @@ pub record Gathering (n : ℕ) (hs : List ℕ) (rows : List (List ℕ)) (loads :
 
 module _ (n : ℕ) (hs : List ℕ) where
   pub gathering-start : {rows : List (List ℕ)} {loads : List ℕ} → rows ≡ replicate GATEWAYS (replicate HIGHEST NONE) → loads ≡ replicate GATEWAYS 0 → Gathering n hs rows loads 0
-  unfolding heldRow heldBy listWhere
+  unfolding asRow heldRow heldBy listWhere
   gathering-start {rows} e zeros =
       record {
         counted = counted-start n hs zeros;

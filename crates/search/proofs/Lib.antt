@@ -7,6 +7,7 @@ pub mod States
 pub mod Rows
 pub mod TableExamples
 pub mod SameTable
+pub mod Moves
 pub mod Gathering
 pub mod Joining
 pub mod Results

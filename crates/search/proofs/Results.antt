@@ -4,7 +4,6 @@ use mathlib.Core.Path.{_≡_, sym}
 use mathlib.Core.List.{List}
 use native.Mathlib.Omega.{arith}
 use lib.ListN.{length, take}
-use Rattle.packing.specs.Holders.{holds}
 use Rattle.search.specs.Search.{Search, found, more}
 use Rattle.search.specs.declared.Walked.the-variants.{Found, RanOut}
 use Rattle.search.specs.Pre.{ForSome, ForEach, asSearch, queued, Is}

@@ -2,15 +2,14 @@
 use Prim.Native.Nat.{ℕ, zero, suc, _+_, _-_, _<_, _≤_}
 use mathlib.Core.Path.{_≡_, refl, sym, ap, _∙_}
 use mathlib.Core.Logic.{⊎-elim}
-use mathlib.Core.Bool.{Bool, true, false, cond, _&&_}
+use mathlib.Core.Bool.{true, false}
 use mathlib.Core.List.{List, [], _∷_, _++_, map}
 use native.Mathlib.Omega.{arith}
-use lib.Dec.{eqb, ltb, leb}
+use lib.Dec.{eqb, ltb}
 use lib.ListN.{length, take, getD, replicate, length-map, length-append, length-replicate, getD-replicate, List·getD-map, List·getD-append, List·getD-eq-default}
 use lib.Seq.{ext-getD, length-take-le, take-append-add, take-append-seam, getD-append-add}
-use borrow.Author.Tests.{eqb-true, eq-eqb, ne-eqb, lt-ltb, le-ltb, ltb-true, ltb-false, not-true}
-use Rattle.packing.specs.Count.{count}
-use Rattle.packing.specs.Lists.{Lists, listOf, memberOf}
+use borrow.Author.Tests.{eq-eqb, ne-eqb, lt-ltb, le-ltb, ltb-true, ltb-false}
+use Rattle.packing.specs.Lists.{listOf}
 use Rattle.packing.specs.Plant.{NONE, GATEWAYS, HIGHEST, at}
 use Rattle.packing.specs.Holders.{holds}
 use Rattle.packing.proofs.Tests.{by-bool}
@@ -19,7 +18,7 @@ use Rattle.packing.proofs.Lists.{listOf-length, listOf-at, member-at}
 use Rattle.sound.proofs.Meaning.{Sound, sound-means}
 use Rattle.sound.proofs.Searchable.{sound-searchable}
 use Rattle.search.specs.Search.{heldBy}
-use Rattle.search.specs.Table.{heldRow, heldTable, rowAt, Row, RowHolds, TableHolds}
+use Rattle.search.specs.Table.{asRow, heldRow, heldTable, rowAt, RowHolds, TableHolds}
 use Rattle.search.specs.Ascending.{HeldAscend}
 use Rattle.search.specs.Pre.{inRow, rowHasPlace, TableOf}
 use Rattle.search.proofs.Queue.{heldBy-length, heldBy-out}
@@ -119,7 +118,7 @@ held-some {n} hs u i few l e = omega (arith, heldBy-out n hs u (at (heldBy n hs 
 
 -- the row of one that holds no more than sixteen
 pub held-row : (n : ℕ) (hs : List ℕ) (u : ℕ) → holds n (at hs) u ≤ HIGHEST → heldRow n hs u ≡ heldBy n hs u ++ replicate (HIGHEST - length (heldBy n hs u)) NONE
-unfolding heldRow
+unfolding asRow heldRow
 held-row n hs u h = row-all HIGHEST NONE (heldBy n hs u) (omega (arith, heldBy-length n hs u))
 
 -- What the table tells of u.

@@ -205,9 +205,9 @@ turns-step fuel n limit ls hs head queue from l = rw (lt-ltb head (length queue)
 module _
     (n : ℕ) (limit limit' : ℕ → ℕ) (ls ls' hs hs' : List ℕ) (Inv : List ℕ → List ℕ → Type 0)
     (alike : (queue from : List ℕ) (head : ℕ) → Inv queue from → head < length queue
-        → visit n limit hs (at queue head) (neighbours ls (at queue head)) (more queue from) ≡ visit n limit' hs' (at queue head) (neighbours ls' (at queue head)) (more queue from))
+    → visit n limit hs (at queue head) (neighbours ls (at queue head)) (more queue from) ≡ visit n limit' hs' (at queue head) (neighbours ls' (at queue head)) (more queue from))
     (keeps : (queue from queue' from' : List ℕ) (head : ℕ) → Inv queue from → head < length queue
-        → visit n limit' hs' (at queue head) (neighbours ls' (at queue head)) (more queue from) ≡ more queue' from' → Inv queue' from')
+    → visit n limit' hs' (at queue head) (neighbours ls' (at queue head)) (more queue from) ≡ more queue' from' → Inv queue' from')
   where
     turns-alike : (fuel head : ℕ) {queue from : List ℕ} → Inv queue from → turns fuel n limit ls hs head (more queue from) ≡ turns fuel n limit' ls' hs' head (more queue from)
     turns-alike zero head {queue} {from} g = turns-zero n limit ls hs head (more queue from) ∙ sym (turns-zero n limit' ls' hs' head (more queue from))

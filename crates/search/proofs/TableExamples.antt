@@ -1,29 +1,28 @@
 -- The rows computed: the listing's plant of 01 once 2 and 3 are placed, and a gateway that holds as many as a row has places, or more.
-use Prim.Native.Nat.{ℕ}
 use mathlib.Core.Path.{_≡_, refl}
-use mathlib.Core.List.{List, [], _∷_, _++_}
+use mathlib.Core.List.{[], _∷_, _++_}
 use lib.ListN.{replicate}
 use Rattle.packing.specs.Lists.{listOf, listWhere}
 use Rattle.packing.specs.Plant.{NONE}
 use Rattle.search.specs.Search.{heldBy}
-use Rattle.search.specs.Table.{heldRow}
+use Rattle.search.specs.Table.{asRow, heldRow}
 
 -- 0 holds 2 and 3, ..
 two : heldRow 5 (NONE ∷ NONE ∷ 0 ∷ 0 ∷ NONE ∷ []) 0 ≡ 2 ∷ 3 ∷ replicate 14 NONE
-unfolding heldRow heldBy listWhere
+unfolding asRow heldRow heldBy listWhere
 two = refl
 
 -- .. and 1 nobody
 nobody : heldRow 5 (NONE ∷ NONE ∷ 0 ∷ 0 ∷ NONE ∷ []) 1 ≡ replicate 16 NONE
-unfolding heldRow heldBy listWhere
+unfolding asRow heldRow heldBy listWhere
 nobody = refl
 
 -- sixteen fill a row
 sixteen : heldRow 17 (replicate 16 16 ++ NONE ∷ []) 16 ≡ listOf 16 (λ v. v)
-unfolding heldRow heldBy listWhere listOf
+unfolding asRow heldRow heldBy listWhere listOf
 sixteen = refl
 
 -- of seventeen the last has no place in it; no sound record has that
 seventeen : heldRow 18 (replicate 17 17 ++ NONE ∷ []) 17 ≡ listOf 16 (λ v. v)
-unfolding heldRow heldBy listWhere listOf
+unfolding asRow heldRow heldBy listWhere listOf
 seventeen = refl

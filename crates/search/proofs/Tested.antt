@@ -6,8 +6,8 @@ use mathlib.Core.List.{List}
 use lib.Dec.{ltb, leb}
 use lib.ListN.{length}
 use borrow.Author.Tests.{leb-true, ltb-true, ltb-false, le-leb, lt-leb, le-ltb, lt-ltb, not-true, not-false}
-use Rattle.packing.specs.Lists.{listOf, written, Lent}
-use Rattle.packing.specs.Plant.{GATEWAYS, at}
+use Rattle.packing.specs.Lists.{listOf, written}
+use Rattle.packing.specs.Plant.{at}
 use Rattle.packing.specs.Holders.{held}
 use Rattle.packing.proofs.Tests.{tests, by-bool, and-l, and-r}
 use Rattle.sound.specs.Searchable.{searchable}

@@ -12,9 +12,13 @@ use Rattle.sound.specs.Sound.{isSound}
 use Rattle.sound.specs.Searchable.{searchable}
 use Rattle.search.specs.Search.{heldBy, walk}
 
--- the row of u: what u holds, ascending, then 65535, to the sixteenth place
+-- a list as a row: its numbers, then 65535, to the sixteenth place
+unfoldable pub asRow : List ℕ → List ℕ
+asRow l = take HIGHEST (l ++ replicate HIGHEST NONE)
+
+-- the row of u: what u holds, ascending
 unfoldable pub heldRow : ℕ → List ℕ → ℕ → List ℕ
-heldRow n hs u = take HIGHEST (heldBy n hs u ++ replicate HIGHEST NONE)
+heldRow n hs u = asRow (heldBy n hs u)
 
 -- the rows of 0, .., 1,023
 unfoldable pub heldTable : ℕ → List ℕ → List (List ℕ)

@@ -1,6 +1,5 @@
 use borrow.Author.Needs.{needs}
 use Prim.Native.Nat.{_-_}
-use native.Mathlib.Omega.{arith}
 use lib.ListN.{length}
 use Rattle.search.proofs.Joining.{Joining, join-start, join-place, join-turn, join-free, join-end}
 use Rattle.search.proofs.held.join.Statement.{statement}
