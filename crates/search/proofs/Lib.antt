@@ -1,4 +1,5 @@
--- Laws of the search: of lists and states; of the loops (Loads, Turns, and the rounds of Shifting); of what a walk reaches, what a shift leaves, what placing does, and what it does not depend on (Repeats, Limits).
+-- Laws of the search: of lists and states; of the table of what is held (Rows, SameTable, Moves); of the loops (Gathering, Joining, Looks, Turns, and the rounds of Shifting);
+-- of what a walk reaches, what a shift leaves, what placing does, and what it does not depend on (Repeats, Limits).
 -- Laws of the choke set: of the lists and the loops that write them (Unheld, Seen), and of the walk itself. Tested has what the public calls test.
 pub mod Examples
 pub mod Queue

@@ -47,14 +47,14 @@ module _
 
       pub look-is-free : {t : ℕ} {b : Bool} {from' : List ℕ} → from' ≡ set from u x → t ≡ limit u → b ≡ rowHasPlace (rowAt rows u) t → b ≡ true
           → Is (Found u x) queue from' (look n limit hs x u (take tail queue) from)
-      look-is-free {t} mark most place yes' =
-          let less : holds n (at hs) u < t = ltb-true _ _ (sym (table-place h (r .going .few) look-below t) ∙ sym place ∙ yes') in
+      look-is-free {t} mark most place free =
+          let less : holds n (at hs) u < t = ltb-true _ _ (sym (table-place h (r .going .few) look-below t) ∙ sym place ∙ free) in
           found-is (look-free n limit hs x u (take tail queue) from unseen (omega arith) ∙ ap (found u x) (sym mark))
 
       pub look-is-full : {t tail' : ℕ} {b : Bool} {queue' from' : List ℕ} → from' ≡ set from u x → t ≡ limit u → b ≡ rowHasPlace (rowAt rows u) t → b ≡ false
           → Joined (rowAt rows u) queue queue' tail tail' → Is (RanOut tail') queue' from' (look n limit hs x u (take tail queue) from)
-      look-is-full {t} mark most place no' j =
-          let full : t ≤ holds n (at hs) u = ltb-false _ _ (sym (table-place h (r .going .few) look-below t) ∙ sym place ∙ no') in
+      look-is-full {t} mark most place taken j =
+          let full : t ≤ holds n (at hs) u = ltb-false _ _ (sym (table-place h (r .going .few) look-below t) ∙ sym place ∙ taken) in
           more-is (look-full n limit hs x u (take tail queue) from unseen (omega arith) ∙ rw (j .state, mark, table-holds h (r .going .few) look-below)) (j .within)
 
 -- one link: a look at its other end, where NONE stands for a link that x is no end of

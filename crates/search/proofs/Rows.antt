@@ -9,6 +9,7 @@ use lib.Dec.{eqb, ltb}
 use lib.ListN.{length, take, getD, replicate, length-map, length-append, length-replicate, getD-replicate, List·getD-map, List·getD-append, List·getD-eq-default}
 use lib.Seq.{ext-getD, length-take-le, take-append-add, take-append-seam, getD-append-add}
 use borrow.Author.Tests.{eq-eqb, ne-eqb, lt-ltb, le-ltb, ltb-true, ltb-false}
+use Rattle.packing.specs.Count.{count}
 use Rattle.packing.specs.Lists.{listOf}
 use Rattle.packing.specs.Plant.{NONE, GATEWAYS, HIGHEST, at}
 use Rattle.packing.specs.Holders.{holds}
@@ -59,8 +60,8 @@ pub table-is : (n : ℕ) (hs : List ℕ) (rows : List (List ℕ)) → length row
 table-is n hs rows long each =
     ext-getD [] rows (heldTable n hs) (long ∙ sym (table-length n hs)) (λ u l. let b : u < GATEWAYS = omega (arith, long) in each u b ∙ sym (table-row n hs u b))
 
--- A list as a row of k places, and then a. Where it has no more than k entries, all of it stands there, ..
-pub row-all : (k a : ℕ) (l : List ℕ) → length l ≤ k → take k (l ++ replicate k a) ≡ l ++ replicate (k - length l) a
+-- A list as a row of k places, and a behind it. Where it has no more than k entries, all of it stands there, ..
+row-all : (k a : ℕ) (l : List ℕ) → length l ≤ k → take k (l ++ replicate k a) ≡ l ++ replicate (k - length l) a
 row-all k a l h =
     ap (λ (i : ℕ). take i (l ++ replicate k a)) (sum h) ∙ take-append-add l (replicate k a) (k - length l) ∙ ap (λ (r : List ℕ). l ++ r) (take-replicate (k - length l) k a (omega arith))
   where
@@ -72,14 +73,14 @@ pub row-length : (k a : ℕ) (l : List ℕ) → length (take k (l ++ replicate k
 row-length k a l = length-take-le k (l ++ replicate k a) (omega (arith, length-append l (replicate k a), length-replicate k a))
 
 -- what stands in a row, where no entry is 65535
-pub in-padded : (l : List ℕ) (k : ℕ) → ((i : ℕ) → i < length l → at l i ≡ NONE → ⊥) → inRow (l ++ replicate k NONE) ≡ l
+in-padded : (l : List ℕ) (k : ℕ) → ((i : ℕ) → i < length l → at l i ≡ NONE → ⊥) → inRow (l ++ replicate k NONE) ≡ l
 unfolding inRow
 in-padded [] zero h = refl
 in-padded [] (suc k) h = refl
 in-padded (a ∷ l) k h = rw (ne-eqb a NONE (h 0 (omega arith))) (ap {B = List ℕ} (λ r. a ∷ r) (in-padded l k (λ i q. h (suc i) (omega arith))))
 
 -- fewer than t stand in it where the place of the last that t allows is free
-pub padded-place : (l : List ℕ) (k t : ℕ) → ((i : ℕ) → i < length l → at l i ≡ NONE → ⊥) → rowHasPlace (l ++ replicate k NONE) t ≡ ltb (length l) t
+padded-place : (l : List ℕ) (k t : ℕ) → ((i : ℕ) → i < length l → at l i ≡ NONE → ⊥) → rowHasPlace (l ++ replicate k NONE) t ≡ ltb (length l) t
 unfolding rowHasPlace
 padded-place l k zero h = sym (le-ltb (length l) 0 (omega arith))
 padded-place l k (suc t) h =
@@ -116,51 +117,56 @@ module _ (row : List ℕ) where
 held-some : {n : ℕ} (hs : List ℕ) (u i : ℕ) → n ≤ GATEWAYS → i < length (heldBy n hs u) → at (heldBy n hs u) i ≡ NONE → ⊥
 held-some {n} hs u i few l e = omega (arith, heldBy-out n hs u (at (heldBy n hs u) i) (member-at (heldBy n hs u) i l) .0)
 
--- the row of one that holds no more than sixteen
-pub held-row : (n : ℕ) (hs : List ℕ) (u : ℕ) → holds n (at hs) u ≤ HIGHEST → heldRow n hs u ≡ heldBy n hs u ++ replicate (HIGHEST - length (heldBy n hs u)) NONE
-unfolding asRow heldRow
+-- A list and then 65535 to the sixteenth place; so is the row of one that holds no more than sixteen.
+unfoldable pub padded : List ℕ → List ℕ
+padded l = l ++ replicate (HIGHEST - length l) NONE
+
+held-row : (n : ℕ) (hs : List ℕ) (u : ℕ) → holds n (at hs) u ≤ HIGHEST → heldRow n hs u ≡ padded (heldBy n hs u)
+unfolding asRow heldRow padded
 held-row n hs u h = row-all HIGHEST NONE (heldBy n hs u) (omega (arith, heldBy-length n hs u))
 
 -- What the table tells of u.
 module _ {n : ℕ} {hs : List ℕ} {rows : List (List ℕ)} (t : TableOf n hs rows) (few : n ≤ GATEWAYS) {u : ℕ} (l : u < n) where
-  row-is : rowAt rows u ≡ heldBy n hs u ++ replicate (HIGHEST - length (heldBy n hs u)) NONE
+  row-is : rowAt rows u ≡ padded (heldBy n hs u)
   row-is = rw (t .is) (table-row n hs u (omega arith)) ∙ held-row n hs u (t .within u l)
 
   pub table-holds : inRow (rowAt rows u) ≡ heldBy n hs u
+  unfolding padded
   table-holds = rw row-is (in-padded (heldBy n hs u) (HIGHEST - length (heldBy n hs u)) (λ i q. held-some hs u i few q))
 
   pub table-place : (limit : ℕ) → rowHasPlace (rowAt rows u) limit ≡ ltb (holds n (at hs) u) limit
-  table-place limit =
-      rw (row-is, ← heldBy-length n hs u) (padded-place (heldBy n hs u) (HIGHEST - length (heldBy n hs u)) limit (λ i q. held-some hs u i few q))
+  unfolding padded
+  table-place limit = rw (row-is, ← heldBy-length n hs u) (padded-place (heldBy n hs u) (HIGHEST - length (heldBy n hs u)) limit (λ i q. held-some hs u i few q))
 
--- The statements.
+-- The statements: a list of up to sixteen and what is behind it, and a sound record's rows.
+padded-behind : (l : List ℕ) (i : ℕ) → length l ≤ i → i < HIGHEST → at (padded l) i ≡ NONE
+unfolding padded
+padded-behind l i q r =
+    let there : i ≡ length l + (i - length l) = omega arith in
+    ap (at (l ++ replicate (HIGHEST - length l) NONE)) there ∙ getD-append-add l (replicate (HIGHEST - length l) NONE) (i - length l) 0
+    ∙ getD-replicate (HIGHEST - length l) (i - length l) NONE 0 (omega arith)
+
 pub row-holds : RowHolds
-unfolding RowHolds HeldAscend
+unfolding RowHolds HeldAscend padded
 row-holds n hs u l h =
-    let is : rowAt (heldTable n hs) u ≡ heldBy n hs u ++ replicate (HIGHEST - length (heldBy n hs u)) NONE = table-row n hs u l ∙ held-row n hs u h in
-    let load : ℕ = length (heldBy n hs u) in
-    let most : load ≤ HIGHEST = omega (arith, heldBy-length n hs u) in
+    let is : rowAt (heldTable n hs) u ≡ padded (heldBy n hs u) = table-row n hs u l ∙ held-row n hs u h in
     record {
-      places = rw (is, length-append) (omega (arith, length-replicate (HIGHEST - length (heldBy n hs u)) NONE));
-      load = load;
+      places = rw (is, length-append) (omega (arith, heldBy-length n hs u, length-replicate (HIGHEST - length (heldBy n hs u)) NONE));
+      load = length (heldBy n hs u);
       front = rw (is, take-append-seam) (held-ascend n hs u);
-      behind = λ i q r. rw is (behind i q r);
+      behind = λ i q r. rw is (padded-behind (heldBy n hs u) i q r);
     }
-  where
-    behind : (i : ℕ) → length (heldBy n hs u) ≤ i → i < 16 → at (heldBy n hs u ++ replicate (HIGHEST - length (heldBy n hs u)) NONE) i ≡ 65535
-    behind i q r =
-        let there : i ≡ length (heldBy n hs u) + (i - length (heldBy n hs u)) = omega arith in
-        ap (at (heldBy n hs u ++ replicate (HIGHEST - length (heldBy n hs u)) NONE)) there ∙ getD-append-add (heldBy n hs u) (replicate (HIGHEST - length (heldBy n hs u)) NONE) (i - length (heldBy n hs u)) 0
-        ∙ getD-replicate (HIGHEST - length (heldBy n hs u)) (i - length (heldBy n hs u)) NONE 0 (omega arith)
 
-pub table-holds-all : TableHolds
+pub sound-table : TableHolds
 unfolding TableHolds RowHolds holds
-table-holds-all n t m k ls os hs e =
-    let s : Sound n t m k ls os hs = sound-means n t m k ls os hs e in (
-      table-length n hs,
-      λ u l. row-holds n hs u l (by-bool (ltb u n) (λ q. omega (arith, sound-searchable s .within u (ltb-true u n q)))
-          (λ q. rw (count-none n (λ v. eqb (at hs v) u) (λ v b. ne-eqb (at hs v) u (nobody s u v l (ltb-false u n q) b))) (omega arith))),
-    )
+sound-table n t m k ls os hs e = (table-length n hs, λ u l. row-holds n hs u l (by-bool (ltb u n) (λ q. few u (ltb-true u n q)) (λ q. none u l (ltb-false u n q))))
   where
-    nobody : Sound n t m k ls os hs → (u v : ℕ) → u < 1024 → n ≤ u → v < n → at hs v ≡ u → ⊥
-    nobody s u v l q b f = ⊎-elim (λ none. omega arith) (λ below. omega arith) (s .range v b)
+    s : Sound n t m k ls os hs
+    s = sound-means n t m k ls os hs e
+
+    few : (u : ℕ) → u < n → count n (λ v. eqb (at hs v) u) ≤ 16
+    few u l = sound-searchable s .within u l
+
+    -- a holder is a gateway or 65535, so no number between has a row with anybody in it
+    none : (u : ℕ) → u < 1024 → n ≤ u → count n (λ v. eqb (at hs v) u) ≤ 16
+    none u l q = rw (count-none n (λ v. eqb (at hs v) u) (λ v b. ne-eqb (at hs v) u (λ f. ⊎-elim (λ no. omega arith) (λ below. omega arith) (s .range v b)))) (omega arith)

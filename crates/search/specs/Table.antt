@@ -1,5 +1,5 @@
 -- 02, "Change 3": "held numbers are gathered before the search into a table of 1,024 rows of sixteen. For a sound record each row is proved to hold
--- exactly what its gateway holds, ascending, then 65535". n gateways, hs the holders. proofs/Rows.antt proves the statements.
+-- exactly what its gateway holds, ascending, then 65535". n gateways, hs the holders. proofs/Rows.antt and SameTable.antt prove the statements.
 use Prim.Native.Nat.{ℕ, _<_, _≤_}
 use mathlib.Core.Path.{_≡_}
 use mathlib.Core.Bool.{true}
