@@ -25,7 +25,7 @@ extern "C" {
     ((size_t)10 + 4 * (size_t)PLAN_GROUPS_LINKS_MAX + 2 * (size_t)PLAN_GROUPS_GATEWAYS_MAX)
 
 /* The bytes of stack that are enough for a thread that makes the call: see below. */
-#define PLAN_GROUPS_STACK 81920
+#define PLAN_GROUPS_STACK 114688
 
 /*
  * Plans the groups of the plant that a plant file describes.
@@ -67,11 +67,11 @@ extern "C" {
  *
  * What it uses. The call is reentrant and keeps nothing: the library has no writable data and allocates
  * none. Calls may run at once in any threads, each with an out of its own; they may share a file that
- * nobody changes meanwhile. Its lists stand on the stack: about 63 KB, nearly the same for every file. A
+ * nobody changes meanwhile. Its lists stand on the stack: about 93 KB, nearly the same for every file. A
  * thread whose stack has PLAN_GROUPS_STACK bytes, with what the thread itself takes of them, can make
  * the call; what the thread does besides needs more.
  *
- * Its time grows as n * n * (n + m) at worst. With 1,024 gateways most plants take well under a second;
+ * Its time grows as n * n * (m + 1) at worst. With 1,024 gateways most plants take well under a second;
  * one with thousands of links that leaves hundreds alone can take a few seconds.
  *
  * The plant file: "PLT", version, n, T, m, then m links of two ends, then the n numbers of the order.

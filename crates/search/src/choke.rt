@@ -1,6 +1,6 @@
 // The choke set (01, "Reading"), on plain lists and numbers.
 use crate::bytes::write_seen;
-use crate::held::ROW;
+use crate::held::Rows;
 use crate::held::gather;
 use crate::start::queue_unheld;
 use crate::walk::walk;
@@ -14,7 +14,7 @@ ghost use Rattle.search.specs.ChokePre.{Workable};
 fn write_set(
     n: u16,
     links: &[u16],
-    rows: &[[u16; ROW]; lists::PLACES],
+    rows: &Rows,
     holders: &[u16],
     queue: &mut [u16],
     from: &mut [u16],

@@ -6,17 +6,20 @@ ghost use Rattle.search.specs.Table.{heldTable};
 ghost use Rattle.search.specs.Pre.{Joinable, Joined, rowHasPlace};
 
 // The places of a row: as many as the highest limit.
-pub(crate) const ROW: usize = 16;
+const ROW: usize = 16;
+
+// A row for each number below 1,024.
+pub(crate) type Rows = [[u16; ROW]; lists::PLACES];
 
 // Rows with nobody in them.
-fn empty_rows() -> [[u16; ROW]; lists::PLACES]
+fn empty_rows() -> Rows
     ensures { λ r. ⌜ r ≡ replicate GATEWAYS (replicate HIGHEST NONE) ⌝ }
 {
     [[lists::NONE; ROW]; lists::PLACES]
 }
 
 // One pass over the holders: v takes the next place in the row of its holder.
-pub(crate) fn gather(n: u16, holders: &[u16]) -> [[u16; ROW]; lists::PLACES]
+pub(crate) fn gather(n: u16, holders: &[u16]) -> Rows
     ensures { λ r. ⌜ r ≡ heldTable n (now (holders .entry)) ⌝ }
 {
     let mut rows = empty_rows();

@@ -6,7 +6,7 @@ mod shift;
 mod start;
 mod walk;
 
-use crate::held::ROW;
+use crate::held::Rows;
 use crate::held::gather;
 use crate::shift::shift_back;
 ghost use mathlib.Core.Path.{_≡_};
@@ -26,7 +26,7 @@ fn settle(
     v: u16,
     limits: &[u8],
     links: &[u16],
-    rows: &[[u16; ROW]; lists::PLACES],
+    rows: &Rows,
     holders: &mut [u16],
     queue: &mut [u16],
     from: &mut [u16],

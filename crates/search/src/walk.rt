@@ -1,6 +1,6 @@
 // The search for a gateway with a place free. What a gateway holds, it learns from the table alone.
 use crate::Walked;
-use crate::held::ROW;
+use crate::held::Rows;
 use crate::held::has_place;
 use crate::held::join;
 ghost use mathlib.Core.Path.{_≡_};
@@ -30,7 +30,7 @@ fn look(
     limits: &[u8],
     x: u16,
     u: u16,
-    rows: &[[u16; ROW]; lists::PLACES],
+    rows: &Rows,
     queue: &mut [u16],
     tail: usize,
     from: &mut [u16],
@@ -53,7 +53,7 @@ fn visit(
     limits: &[u8],
     x: u16,
     links: &[u16],
-    rows: &[[u16; ROW]; lists::PLACES],
+    rows: &Rows,
     queue: &mut [u16],
     tail: usize,
     from: &mut [u16],
@@ -79,7 +79,7 @@ fn visit(
 pub(crate) fn walk(
     limits: &[u8],
     links: &[u16],
-    rows: &[[u16; ROW]; lists::PLACES],
+    rows: &Rows,
     queue: &mut [u16],
     tail: usize,
     from: &mut [u16],
