@@ -81,7 +81,7 @@ static void lower_moves(int limit, bool descending, struct rng *r)
 static void none_moves(int limit, struct rng *r)
 {
     make_full(limit, false, 0, NULL);
-    bool left = after_one_more(limit);
+    bool left = after_one_more(limit) && answer.leader[limit] == ALONE;
     lent_plan(&plant, AT_END, &outcome);
     left = left && outcome.number == 0 && outcome.fault == NULL;
     if (left)

@@ -29,6 +29,6 @@ pub more-is : {tail : ℕ} {queue from : List ℕ} {s : Search} → s ≡ more (
 unfolding asSearch queued
 more-is e l = record { state = sym e; within = l }
 
--- What holds of some holders that the table is of holds of some.
+-- Some holders that the table is of have what is required: then they have what all such holders are given.
 pub some-then : {rows : List (List ℕ)} {Has Gives : ℕ → List ℕ → Type 0} → ForSome rows Has → ForEach rows Has Gives → ForSome rows Gives
 some-then s each = record { n = s .n; hs = s .hs; table = s .table; has = each (s .n) (s .hs) (s .table) (s .has) }
