@@ -5,10 +5,10 @@ use mathlib.Core.List.{List, [], _∷_, _++_, append-nil, append-assoc}
 use native.Mathlib.Nat.{le-antisymm}
 use native.Mathlib.Numerals.{add-one}
 use native.Mathlib.Omega.{arith}
-use lib.Dec.{eqb, ltb}
-use lib.ListN.{length, set, take, replicate, length-append, length-replicate, length-set, getD-replicate, replicate-append-replicate}
-use lib.Seq.{getD-set-same, getD-set-other, set-append-seam, set-out, take-append-le, take-set-lt}
-use borrow.Author.Tests.{eqb-true, eqb-false, eq-eqb, ne-eqb, ltb-true, ltb-false}
+use lib.Dec.{ltb}
+use lib.ListN.{length, set, take, replicate, length-append, length-replicate, getD-replicate, replicate-append-replicate}
+use lib.Seq.{set-append-seam, set-out, take-append-le, take-set-lt}
+use borrow.Author.Tests.{eq-eqb, ne-eqb, ltb-true, ltb-false}
 use Rattle.packing.specs.Lists.{listWhere}
 use Rattle.packing.specs.Plant.{NONE, GATEWAYS, HIGHEST, at}
 use Rattle.packing.specs.Holders.{holds}
@@ -17,7 +17,7 @@ use Rattle.lists.proofs.Tallies.{Counted, counted-start, counted-few, counted-l
 use Rattle.search.specs.Search.{heldBy}
 use Rattle.search.specs.Table.{asRow, heldRow, heldTable, rowAt}
 use Rattle.search.proofs.Queue.{heldBy-length}
-use Rattle.search.proofs.Rows.{row-length, table-length, table-row, table-is}
+use Rattle.search.proofs.Rows.{row-length, table-length, table-row, table-is, one-row}
 
 -- In a row of k places the next entry of a list takes the place behind those before it; if there is none, the row stays.
 row-next : (k a v : ℕ) (l : List ℕ) → set (take k (l ++ replicate k a)) (length l) v ≡ take k ((l ++ v ∷ []) ++ replicate k a)
@@ -51,16 +51,10 @@ module _ (hs : List ℕ) (v : ℕ) where
   other u e = rw (add-one, ne-eqb (at hs v) u e, append-nil)
 
   -- .. so the table with it is the table without it, with that row set
-  table-next : at hs v < GATEWAYS → set (heldTable v hs) (at hs v) (set (rowAt (heldTable v hs) (at hs v)) (holds v (at hs) (at hs v)) v) ≡ heldTable (v + 1) hs
+  table-next : at hs v < GATEWAYS → heldTable (v + 1) hs ≡ set (heldTable v hs) (at hs v) (set (rowAt (heldTable v hs) (at hs v)) (holds v (at hs) (at hs v)) v)
   table-next l =
-      let new : List ℕ = set (rowAt (heldTable v hs) (at hs v)) (holds v (at hs) (at hs v)) v in
-      table-is (v + 1) hs (set (heldTable v hs) (at hs v) new) (length-set (heldTable v hs) (at hs v) new ∙ table-length v hs)
-      (λ u b.
-      by-bool (eqb (at hs v) u)
-      (λ e. rw (← eqb-true (at hs v) u e)
-      (getD-set-same (heldTable v hs) (at hs v) new [] (rw (table-length v hs) l)
-      ∙ ap (λ (row : List ℕ). set row (holds v (at hs) (at hs v)) v) (table-row v hs (at hs v) l) ∙ sym mine))
-      (λ e. let apart = eqb-false (at hs v) u e in getD-set-other (heldTable v hs) (at hs v) u new [] (λ q. apart (sym q)) ∙ table-row v hs u b ∙ sym (other u apart)))
+      one-row (v + 1) hs (heldTable v hs) (at hs v) (set (rowAt (heldTable v hs) (at hs v)) (holds v (at hs) (at hs v)) v) (table-length v hs) (rw (table-row v hs (at hs v) l) mine)
+      (λ w b apart. other w (λ q. apart (sym q)) ∙ sym (table-row v hs w b))
 
   -- .. and where its holder is past the table, nothing changes
   table-past : GATEWAYS ≤ at hs v → heldTable v hs ≡ heldTable (v + 1) hs
@@ -90,7 +84,7 @@ module _ (n : ℕ) (hs : List ℕ) where
     gathering-turn b f =
         record {
           counted = counted-turn n hs (g .counted) l e refl refl;
-          is = rw (f, g .is, g .counted .is, e, tally-at hs v (at hs v) (rw (← e) b)) (table-next hs v (rw (← e) b));
+          is = rw (f, g .is, g .counted .is, e, tally-at hs v (at hs v) (rw (← e) b)) (sym (table-next hs v (rw (← e) b)));
         }
 
     pub gathering-past : GATEWAYS ≤ u → Gathering n hs rows loads (v + 1)

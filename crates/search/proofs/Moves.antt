@@ -13,8 +13,8 @@ use Rattle.packing.specs.Plant.{GATEWAYS, at}
 use Rattle.packing.proofs.Tests.{by-bool, below-suc}
 use Rattle.packing.proofs.Lists.{listWhere-ext, listWhere-out, member-at}
 use Rattle.search.specs.Search.{heldBy}
-use Rattle.search.specs.Table.{asRow, heldRow, heldTable, rowAt}
-use Rattle.search.proofs.Rows.{table-length, table-row, table-is}
+use Rattle.search.specs.Table.{asRow, heldRow, heldTable}
+use Rattle.search.proofs.Rows.{table-length, table-row, one-row}
 
 -- a list without v, and an ascending one with v in its place
 unfoldable pub takenOut : ℕ → List ℕ → List ℕ
@@ -75,20 +75,6 @@ where-more (suc n) p q v l none h = below-suc v n l here (λ k. before k (where-
         one true = sym (put-before v n (listWhere n p) k)
         one false = rw (append-nil, append-nil)
 
--- a table that differs from other rows in two
-two-rows : (n : ℕ) (hs : List ℕ) (rows : List (List ℕ)) (a b : ℕ) (row row' : List ℕ) → length rows ≡ GATEWAYS → b < GATEWAYS → heldRow n hs a ≡ row → heldRow n hs b ≡ row'
-    → ((w : ℕ) → w < GATEWAYS → (w ≡ a → ⊥) → (w ≡ b → ⊥) → heldRow n hs w ≡ rowAt rows w) → heldTable n hs ≡ set (set rows a row) b row'
-two-rows n hs rows a b row row' long below mine yours others =
-    sym (table-is n hs (set (set rows a row) b row') (length-set (set rows a row) b row' ∙ length-set rows a row ∙ long) each)
-  where
-    each : (w : ℕ) → w < GATEWAYS → rowAt (set (set rows a row) b row') w ≡ heldRow n hs w
-    each w l =
-        by-bool (eqb w b) (λ e. rw (eqb-true w b e) (getD-set-same (set rows a row) b row' [] (omega (arith, length-set rows a row, long)) ∙ sym yours))
-        (λ e.
-        getD-set-other (set rows a row) b w row' [] (eqb-false w b e)
-        ∙ by-bool (eqb w a) (λ f. rw (eqb-true w a f) (getD-set-same rows a row [] (omega (arith, eqb-true w a f, long)) ∙ sym mine))
-        (λ f. getD-set-other rows a w row [] (eqb-false w a f) ∙ sym (others w l (eqb-false w a f) (eqb-false w b e))))
-
 -- v goes from its holder to u
 module _ (n : ℕ) (hs : List ℕ) (v u : ℕ) (inside : v < n) (entry : v < length hs) (other : at hs v ≡ u → ⊥) where
   new : at (set hs v u) v ≡ u
@@ -123,5 +109,8 @@ module _ (n : ℕ) (hs : List ℕ) (v u : ℕ) (inside : v < n) (entry : v < len
       → heldTable n (set hs v u) ≡ set (set (heldTable n hs) (at hs v) (asRow (takenOut v (heldBy n hs (at hs v))))) u (asRow (putIn v (heldBy n hs u)))
   unfolding heldRow
   table-moved l =
-      two-rows n (set hs v u) (heldTable n hs) (at hs v) u (asRow (takenOut v (heldBy n hs (at hs v)))) (asRow (putIn v (heldBy n hs u))) (table-length n hs) l (ap asRow held-less) (ap asRow held-more)
-      (λ w b apart apart'. ap asRow (held-same w apart apart') ∙ sym (table-row n hs w b))
+      one-row n (set hs v u) (set (heldTable n hs) (at hs v) (asRow (takenOut v (heldBy n hs (at hs v))))) u (asRow (putIn v (heldBy n hs u))) (length-set (heldTable n hs) (at hs v) _ ∙ table-length n hs) (ap asRow held-more)
+      (λ w b apart.
+      by-bool (eqb w (at hs v))
+      (λ e. let here = eqb-true w (at hs v) e in rw here (ap asRow held-less ∙ sym (getD-set-same (heldTable n hs) (at hs v) _ [] (omega (arith, here, table-length n hs)))))
+      (λ e. let away = eqb-false w (at hs v) e in ap asRow (held-same w away apart) ∙ sym (getD-set-other (heldTable n hs) (at hs v) w _ [] away ∙ table-row n hs w b)))

@@ -6,9 +6,9 @@ use mathlib.Core.Bool.{true, false}
 use mathlib.Core.List.{List, [], _∷_, _++_, map}
 use native.Mathlib.Omega.{arith}
 use lib.Dec.{eqb, ltb}
-use lib.ListN.{length, take, getD, replicate, length-map, length-append, length-replicate, getD-replicate, List·getD-map, List·getD-append, List·getD-eq-default}
-use lib.Seq.{ext-getD, length-take-le, take-append-add, take-append-seam, getD-append-add}
-use borrow.Author.Tests.{eq-eqb, ne-eqb, lt-ltb, le-ltb, ltb-true, ltb-false}
+use lib.ListN.{length, set, take, getD, replicate, length-set, length-map, length-append, length-replicate, getD-replicate, List·getD-map, List·getD-append, List·getD-eq-default}
+use lib.Seq.{ext-getD, getD-set-same, getD-set-other, length-take-le, take-append-add, take-append-seam, getD-append-add}
+use borrow.Author.Tests.{eqb-true, eqb-false, eq-eqb, ne-eqb, lt-ltb, le-ltb, ltb-true, ltb-false}
 use Rattle.packing.specs.Count.{count}
 use Rattle.packing.specs.Lists.{listOf}
 use Rattle.packing.specs.Plant.{NONE, GATEWAYS, HIGHEST, at}
@@ -59,6 +59,15 @@ table-row n hs u l =
 pub table-is : (n : ℕ) (hs : List ℕ) (rows : List (List ℕ)) → length rows ≡ GATEWAYS → ((u : ℕ) → u < GATEWAYS → rowAt rows u ≡ heldRow n hs u) → rows ≡ heldTable n hs
 table-is n hs rows long each =
     ext-getD [] rows (heldTable n hs) (long ∙ sym (table-length n hs)) (λ u l. let b : u < GATEWAYS = omega (arith, long) in each u b ∙ sym (table-row n hs u b))
+
+-- .. so a list of rows that differs from it in one is the table once that row is set
+pub one-row : (n : ℕ) (hs : List ℕ) (rows : List (List ℕ)) (u : ℕ) (row : List ℕ) → length rows ≡ GATEWAYS → heldRow n hs u ≡ row
+    → ((w : ℕ) → w < GATEWAYS → (w ≡ u → ⊥) → heldRow n hs w ≡ rowAt rows w) → heldTable n hs ≡ set rows u row
+one-row n hs rows u row long mine others =
+    sym
+    (table-is n hs (set rows u row) (length-set rows u row ∙ long)
+    (λ w l. by-bool (eqb w u) (λ e. rw (eqb-true w u e) (getD-set-same rows u row [] (omega (arith, eqb-true w u e, long)) ∙ sym mine))
+    (λ e. let apart = eqb-false w u e in getD-set-other rows u w row [] apart ∙ sym (others w l apart))))
 
 -- A list as a row of k places, and a behind it. Where it has no more than k entries, all of it stands there, ..
 row-all : (k a : ℕ) (l : List ℕ) → length l ≤ k → take k (l ++ replicate k a) ≡ l ++ replicate (k - length l) a

@@ -1,4 +1,4 @@
--- 01, "Placing", and the choke set of 01, "Reading", as functions.
+-- 01, "Placing", and the choke set of 01, "Reading", as functions; the table of what is held, of 02's change 3.
 pub mod Search
 pub mod Table
 pub mod Pre
