@@ -73,7 +73,7 @@ where-more (suc n) p q v l none h = below-suc v n l here (λ k. before k (where-
       where
         one : (b : Bool) → putIn v (listWhere n p) ++ cond (b || false) (n ∷ []) [] ≡ putIn v (listWhere n p ++ cond b (n ∷ []) [])
         one true = sym (put-before v n (listWhere n p) k)
-        one false = rw (append-nil, append-nil)
+        one false = append-nil (putIn v (listWhere n p)) ∙ ap (putIn v) (sym (append-nil (listWhere n p)))
 
 -- v goes from its holder to u
 module _ (n : ℕ) (hs : List ℕ) (v u : ℕ) (inside : v < n) (entry : v < length hs) (other : at hs v ≡ u → ⊥) where

@@ -26,7 +26,8 @@ settle-requires : tie.Need-settle-requires
 settle-requires c κs = let marks = c .before .before .before .before in
     let zeros = marks .before in
     let gathered = zeros .before in
-    place-settles (marks .nones .ensures) (zeros .zeros .ensures) (gathered .gather .ensures) (gathered .before .before .before .before .before .pre)
+    let start = gathered .before .before .before .before .before in
+    place-settles {n = start .args .n} (marks .nones .ensures) (zeros .zeros .ensures) (gathered .gather .ensures) (start .pre)
 
 same-length : tie.Need-same-length
 same-length c = search needs
