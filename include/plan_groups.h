@@ -17,7 +17,7 @@ extern "C" {
 #define PLAN_GROUPS_LINKS_MAX 8192
 
 /* The bytes of out that n gateways need, and those that are enough for every plant. */
-#define PLAN_GROUPS_OUT(n) ((size_t)3 * (size_t)(n))
+#define PLAN_GROUPS_OUT(n) ((size_t)3 * (size_t)(n) + 4)
 #define PLAN_GROUPS_OUT_MAX PLAN_GROUPS_OUT(PLAN_GROUPS_GATEWAYS_MAX)
 
 /* The bytes of the longest plant file; a longer one is refused. */
@@ -32,20 +32,21 @@ extern "C" {
  *
  * What the caller lends:
  *   file     file_len bytes that may be read: the plant file.
- *   out      out_len bytes that may be written. PLAN_GROUPS_OUT(n), that is 3n, are needed for n
+ *   out      out_len bytes that may be written. PLAN_GROUPS_OUT(n), that is 3n + 4, are needed for n
  *            gateways; PLAN_GROUPS_OUT_MAX are enough for every plant.
  * Any bytes and any lengths may be handed in. Both areas must be what they are said to be for the
  * whole call, and they must not overlap. Nothing outside them is read or written, nothing of the file
  * is changed, and neither pointer is kept. No alignment is needed.
  *
- * NULL may stand for an area of length 0. A file of no bytes is refused with 9. With an out of no
- * bytes a plant of 0 gateways is accepted and any other gives 10 (or the file's own number).
+ * NULL may stand for an area of length 0. A file of no bytes is refused with 9, and an out of no bytes
+ * with 10 (or with the file's own number).
  *
  * What comes back:
- *   0        accepted: the first 3n bytes of out are written, and none past them.
+ *   0        accepted: the first 3n + 4 bytes of out are written, and none past them.
  *            out[2v], out[2v + 1]   gateway v's leader, low byte first: v itself where v leads, its
  *                                   leader's number where it is a member, 65535 where it is alone;
- *            out[2n + v]            1 where v is in the choke set, else 0.
+ *            out[2n + v]            1 where v is in the choke set, else 0;
+ *            out[3n] to out[3n + 3] the number moved, low byte first: see below.
  *            In a group of two the one earlier in the order leads.
  *   else     the number of the refusal, and nothing is written.
  *
@@ -63,7 +64,12 @@ extern "C" {
  *    4   both ends of a link are equal
  *   20   a link stands there already, either way round
  *    6   the order repeats a number or has one not below n
- *   10   out_len is below 3n
+ *   10   out_len is below 3n + 4, for a plant of 0 gateways too
+ *
+ * The number moved. The plan places the gateways one after the other, and a gateway that is kept may make
+ * others change their holder. For each placing the gateways whose holder changed are counted, the new one
+ * included; it is 0 for one that is left. That is the fewest that any holders that hold it and all kept
+ * before it, along links and within T, could change. The number moved is the sum over all placings.
  *
  * What it uses. The call is reentrant and keeps nothing: the library has no writable data and allocates
  * none. Calls may run at once in any threads, each with an out of its own; they may share a file that
@@ -98,6 +104,9 @@ uint32_t plan_groups(const uint8_t *file, size_t file_len, uint8_t *out, size_t 
  * placings no grouping covers more of the first j in the order. That stays so as more are placed: who is
  * alone stays alone, who is covered stays covered; who leads whom may change. A gateway that is not yet
  * placed may be covered too, where a placed one has it for a partner, and may be alone later.
+ *
+ * The number moved is the sum over the placings so far; so the difference between the answers for k and for
+ * k + 1 placings is how many the placing of the next gateway moves.
  *
  * The choke bytes are those of the placings so far. The reason that a choke set gives for the number
  * alone (README.md) holds where placings = n, and need not hold before.
