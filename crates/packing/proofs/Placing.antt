@@ -7,15 +7,11 @@ use native.Mathlib.Omega.{arith}
 use lib.Dec.{eqb, ltb}
 use borrow.Author.Tests.{eq-eqb, ne-eqb, ltb-true, ltb-false}
 use Rattle.packing.specs.Holders.{held, Feasible}
+use Rattle.packing.specs.Moved.{Kept}
 use Rattle.packing.proofs.Tests.{by-bool, clash, below-suc, or-l, or-r, or-none, or-false-l}
 use Rattle.packing.proofs.Tight.{Tight, Blocked}
 use Rattle.packing.proofs.TightPairs.{transfer-blocked}
 use Rattle.packing.proofs.Prefixes.{IsOrder, Among, order-place}
-
--- v is kept: the new holders are feasible and hold what was held, and v
-pub record Kept (n : ℕ) (limit : ℕ → ℕ) (adj : ℕ → ℕ → Bool) (h h' : ℕ → ℕ) (v : ℕ) : Type 0 where
-  pub feasible : Feasible n limit adj h'
-  pub holding : (w : ℕ) → w < n → held n h' w ≡ (held n h w || eqb w v)
 
 -- v is left: no holder changed, v is in R of a tight pair, and every other gateway of R is held
 pub record Left (n : ℕ) (limit : ℕ → ℕ) (adj : ℕ → ℕ → Bool) (h h' : ℕ → ℕ) (v : ℕ) : Type 0 where

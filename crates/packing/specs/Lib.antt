@@ -8,5 +8,6 @@ pub mod Turns
 pub mod Grouping
 pub mod Pairs
 pub mod Holders
+pub mod Moved
 pub mod SoFar
 pub mod Choke
