@@ -15,6 +15,7 @@ pub mod Results
 pub mod Looks
 pub mod Turns
 pub mod Settling
+pub mod Walking
 pub mod Reach
 pub mod Shifting
 pub mod Placing

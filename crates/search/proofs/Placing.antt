@@ -12,13 +12,15 @@ use lib.Seq.{drop-set-lt, getD-set-same, getD-set-other, set-out}
 use borrow.Author.Tests.{eqb-true, eqb-false, eq-eqb, lt-ltb, ltb-true, ltb-false}
 use Rattle.packing.specs.Plant.{NONE, at, linked}
 use Rattle.packing.specs.Holders.{held, Feasible}
+use Rattle.packing.specs.Moved.{Kept}
 use Rattle.packing.proofs.Tests.{by-bool, clash, or-cases, or-l}
 use Rattle.packing.specs.Lists.{memberOf}
-use Rattle.packing.proofs.Placing.{Kept, Left, Placing}
+use Rattle.packing.proofs.Placing.{Left, Placing}
 use Rattle.search.specs.Search.{found, more, seen, walk, settled, placedHolders}
 use Rattle.search.specs.Pre.{Placeable}
 use Rattle.search.proofs.States.{by-state, unseen-below, mark-keeps, placeable-startable}
-use Rattle.search.proofs.Reach.{FoundAt, queued-cases, walk-exhausted, walk-found}
+use Rattle.search.proofs.Walking.{Stopped}
+use Rattle.search.proofs.Reach.{Reach, Reached, queued-cases, walk-exhausted, reached-stops}
 use Rattle.search.proofs.Shifting.{Chain, shift-any, shift-kept, shift-length}
 
 -- the list of v alone
@@ -26,34 +28,57 @@ alone : (v x : ℕ) → memberOf (v ∷ []) x ≡ true → x ≡ v
 unfolding memberOf
 alone v x m = ⊎-elim (λ q. sym (eqb-true v x q)) (λ q. absurd (false≢true q)) (or-cases (eqb v x) false m)
 
-module _ {n : ℕ} (limit : ℕ → ℕ) (ls : List ℕ) {hs : List ℕ} {v : ℕ} (p : Placeable n hs v) where
-  -- from each place of the queue, the gateways that holders were seen from lead to v
-  queued-chain : {u x : ℕ} {from : List ℕ} (f : FoundAt n limit ls hs (v ∷ []) u x from) (b i : ℕ) → i < b → i < length (f .queue) → (k : ℕ) × (k ≤ i) × Chain n ls v from (p .inside) hs k (at (f .queue) i)
-  unfolding Chain
-  queued-chain f zero i l inside = absurd (not-suc-le-zero l)
-  queued-chain {u} {x} {from} f (suc b) i l inside =
-      by-bool (eqb (at (f .queue) i) v) (λ e. (0, omega arith, eqb-true _ _ e))
-      (λ e.
-      queued-cases (f .reach) i inside (λ m. clash _ (eq-eqb _ _ (alone v _ m)) e)
-      (λ j.
-      let y : ℕ = at (f .queue) i in
-      let a = f .reach .along (at hs y) (ltb-true _ _ (j .isHeld)) (j .isSeen) in
-      let kept : at from (at hs y) ≡ at (f .marks) (at hs y) = ap (λ (l : List ℕ). at l (at hs y)) (f .marked) ∙ mark-keeps (f .marks) u x (at hs y) (f .unseen) (j .isSeen) in
-      let r = queued-chain f b (j .place) (omega (arith, j .before)) (omega (arith, j .before)) in
-      (suc (r .0), omega (arith, r .1, j .before), (eqb-false y v e, f .reach .going .below i inside, j .isHeld, rw (kept, a .seer) (a .link), rw (kept ∙ j .seer) (r .2)))))
+-- What stands at place i had its holder seen from a gateway that stands before it; m is a number that rises between the two.
+pub record SeenBefore (hs queue from : List ℕ) (m : ℕ → ℕ) (i : ℕ) : Type 0 where
+  pub place : ℕ
+  pub before : place < i
+  pub seer : at from (at hs (at queue i)) ≡ at queue place
+  pub rises : m place < m i
 
-  -- .. and so they do from the one that the place free was seen from
-  found-chain : {u x : ℕ} {from : List ℕ} → FoundAt n limit ls hs (v ∷ []) u x from → (k : ℕ) × (k < n) × Chain n ls v from (p .inside) hs k x
+module _ {n : ℕ} (limit : ℕ → ℕ) (ls : List ℕ) {hs : List ℕ} {v : ℕ} (p : Placeable n hs v) where
+  -- a search for v that found a place free
+  module _
+      {At : ℕ → List ℕ → List ℕ → Type 0} {u x : ℕ} {from : List ℕ} (f : Stopped n limit ls hs At u x from) (r : Reach n limit ls hs (v ∷ []) (f .queue) (f .marks)) (m : ℕ → ℕ)
+      (steps : (i : ℕ) → i < length (f .queue) → 1 ≤ i → SeenBefore hs (f .queue) (f .marks) m i)
+    where
+      -- from each place of the queue, the gateways that holders were seen from lead to v, in no more steps than m says
+      queued-chain : (b i : ℕ) → i < b → i < length (f .queue) → (k : ℕ) × (k ≤ m i) × Chain n ls v from (p .inside) hs k (at (f .queue) i)
+      unfolding Chain
+      queued-chain zero i l inside = absurd (not-suc-le-zero l)
+      queued-chain (suc b) i l inside =
+          by-bool (eqb (at (f .queue) i) v) (λ e. (0, omega arith, eqb-true _ _ e))
+          (λ e.
+          queued-cases r i inside (λ k. clash _ (eq-eqb _ _ (alone v _ k)) e)
+          (λ j.
+          let y : ℕ = at (f .queue) i in
+          let t : SeenBefore hs (f .queue) (f .marks) m i = steps i inside (omega (arith, j .before)) in
+          let a = r .along (at hs y) (ltb-true _ _ (j .isHeld)) (j .isSeen) in
+          let kept : at from (at hs y) ≡ at (f .marks) (at hs y) = ap (λ (l : List ℕ). at l (at hs y)) (f .marked) ∙ mark-keeps (f .marks) u x (at hs y) (f .looks .unseen) (j .isSeen) in
+          let c = queued-chain b (t .place) (omega (arith, t .before)) (omega (arith, t .before)) in
+          (suc (c .0), omega (arith, c .1, t .rises), (eqb-false y v e, r .going .below i inside, j .isHeld, rw (kept, a .seer) (a .link), rw (kept ∙ t .seer) (c .2)))))
+
+      -- .. and so they do from the one that the place free was seen from
+      pub stopped-chain : (k : ℕ) × (k ≤ m (f .place)) × Chain n ls v from (p .inside) hs k x
+      stopped-chain = let c = queued-chain (suc (f .place)) (f .place) (omega arith) (f .looks .inside) in (c .0, c .1, rw (f .looks .seer) at (c .2))
+
+  -- by the places themselves
+  found-chain : {u x : ℕ} {from : List ℕ} → Stopped n limit ls hs (Reached n limit ls hs (v ∷ [])) u x from → (k : ℕ) × (k < n) × Chain n ls v from (p .inside) hs k x
   found-chain f =
-      let r = queued-chain f (suc (f .place)) (f .place) (omega arith) (f .inside) in (r .0, omega (arith, r .1, f .inside, f .reach .going .room), rw (f .seer) at (r .2))
+      let r = f .there .0 in
+      let c = stopped-chain f r (λ i. i) (λ i l k. let j = r .joins i l k in record { place = j .place; before = j .before; seer = j .seer; rises = j .before }) in
+      (c .0, omega (arith, c .1, f .looks .inside, r .going .room), c .2)
+
+  -- u is a gateway, and seen from x
+  pub stopped-below : {At : ℕ → List ℕ → List ℕ → Type 0} {u x : ℕ} {from : List ℕ} (f : Stopped n limit ls hs At u x from) → Reach n limit ls hs (v ∷ []) (f .queue) (f .marks) → u < n
+  stopped-below {u = u} f r = unseen-below (f .marks) u (r .going .marks) (f .looks .unseen)
 
   -- v is kept where the walk found a place free
   place-kept : {u x : ℕ} {from : List ℕ} → Feasible n limit (linked ls) (at hs) → walk n limit ls hs (v ∷ []) ≡ found u x from → Kept n limit (linked ls) (at hs) (at (placedHolders n limit ls hs v)) v
   unfolding placedHolders settled
   place-kept {u} {x} {from} f e =
-      let w = walk-found (placeable-startable p) e in
+      let w = reached-stops n limit ls hs (v ∷ []) (placeable-startable p) e in
       let c = found-chain w in
-      rw e (shift-kept n ls v from (p .inside) n (c .0) hs u x (c .1) (p .holders) (unseen-below (w .marks) u (w .reach .going .marks) (w .unseen)) (c .2) (w .link) f (w .free))
+      rw e (shift-kept n ls v from (p .inside) n (c .0) hs u x (c .1) (p .holders) (stopped-below w (w .there .0)) (c .2) (w .looks .link) f (w .free))
 
   -- v is left where the queue ran out
   place-left : {queue from : List ℕ} → Feasible n limit (linked ls) (at hs) → walk n limit ls hs (v ∷ []) ≡ more queue from → Left n limit (linked ls) (at hs) (at (placedHolders n limit ls hs v)) v
@@ -84,9 +109,9 @@ module _ {n : ℕ} (limit : ℕ → ℕ) (ls : List ℕ) {hs : List ℕ} {v : �
   placed-any P step start =
       by-state (walk n limit ls hs (v ∷ []))
       (λ u x from e.
-      let w = walk-found (placeable-startable p) e in
+      let w = reached-stops n limit ls hs (v ∷ []) (placeable-startable p) e in
       let c = found-chain w in
-      rw e (shift-any n ls v from (p .inside) P step n (c .0) hs u x (unseen-below (w .marks) u (w .reach .going .marks) (w .unseen)) (c .2) start))
+      rw e (shift-any n ls v from (p .inside) P step n (c .0) hs u x (stopped-below w (w .there .0)) (c .2) start))
       (λ queue from e. rw e start)
 
   -- "Entries past these lengths never change"

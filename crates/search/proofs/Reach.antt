@@ -19,6 +19,7 @@ use Rattle.packing.specs.Lists.{memberOf}
 use Rattle.search.specs.Search.{Search, found, more, seen, heldBy, visit, turns, walk}
 use Rattle.search.specs.Pre.{Going, Startable}
 use Rattle.search.proofs.Queue.{member-place, append-at, heldBy-in, heldBy-out}
+use Rattle.search.proofs.Walking.{Looks, Stopped, RanOut, walk-stops, walk-ends}
 use Rattle.search.proofs.States.{gateway-some, unseen-below, unseen-start, seen-marked, seen-kept, seen-cases, mark-keeps, look-cases, by-state, going-start, going-joined, visit-found, turns-zero, turns-found, turns-out, turns-step}
 
 -- What stands at place i of the queue joined it: its holder is seen, from a gateway that stands before it.
@@ -49,24 +50,9 @@ pub record Reach (n : ℕ) (limit : ℕ → ℕ) (ls hs start queue from : List 
 abbrev pub LinksSeen : ℕ → List ℕ → List ℕ → List ℕ → ℕ → Type 0
 LinksSeen n ls queue from k = (i : ℕ) → i < k → i < length queue → (u : ℕ) → u < n → linked ls (at queue i) u ≡ true → seen from u ≡ true
 
--- a place free at u, looked at from x: the state before, and that all of it holds
-pub record FoundAt (n : ℕ) (limit : ℕ → ℕ) (ls hs start : List ℕ) (u x : ℕ) (from : List ℕ) : Type 0 where
-  pub queue : List ℕ
-  pub marks : List ℕ
-  pub reach : Reach n limit ls hs start queue marks
-  pub place : ℕ
-  pub inside : place < length queue
-  pub seer : at queue place ≡ x
-  pub link : linked ls x u ≡ true
-  pub unseen : seen marks u ≡ false
-  pub free : holds n (at hs) u < limit u
-  pub marked : from ≡ set marks u x
-
--- the queue has grown behind, and whoever was seen is seen
-record Grown (queue from queue' from' : List ℕ) : Type 0 where
-  longer : length queue ≤ length queue'
-  same : (i : ℕ) → i < length queue → at queue' i ≡ at queue i
-  keeps : (u : ℕ) → seen from u ≡ true → seen from' u ≡ true
+-- what is known during the turn of place k
+abbrev pub Reached : ℕ → (ℕ → ℕ) → List ℕ → List ℕ → List ℕ → ℕ → List ℕ → List ℕ → Type 0
+Reached n limit ls hs start k queue from = Reach n limit ls hs start queue from × LinksSeen n ls queue from k
 
 module _ (n : ℕ) (limit : ℕ → ℕ) (ls hs start : List ℕ) where
   -- nobody is seen at the start
@@ -100,9 +86,6 @@ module _ (n : ℕ) (limit : ℕ → ℕ) (ls hs start : List ℕ) where
 
       front : (i : ℕ) → i < length queue → at (queue ++ heldBy n hs u) i ≡ at queue i
       front i l = List·getD-append queue (heldBy n hs u) 0 i l
-
-      grown : Grown queue from (queue ++ heldBy n hs u) (set from u x)
-      grown = record { longer = omega (arith, length-append queue (heldBy n hs u)); same = front; keeps = λ w. seen-kept from u x w unseen }
 
       reach-full : limit u ≤ holds n (at hs) u → Reach n limit ls hs start (queue ++ heldBy n hs u) (set from u x)
       reach-full most =
@@ -154,79 +137,27 @@ module _ (n : ℕ) (limit : ℕ → ℕ) (ls hs start : List ℕ) where
                 link = rw (front (a .place) (a .inside)) (a .link);
               }
 
-      reach-free : holds n (at hs) u < limit u → FoundAt n limit ls hs start u x (set from u x)
-      reach-free less = record { queue = queue; marks = from; reach = r; place = p; inside = inside; seer = seer; link = link; unseen = unseen; free = less; marked = refl }
-
-  -- after looks at the neighbours us
-  After : List ℕ → List ℕ → List ℕ → Search → Type 0
-  After us queue from (found u x from') = FoundAt n limit ls hs start u x from'
-  After us queue from (more queue' from') = Reach n limit ls hs start queue' from' × Grown queue from queue' from' × ((u : ℕ) → memberOf us u ≡ true → seen from' u ≡ true)
-
-  after-one : {queue from queue' from' : List ℕ} (u : ℕ) (us : List ℕ) (s : Search) → Grown queue from queue' from' → seen from' u ≡ true → After us queue' from' s → After (u ∷ us) queue from s
-  unfolding After memberOf
-  after-one u us (found w y f) g e a = a
-  after-one u us (more q f) g e a = (
-    a .0,
-    record {
-      longer = omega (arith, g .longer, a .1 .longer);
-      same = λ i l. a .1 .same i (omega (arith, g .longer)) ∙ g .same i l;
-      keeps = λ w k. a .1 .keeps w (g .keeps w k);
-    },
-    λ w m. ⊎-elim (λ k. a .1 .keeps w (rw (← eqb-true u w k) e)) (a .2 w) (or-cases (eqb u w) (memberOf us w) m),
-  )
-
-  visit-reach : {queue from : List ℕ} (x p : ℕ) (us : List ℕ) → Reach n limit ls hs start queue from → p < length queue → at queue p ≡ x
-      → ((u : ℕ) → memberOf us u ≡ true → linked ls x u ≡ true) → After us queue from (visit n limit hs x us (more queue from))
-  unfolding visit After memberOf
-  visit-reach x p [] r inside seer links = (r, record { longer = omega arith; same = λ i l. refl; keeps = λ u e. e }, λ u e. absurd (false≢true e))
-  visit-reach {queue} {from} x p (u ∷ us) r inside seer links =
-      look-cases n limit hs x u queue from
-      (λ e s. rw s (after-one u us (visit n limit hs x us (more queue from)) (record { longer = omega arith; same = λ i l. refl; keeps = λ w q. q }) e (visit-reach x p us r inside seer later)))
-      (λ e less s. rw (s, visit-found n limit hs x us) (reach-free r x u p inside seer link e less))
-      (λ e most s.
-      let g = grown r x u p inside seer link e in
-      rw s
-      (after-one u us (visit n limit hs x us (more (queue ++ heldBy n hs u) (set from u x))) g (marked r x u p inside seer link e)
-      (visit-reach x p us (reach-full r x u p inside seer link e most) (omega (arith, g .longer)) (g .same p inside ∙ seer) later)))
+  -- the invariant through the walk
+  reached-joined : (k : ℕ) (queue from : List ℕ) → Reached n limit ls hs start k queue from → (x u : ℕ) → Looks ls queue from k x u → limit u ≤ holds n (at hs) u
+      → Reached n limit ls hs start k (queue ++ heldBy n hs u) (set from u x)
+  reached-joined k queue from (r, c) x u l most =
+      (reach-full r x u k (l .inside) (l .seer) (l .link) (l .unseen) most, λ i b q w below a. seen-kept from u x w (l .unseen) (c i b (before i b) w below (rw (List·getD-append queue (heldBy n hs u) 0 i (before i b)) at a)))
     where
-      link : linked ls x u ≡ true
-      link = links u (or-l (eqb u u) (memberOf us u) (eq-eqb u u refl))
+      before : (i : ℕ) → i < k → i < length queue
+      before i b = omega (arith, l .inside)
 
-      later : (w : ℕ) → memberOf us w ≡ true → linked ls x w ≡ true
-      later w m = links w (or-r (eqb u w) (memberOf us w) m)
+  reached-closed : (k : ℕ) (queue from : List ℕ) → Reached n limit ls hs start k queue from → k < length queue → ((u : ℕ) → linked ls (at queue k) u ≡ true → seen from u ≡ true)
+      → Reached n limit ls hs start (suc k) queue from
+  reached-closed k queue from (r, c) l s = (r, λ i b inside u below a. below-suc i k b (λ q. s u (rw q at a)) (λ q. c i q inside u below a))
 
-  -- after turns up to place k
-  unfoldable pub Ran : ℕ → Search → Type 0
-  Ran k (found u x from) = FoundAt n limit ls hs start u x from
-  Ran k (more queue from) = Reach n limit ls hs start queue from × LinksSeen n ls queue from k
+  pub reached-start : Startable n hs start → Reached n limit ls hs start 0 start (replicate n NONE)
+  reached-start s = (reach-start s, λ i l. absurd (not-suc-le-zero l))
 
-  -- the closed places after a turn
-  closed-turn : {queue from queue' from' : List ℕ} (head : ℕ) → head < length queue → LinksSeen n ls queue from head → Grown queue from queue' from'
-      → ((u : ℕ) → memberOf (neighbours ls (at queue head)) u ≡ true → seen from' u ≡ true) → LinksSeen n ls queue' from' (suc head)
-  closed-turn {queue} head l c g s i k inside u b a =
-      below-suc i head k (λ q. s u (neighbours-linked ls (at queue head) u ∙ (rw (q, g .same head l) at a)))
-      (λ q. g .keeps u (c i q (omega arith) u b (rw (g .same i (omega arith)) at a)))
+  pub reached-stops : {u x : ℕ} {from : List ℕ} → Startable n hs start → walk n limit ls hs start ≡ found u x from → Stopped n limit ls hs (Reached n limit ls hs start) u x from
+  reached-stops s = walk-stops n limit ls hs (Reached n limit ls hs start) (λ k queue from a. a .0 .going) reached-joined reached-closed (reached-start s)
 
-  turns-reach : {queue from : List ℕ} (fuel head : ℕ) → Reach n limit ls hs start queue from → LinksSeen n ls queue from head → Ran (head + fuel) (turns fuel n limit ls hs head (more queue from))
-  unfolding Ran After
-  turns-reach {queue} {from} zero head r c = rw (turns-zero n limit ls hs head (more queue from)) (r, λ i l. c i (omega arith))
-  turns-reach {queue} {from} (suc fuel) head r c =
-      by-bool (ltb head (length queue))
-      (λ e.
-      let l : head < length queue = ltb-true _ _ e in
-      let a : After (neighbours ls (at queue head)) queue from (visit n limit hs (at queue head) (neighbours ls (at queue head)) (more queue from)) =
-      visit-reach (at queue head) head (neighbours ls (at queue head)) r l refl (λ u m. sym (neighbours-linked ls (at queue head) u) ∙ m) in
-      rw (turns-step fuel n limit ls hs head queue from l)
-      (by-state (visit n limit hs (at queue head) (neighbours ls (at queue head)) (more queue from)) (λ u y f v. rw (v, turns-found fuel n limit ls hs (suc head)) (rw v at a))
-      (λ q f v. let b = rw v at a in rw (v, swap head fuel) (turns-reach fuel (suc head) (b .0) (closed-turn head l c (b .1) (b .2))))))
-      (λ e. rw (turns-out (suc fuel) n limit ls hs head queue from (ltb-false _ _ e)) (let short : length queue ≤ head = ltb-false _ _ e in (r, λ i l k. c i (omega arith) k)))
-    where
-      swap : (a b : ℕ) → a + suc b ≡ suc a + b
-      swap a b = omega arith
-
-  pub walk-reach : Startable n hs start → Ran n (walk n limit ls hs start)
-  unfolding walk
-  walk-reach s = rw zero-add at (turns-reach n 0 (reach-start s) (λ i l. absurd (not-suc-le-zero l)))
+  reached-ends : {queue from : List ℕ} → Startable n hs start → walk n limit ls hs start ≡ more queue from → RanOut (Reached n limit ls hs start) queue from
+  reached-ends s = walk-ends n limit ls hs (Reached n limit ls hs start) (λ k queue from a. a .0 .going) reached-joined reached-closed (reached-start s)
 
 -- what may start a search is below n
 pub start-below : {n : ℕ} {hs start : List ℕ} → Startable n hs start → (x : ℕ) → memberOf start x ≡ true → x < n
@@ -274,25 +205,21 @@ module _ {n : ℕ} {limit : ℕ → ℕ} {ls hs start queue from : List ℕ} (r 
 
 -- 01, "If the queue runs out": what then holds
 pub walk-exhausted : {n : ℕ} {limit : ℕ → ℕ} {ls hs start queue from : List ℕ} → Startable n hs start → walk n limit ls hs start ≡ more queue from → Exhausted n limit ls hs start queue from
-unfolding Ran
 walk-exhausted {n} {limit} {ls} {hs} {start} {queue} {from} s e =
-    let (r, c) = rw e at (walk-reach n limit ls hs start s) in
+    let out = reached-ends n limit ls hs start s e in
+    let (r, c) = out .there in
     record {
       starts = λ x m. let (i, l, q) = member-place start x m in let b = r .begins i l in rw (b .1 ∙ q) at (member-at queue i (b .0));
       below = λ x m. let (i, l, q) = member-place queue x m in rw q at (r .going .below i l);
-      closed = λ x u b m a. let (i, l, q) = member-place queue x m in c i (omega (arith, r .going .room)) l u b (rw q a);
+      closed = λ x u b m a. let (i, l, q) = member-place queue x m in c i (omega (arith, out .taken)) l u b (rw q a);
       owned = r .owned;
       full = r .full;
       others = λ x m. let (i, l, q) = member-place queue x m in queued-cases r i l (λ k. inl (rw q at k)) (λ j. inr (rw q at (j .isHeld)));
       least = λ R S starts closed owned. (λ x m. (let (i, l, q) = member-place queue x m in rw q at (least-queued r R S starts closed owned (suc i) i (omega arith) l)), least-seen r R S starts closed owned);
     }
 
-pub walk-found : {n : ℕ} {limit : ℕ → ℕ} {ls hs start from : List ℕ} {u x : ℕ} → Startable n hs start → walk n limit ls hs start ≡ found u x from → FoundAt n limit ls hs start u x from
-unfolding Ran
-walk-found {n} {limit} {ls} {hs} {start} s e = rw e at (walk-reach n limit ls hs start s)
-
 -- where nobody has a place free, the queue runs out
 pub walk-runs-out : {n : ℕ} {limit : ℕ → ℕ} (ls : List ℕ) {hs start : List ℕ} → Startable n hs start → ((u : ℕ) → limit u ≤ holds n (at hs) u)
     → (queue : List ℕ) × (from : List ℕ) × (walk n limit ls hs start ≡ more queue from)
 walk-runs-out {n} {limit} ls {hs} {start} s full =
-    by-state (walk n limit ls hs start) (λ u x from e. absurd (omega (arith, walk-found s e .free, full u))) (λ queue from e. (queue, from, e))
+    by-state (walk n limit ls hs start) (λ u x from e. absurd (omega (arith, reached-stops n limit ls hs start s e .free, full u))) (λ queue from e. (queue, from, e))

@@ -12,9 +12,10 @@ use borrow.Author.Tests.{eqb-true, eqb-false, eq-eqb, ne-eqb, lt-ltb, ltb-true}
 use Rattle.packing.specs.Count.{pick, count}
 use Rattle.packing.specs.Plant.{at, linked}
 use Rattle.packing.specs.Holders.{held, holds, Feasible}
+use Rattle.packing.specs.Moved.{Kept, moved}
 use Rattle.packing.proofs.Tests.{by-bool}
-use Rattle.packing.proofs.Placing.{Kept}
-use Rattle.packing.proofs.Sums.{sum-ext, sum-single, pick-and, count-ext, count-split}
+use Rattle.packing.proofs.Moved.{count-point}
+use Rattle.packing.proofs.Sums.{count-ext}
 use Rattle.search.specs.Search.{shift}
 
 -- the shift that is left after k rounds gives what the whole shift gives
@@ -54,14 +55,6 @@ module _ (n v u x : ℕ) (from hs₀ : List ℕ) where
     where
       none : n ≤ k → 0 ≡ n - k
       none a = omega arith
-
--- A count below n is one at x and those at other places.
-count-point : (n : ℕ) (p : ℕ → Bool) (x : ℕ) → x < n → count n p ≡ pick (p x) 1 + count n (λ i. p i && not (eqb x i))
-unfolding count
-count-point n p x l =
-    count-split n p (λ i. eqb x i)
-    ∙ ap (λ (k : ℕ). k + count n (λ i. p i && not (eqb x i)))
-    (sum-ext n (λ i. pick (p i && eqb x i) 1) (λ i. pick (eqb x i) (pick (p i) 1)) (λ i k. ap (λ (b : Bool). pick b 1) (and-comm (p i) (eqb x i)) ∙ pick-and (eqb x i) (p i)) ∙ sum-single n x (λ i. pick (p i) 1) l)
 
 -- u takes x: the entries, and what each holds
 module _ (n : ℕ) (hs : List ℕ) (x u : ℕ) (long : n ≤ length hs) (inside : x < n) where
