@@ -1,15 +1,15 @@
 -- How many gateways a change of holders moves.
-use Prim.Native.Nat.{ℕ, _+_, _<_, _≤_}
+use Prim.Native.Nat.{ℕ, suc, _+_, _<_, _≤_}
 use mathlib.Core.Path.{_≡_, refl, sym, ap, _∙_}
-use mathlib.Core.Bool.{Bool, true, false, not, _&&_, _||_, and-comm}
+use mathlib.Core.Bool.{Bool, true, false, not, _&&_, _||_, and-comm, and-false}
 use native.Mathlib.Omega.{arith}
 use lib.Dec.{eqb}
-use borrow.Author.Tests.{eq-eqb}
+use borrow.Author.Tests.{eqb-false, eq-eqb, ne-eqb}
 use Rattle.packing.specs.Count.{pick, count}
 use Rattle.packing.specs.Holders.{held}
 use Rattle.packing.specs.Moved.{moved, differing}
-use Rattle.packing.proofs.Tests.{and-r, not-i-false}
-use Rattle.packing.proofs.Sums.{sum-ext, sum-single, pick-and, count-mono, count-split, count-none, count-bound}
+use Rattle.packing.proofs.Tests.{by-bool, and-r, not-i, not-i-false}
+use Rattle.packing.proofs.Sums.{sum-ext, sum-single, pick-and, count-mono, count-ext, count-split, count-none, count-bound}
 
 -- A count below n is one at x and those at other places.
 pub count-point : (n : ℕ) (p : ℕ → Bool) (x : ℕ) → x < n → count n p ≡ pick (p x) 1 + count n (λ i. p i && not (eqb x i))
@@ -27,6 +27,23 @@ moved-none n h = count-none n (λ w. not (eqb (h w) (h w))) (λ w l. not-i-false
 pub moved-bound : (n : ℕ) (h h' : ℕ → ℕ) → moved n h h' ≤ n
 unfolding moved
 moved-bound n h h' = count-bound n (λ w. not (eqb (h w) (h' w)))
+
+-- Holders h₁ that differ from h at x alone, and h₂ that agree with them there: from h on one more is moved.
+pub moved-one : (n : ℕ) (h h₁ h₂ : ℕ → ℕ) (x : ℕ) → x < n → ((w : ℕ) → (w ≡ x → ⊥) → h₁ w ≡ h w) → h₂ x ≡ h₁ x → (h x ≡ h₂ x → ⊥) → moved n h h₂ ≡ suc (moved n h₁ h₂)
+unfolding moved
+moved-one n h h₁ h₂ x l others same differs =
+    omega (
+      arith,
+      count-point n (λ w. not (eqb (h w) (h₂ w))) x l,
+      ap (λ (b : Bool). pick b 1) (not-i (eqb (h x) (h₂ x)) (ne-eqb (h x) (h₂ x) differs)),
+      count-point n (λ w. not (eqb (h₁ w) (h₂ w))) x l,
+      ap (λ (b : Bool). pick b 1) (not-i-false (eqb (h₁ x) (h₂ x)) (eq-eqb (h₁ x) (h₂ x) (sym same))),
+      count-ext n (λ w. not (eqb (h w) (h₂ w)) && not (eqb x w)) (λ w. not (eqb (h₁ w) (h₂ w)) && not (eqb x w)) rest,
+    )
+  where
+    rest : (w : ℕ) → w < n → (not (eqb (h w) (h₂ w)) && not (eqb x w)) ≡ (not (eqb (h₁ w) (h₂ w)) && not (eqb x w))
+    rest w k =
+        by-bool (eqb x w) (λ e. rw e (and-false (not (eqb (h w) (h₂ w))) ∙ sym (and-false (not (eqb (h₁ w) (h₂ w)))))) (λ e. rw (others w (λ q. eqb-false x w e (sym q))))
 
 -- Holders that differ have entries that do.
 pub differing-moved : (n : ℕ) (h h' : ℕ → ℕ) → differing n h h' ≤ moved n h h'

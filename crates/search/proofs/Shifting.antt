@@ -1,7 +1,7 @@
 -- The shift: the loop that makes it, and what it leaves.
 use Prim.Native.Nat.{ℕ, zero, suc, _+_, _-_, _<_, _≤_}
 use mathlib.Core.Path.{_≡_, refl, sym, ap, _∙_}
-use mathlib.Core.Bool.{Bool, true, not, _&&_, _||_, and-comm, and-false, or-true, or-false}
+use mathlib.Core.Bool.{Bool, true, false, not, _&&_, _||_, and-comm, and-false, or-true, or-false}
 use mathlib.Core.List.{List}
 use native.Mathlib.Nat.{sub-zero, not-suc-le-zero}
 use native.Mathlib.Omega.{arith}
@@ -13,8 +13,8 @@ use Rattle.packing.specs.Count.{pick, count}
 use Rattle.packing.specs.Plant.{at, linked}
 use Rattle.packing.specs.Holders.{held, holds, Feasible}
 use Rattle.packing.specs.Moved.{Kept, moved}
-use Rattle.packing.proofs.Tests.{by-bool}
-use Rattle.packing.proofs.Moved.{count-point}
+use Rattle.packing.proofs.Tests.{by-bool, clash}
+use Rattle.packing.proofs.Moved.{count-point, moved-none, moved-one}
 use Rattle.packing.proofs.Sums.{count-ext}
 use Rattle.search.specs.Search.{shift}
 
@@ -126,6 +126,64 @@ module _ (n : ℕ) (ls : List ℕ) (v : ℕ) (from : List ℕ) (inside : v < n) 
       let other : y ≡ x → ⊥ = λ q. (let same : j ≡ suc k = chain-unique hs j (suc k) x c (unfold Chain in rw q at d) in omega arith) in
       let same : at (set hs x u) y ≡ at hs y = getD-set-other hs x y u 0 other in
       (d .0, d .1, rw same (d .2), rw same (d .3), rw same (chain-kept hs x u j c k (at from (at hs y)) (omega arith) (d .4)))
+
+  -- the k steps from x do not pass y
+  Off : List ℕ → ℕ → ℕ → ℕ → Type 0
+  Off hs zero x y = x ≡ y → ⊥
+  Off hs (suc k) x y = (x ≡ y → ⊥) × Off hs k (at from (at hs x)) y
+
+  -- .. where y is further from v than x
+  off-shorter : (hs : List ℕ) (j y : ℕ) → Chain hs j y → (k x : ℕ) → k < j → Chain hs k x → Off hs k x y
+  unfolding Off Chain
+  off-shorter hs j y d zero x l c = λ q. (let same : zero ≡ j = chain-unique hs zero j x (unfold Chain in c) (rw q d) in omega arith)
+  off-shorter hs j y d (suc k) x l c =
+      (λ q. (let same : suc k ≡ j = chain-unique hs (suc k) j x (unfold Chain in c) (rw q d) in omega arith), off-shorter hs j y d k (at from (at hs x)) (omega arith) (c .4))
+
+  -- .. and so it stays when one further from v changes its holder
+  off-kept : (hs : List ℕ) (z u j : ℕ) → Chain hs j z → (y k x : ℕ) → k < j → Chain hs k x → Off hs k x y → Off (set hs z u) k x y
+  unfolding Off Chain
+  off-kept hs z u j d y zero x l c o = o
+  off-kept hs z u j d y (suc k) x l c o =
+      let other : x ≡ z → ⊥ = λ q. (let same : suc k ≡ j = chain-unique hs (suc k) j x (unfold Chain in c) (rw q d) in omega arith) in
+      let same : at (set hs z u) x ≡ at hs x = getD-set-other hs z x u 0 other in
+      (o .0, rw same (off-kept hs z u j d y k (at from (at hs x)) (omega arith) (c .4) (o .1)))
+
+  -- who is not passed keeps its holder
+  shift-off : (fuel k : ℕ) (hs : List ℕ) (u x y : ℕ) → Chain hs k x → Off hs k x y → at (shift fuel v from u x hs) y ≡ at hs y
+  unfolding shift Off Chain
+  shift-off zero k hs u x y c o = refl
+  shift-off (suc fuel) zero hs u x y c o = rw (eq-eqb x v c) (getD-set-other hs x y u 0 (λ q. o (sym q)))
+  shift-off (suc fuel) (suc k) hs u x y c o =
+      rw (ne-eqb x v (c .0))
+      (shift-off fuel k (set hs x u) (at hs x) (at from (at hs x)) y (chain-kept hs x u (suc k) c k (at from (at hs x)) (omega arith) (c .4))
+      (off-kept hs x u (suc k) c y k (at from (at hs x)) (omega arith) (c .4) (o .1)) ∙ getD-set-other hs x y u 0 (λ q. o .0 (sym q)))
+
+  -- whoever x was looked at from does not hold it: else the chain from x came back to x
+  not-its-holder : (hs : List ℕ) (k u x : ℕ) → u < n → held n (at hs) v ≡ false → at from u ≡ x → Chain hs k x → at hs x ≡ u → ⊥
+  unfolding Chain
+  not-its-holder hs zero u x below free seer c q = clash (held n (at hs) v) (lt-ltb (at hs v) n (rw (← c, q) below)) free
+  not-its-holder hs (suc k) u x below free seer c q = let same : suc k ≡ k = chain-unique hs (suc k) k x (unfold Chain in c) (rw (q, seer) at (c .4)) in omega arith
+
+  -- "the number of gateways whose holder changed": a shift of k steps changes one holder in each, and v's
+  pub shift-moved : (fuel k : ℕ) (hs : List ℕ) (u x : ℕ) → k < fuel → n ≤ length hs → u < n → held n (at hs) v ≡ false → at from u ≡ x → Chain hs k x
+      → moved n (at hs) (at (shift fuel v from u x hs)) ≡ suc k
+  unfolding shift Chain
+  shift-moved zero k hs u x l long below free seer c = absurd (not-suc-le-zero l)
+  shift-moved (suc fuel) zero hs u x l long below free seer c =
+      let inside' : x < n = rw c inside in
+      rw (eq-eqb x v c)
+      (moved-one n (at hs) (at (set hs x u)) (at (set hs x u)) x inside' (λ w other. taken-other n hs x u long inside' w other) refl
+      (λ q. not-its-holder hs zero u x below free seer (unfold Chain in c) (q ∙ taken-here n hs x u long inside')) ∙ ap suc (moved-none n (at (set hs x u))))
+  shift-moved (suc fuel) (suc k) hs u x l long below free seer c =
+      let next : Chain (set hs x u) k (at from (at hs x)) = chain-kept hs x u (suc k) c k (at from (at hs x)) (omega arith) (c .4) in
+      let stays : at (shift fuel v from (at hs x) (at from (at hs x)) (set hs x u)) x ≡ at (set hs x u) x =
+      shift-off fuel k (set hs x u) (at hs x) (at from (at hs x)) x next (off-kept hs x u (suc k) c x k (at from (at hs x)) (omega arith) (c .4) (off-shorter hs (suc k) x c k (at from (at hs x)) (omega arith) (c .4))) in
+      rw (ne-eqb x v (c .0))
+      (moved-one n (at hs) (at (set hs x u)) (at (shift fuel v from (at hs x) (at from (at hs x)) (set hs x u))) x (c .1) (λ w other. taken-other n hs x u long (c .1) w other) stays
+      (λ q. not-its-holder hs (suc k) u x below free seer (unfold Chain in c) (q ∙ stays ∙ taken-here n hs x u long (c .1)))
+      ∙ ap suc
+      (shift-moved fuel k (set hs x u) (at hs x) (at from (at hs x)) (omega arith) (rw length-set long) (ltb-true _ _ (c .2))
+      (rw (taken-other n hs x u long (c .1) v (λ q. c .0 (sym q))) free) refl next))
 
   -- what any step keeps the shift keeps
   pub shift-any : (P : List ℕ → Type 0) → ((hs : List ℕ) (x u : ℕ) → x < n → u < n → P hs → P (set hs x u))
