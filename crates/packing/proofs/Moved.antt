@@ -7,7 +7,7 @@ use lib.Dec.{eqb}
 use borrow.Author.Tests.{eqb-false, eq-eqb, ne-eqb}
 use Rattle.packing.specs.Count.{pick, count}
 use Rattle.packing.specs.Holders.{held}
-use Rattle.packing.specs.Moved.{moved, differing}
+use Rattle.packing.specs.Moved.{moved, differs, differing}
 use Rattle.packing.proofs.Tests.{by-bool, and-r, not-i, not-i-false}
 use Rattle.packing.proofs.Sums.{sum-ext, sum-single, pick-and, count-mono, count-ext, count-split, count-none, count-bound}
 
@@ -47,5 +47,5 @@ moved-one n h h₁ h₂ x l others same differs =
 
 -- Holders that differ have entries that do.
 pub differing-moved : (n : ℕ) (h h' : ℕ → ℕ) → differing n h h' ≤ moved n h h'
-unfolding moved differing
-differing-moved n h h' = count-mono n (λ w. (held n h w || held n h' w) && not (eqb (h w) (h' w))) (λ w. not (eqb (h w) (h' w))) (λ w l. and-r (held n h w || held n h' w) (not (eqb (h w) (h' w))))
+unfolding moved differing differs
+differing-moved n h h' = count-mono n (differs n h h') (λ w. not (eqb (h w) (h' w))) (λ w l. and-r (held n h w || held n h' w) (not (eqb (h w) (h' w))))

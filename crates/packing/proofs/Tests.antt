@@ -118,6 +118,11 @@ any-elim (suc n) p e =
 pub any-none : (n : ℕ) (p : ℕ → Bool) → ((i : ℕ) → i < n → p i ≡ false) → any n p ≡ false
 any-none n p h = not-test (any n p) (λ t. let r = any-elim n p t in clash (p (r .0)) (r .2) (h (r .0) (r .1)))
 
+pub any-ext : (n : ℕ) (p q : ℕ → Bool) → ((i : ℕ) → i < n → p i ≡ q i) → any n p ≡ any n q
+unfolding any
+any-ext zero p q h = refl
+any-ext (suc n) p q h = rw (any-ext n p q (λ i l. h i (omega arith)), h n (omega arith))
+
 pub any-fails : (n : ℕ) (p : ℕ → Bool) → any n p ≡ false → (i : ℕ) → i < n → p i ≡ false
 any-fails n p e i l = not-test (p i) (λ t. clash (any n p) (any-intro n p i l t) e)
 

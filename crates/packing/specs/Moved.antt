@@ -15,9 +15,13 @@ pub record Kept (n : ℕ) (limit : ℕ → ℕ) (adj : ℕ → ℕ → Bool) (h 
 unfoldable pub moved : ℕ → (ℕ → ℕ) → (ℕ → ℕ) → ℕ
 moved n h h' = count n (λ w. not (eqb (h w) (h' w)))
 
--- .. at "other holders": any number from n on means none, so two such numbers are no difference
+-- w has one holder in h and another, or none, in h', or the other way round. Any number from n on means none, so two such numbers are no difference.
+unfoldable pub differs : ℕ → (ℕ → ℕ) → (ℕ → ℕ) → ℕ → Bool
+differs n h h' w = (held n h w || held n h' w) && not (eqb (h w) (h' w))
+
+-- at how many gateways other holders differ from the old ones
 unfoldable pub differing : ℕ → (ℕ → ℕ) → (ℕ → ℕ) → ℕ
-differing n h h' = count n (λ w. (held n h w || held n h' w) && not (eqb (h w) (h' w)))
+differing n h h' = count n (differs n h h')
 
 -- "this number is the least possible: no other set of holders .. differs from the old holders at fewer gateways"
 abbrev pub LeastMoved : (n : ℕ) (limit : ℕ → ℕ) (adj : ℕ → ℕ → Bool) (h : ℕ → ℕ) (v moves : ℕ) → Type 0

@@ -19,6 +19,8 @@ pub mod Walking
 pub mod Reach
 pub mod Shifting
 pub mod Placing
+pub mod Cuts
+pub mod Least
 pub mod Tested
 pub mod Repeats
 pub mod Twice

@@ -24,7 +24,7 @@ use Rattle.search.proofs.Reach.{Reach, Reached, queued-cases, walk-exha
 use Rattle.search.proofs.Shifting.{Chain, shift-any, shift-kept, shift-length}
 
 -- the list of v alone
-alone : (v x : ℕ) → memberOf (v ∷ []) x ≡ true → x ≡ v
+pub alone : (v x : ℕ) → memberOf (v ∷ []) x ≡ true → x ≡ v
 unfolding memberOf
 alone v x m = ⊎-elim (λ q. sym (eqb-true v x q)) (λ q. absurd (false≢true q)) (or-cases (eqb v x) false m)
 
@@ -62,7 +62,7 @@ module _ {n : ℕ} (limit : ℕ → ℕ) (ls : List ℕ) {hs : List ℕ} {v : �
       stopped-chain = let c = queued-chain (suc (f .place)) (f .place) (omega arith) (f .looks .inside) in (c .0, c .1, rw (f .looks .seer) at (c .2))
 
   -- by the places themselves
-  found-chain : {u x : ℕ} {from : List ℕ} → Stopped n limit ls hs (Reached n limit ls hs (v ∷ [])) u x from → (k : ℕ) × (k < n) × Chain n ls v from (p .inside) hs k x
+  pub found-chain : {u x : ℕ} {from : List ℕ} → Stopped n limit ls hs (Reached n limit ls hs (v ∷ [])) u x from → (k : ℕ) × (k < n) × Chain n ls v from (p .inside) hs k x
   found-chain f =
       let r = f .there .0 in
       let c = stopped-chain f r (λ i. i) (λ i l k. let j = r .joins i l k in record { place = j .place; before = j .before; seer = j .seer; rises = j .before }) in
@@ -71,6 +71,9 @@ module _ {n : ℕ} (limit : ℕ → ℕ) (ls : List ℕ) {hs : List ℕ} {v : �
   -- u is a gateway, and seen from x
   pub stopped-below : {At : ℕ → List ℕ → List ℕ → Type 0} {u x : ℕ} {from : List ℕ} (f : Stopped n limit ls hs At u x from) → Reach n limit ls hs (v ∷ []) (f .queue) (f .marks) → u < n
   stopped-below {u = u} f r = unseen-below (f .marks) u (r .going .marks) (f .looks .unseen)
+
+  pub stopped-seer : {At : ℕ → List ℕ → List ℕ → Type 0} {u x : ℕ} {from : List ℕ} (f : Stopped n limit ls hs At u x from) → Reach n limit ls hs (v ∷ []) (f .queue) (f .marks) → at from u ≡ x
+  stopped-seer {u = u} {x} f r = ap (λ (l : List ℕ). at l u) (f .marked) ∙ getD-set-same (f .marks) u x 0 (rw (r .going .marks) (stopped-below f r))
 
   -- v is kept where the walk found a place free
   place-kept : {u x : ℕ} {from : List ℕ} → Feasible n limit (linked ls) (at hs) → walk n limit ls hs (v ∷ []) ≡ found u x from → Kept n limit (linked ls) (at hs) (at (placedHolders n limit ls hs v)) v

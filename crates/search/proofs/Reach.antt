@@ -138,7 +138,7 @@ module _ (n : ℕ) (limit : ℕ → ℕ) (ls hs start : List ℕ) where
               }
 
   -- the invariant through the walk
-  reached-joined : (k : ℕ) (queue from : List ℕ) → Reached n limit ls hs start k queue from → (x u : ℕ) → Looks ls queue from k x u → limit u ≤ holds n (at hs) u
+  pub reached-joined : (k : ℕ) (queue from : List ℕ) → Reached n limit ls hs start k queue from → (x u : ℕ) → Looks ls queue from k x u → limit u ≤ holds n (at hs) u
       → Reached n limit ls hs start k (queue ++ heldBy n hs u) (set from u x)
   reached-joined k queue from (r, c) x u l most =
       (reach-full r x u k (l .inside) (l .seer) (l .link) (l .unseen) most, λ i b q w below a. seen-kept from u x w (l .unseen) (c i b (before i b) w below (rw (List·getD-append queue (heldBy n hs u) 0 i (before i b)) at a)))
@@ -146,7 +146,7 @@ module _ (n : ℕ) (limit : ℕ → ℕ) (ls hs start : List ℕ) where
       before : (i : ℕ) → i < k → i < length queue
       before i b = omega (arith, l .inside)
 
-  reached-closed : (k : ℕ) (queue from : List ℕ) → Reached n limit ls hs start k queue from → k < length queue → ((u : ℕ) → linked ls (at queue k) u ≡ true → seen from u ≡ true)
+  pub reached-closed : (k : ℕ) (queue from : List ℕ) → Reached n limit ls hs start k queue from → k < length queue → ((u : ℕ) → linked ls (at queue k) u ≡ true → seen from u ≡ true)
       → Reached n limit ls hs start (suc k) queue from
   reached-closed k queue from (r, c) l s = (r, λ i b inside u below a. below-suc i k b (λ q. s u (rw q at a)) (λ q. c i q inside u below a))
 
