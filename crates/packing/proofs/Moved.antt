@@ -7,7 +7,7 @@ use lib.Dec.{eqb}
 use borrow.Author.Tests.{eqb-false, eq-eqb, ne-eqb}
 use Rattle.packing.specs.Count.{pick, count}
 use Rattle.packing.specs.Holders.{held}
-use Rattle.packing.specs.Moved.{moved, differs, differing}
+use Rattle.packing.specs.Moved.{Kept, moved, differs, differing, LeastMoved, Fewest}
 use Rattle.packing.proofs.Tests.{by-bool, and-r, not-i, not-i-false}
 use Rattle.packing.proofs.Sums.{sum-ext, sum-single, pick-and, count-mono, count-ext, count-split, count-none, count-bound}
 
@@ -49,3 +49,7 @@ moved-one n h h₁ h₂ x l others same differs =
 pub differing-moved : (n : ℕ) (h h' : ℕ → ℕ) → differing n h h' ≤ moved n h h'
 unfolding moved differing differs
 differing-moved n h h' = count-mono n (differs n h h') (λ w. not (eqb (h w) (h' w))) (λ w l. and-r (held n h w || held n h' w) (not (eqb (h w) (h' w))))
+
+-- such holders, where none differ at fewer gateways than theirs have other entries
+pub fewest : {n : ℕ} {limit : ℕ → ℕ} {adj : ℕ → ℕ → Bool} {h h' : ℕ → ℕ} {v : ℕ} → Kept n limit adj h h' v → LeastMoved n limit adj h v (moved n h h') → Fewest n limit adj h h' v (moved n h h')
+fewest {n} {h = h} {h'} kept least = record { kept = kept; attained = omega (arith, least h' kept, differing-moved n h h'); least = least }

@@ -23,6 +23,12 @@ differs n h h' w = (held n h w || held n h' w) && not (eqb (h w) (h' w))
 unfoldable pub differing : ℕ → (ℕ → ℕ) → (ℕ → ℕ) → ℕ
 differing n h h' = count n (differs n h h')
 
--- "this number is the least possible: no other set of holders .. differs from the old holders at fewer gateways"
+-- "this number is the least possible: no other set of holders that holds exactly the kept ones and the new one .. differs from the old holders at fewer gateways"
 abbrev pub LeastMoved : (n : ℕ) (limit : ℕ → ℕ) (adj : ℕ → ℕ → Bool) (h : ℕ → ℕ) (v moves : ℕ) → Type 0
 LeastMoved n limit adj h v moves = (other : ℕ → ℕ) → Kept n limit adj h other v → moves ≤ differing n h other
+
+-- .. and it is possible: the holders h' are such, and differ at so many
+pub record Fewest (n : ℕ) (limit : ℕ → ℕ) (adj : ℕ → ℕ → Bool) (h h' : ℕ → ℕ) (v moves : ℕ) : Type 0 where
+  pub kept : Kept n limit adj h h' v
+  pub attained : differing n h h' ≡ moves
+  pub least : LeastMoved n limit adj h v moves

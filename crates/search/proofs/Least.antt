@@ -17,12 +17,12 @@ use Rattle.packing.proofs.Lists.{member-at}
 use Rattle.packing.proofs.Moved.{moved-none}
 use Rattle.packing.proofs.Sums.{count-mono, count-bound}
 use Rattle.search.specs.Search.{found, more, seen, heldBy, walk, shift, settled, placedHolders}
-use Rattle.search.specs.Pre.{Placeable}
+use Rattle.search.specs.Pre.{takings, Placeable}
 use Rattle.search.proofs.Queue.{append-at, heldBy-out}
 use Rattle.search.proofs.States.{by-state, unseen-below, mark-keeps, placeable-startable}
 use Rattle.search.proofs.Walking.{Looks, Stopped, walk-stops}
 use Rattle.search.proofs.Reach.{Reach, Reached, reached-start, reached-joined, reached-closed, reached-stops}
-use Rattle.search.proofs.Shifting.{Chain, shift-moved}
+use Rattle.search.proofs.Shifting.{shift-moved, shift-takings}
 use Rattle.search.proofs.Placing.{SeenBefore, stopped-chain, stopped-below, stopped-seer, found-chain}
 use Rattle.search.proofs.Cuts.{changes, changes-more, changes-all, changes-front, cut}
 
@@ -94,13 +94,14 @@ module _ {n : ℕ} (limit : ℕ → ℕ) (ls : List ℕ) {hs : List ℕ} {v : �
       let all = changes-all n (differs n (at hs) h') (w .queue) (length (w .queue)) in
       omega (arith, shift-moved n ls v from (p .inside) n k hs u x (omega (arith, most, last, all, count-bound n (differs n (at hs) h'))) (p .holders) below (p .free) (stopped-seer limit ls p w (r .0)) c, most, last, all)
 
--- where the walk found a place free, so many are moved
-pub found-moved : {n : ℕ} (limit : ℕ → ℕ) (ls : List ℕ) {hs : List ℕ} {v u x : ℕ} {from : List ℕ} (p : Placeable n hs v) → walk n limit ls hs (v ∷ []) ≡ found u x from
-    → (k : ℕ) × (k < n) × Chain n ls v from (p .inside) hs k x × (moved n (at hs) (at (shift n v from u x hs)) ≡ suc k)
+-- where the walk found a place free, each taking moves one
+pub found-moved : {n : ℕ} (limit : ℕ → ℕ) (ls : List ℕ) {hs : List ℕ} {v u x : ℕ} {from : List ℕ} → Placeable n hs v → walk n limit ls hs (v ∷ []) ≡ found u x from
+    → takings n v from u x hs ≡ moved n (at hs) (at (shift n v from u x hs))
 found-moved {n} limit ls {hs} {v} {u} {x} {from} p e =
     let w = reached-stops n limit ls hs (v ∷ []) (placeable-startable p) e in
     let (k, few, c) = found-chain limit ls p w in
-    (k, few, c, shift-moved n ls v from (p .inside) n k hs u x few (p .holders) (stopped-below limit ls p w (w .there .0)) (p .free) (stopped-seer limit ls p w (w .there .0)) c)
+    shift-takings n ls v from (p .inside) n k hs u x few c
+    ∙ sym (shift-moved n ls v from (p .inside) n k hs u x few (p .holders) (stopped-below limit ls p w (w .there .0)) (p .free) (stopped-seer limit ls p w (w .there .0)) c)
 
 -- "this number is the least possible"; one that is left moves nobody
 pub placed-least : {n : ℕ} (limit : ℕ → ℕ) (ls : List ℕ) {hs : List ℕ} {v : ℕ} → Placeable n hs v → Feasible n limit (linked ls) (at hs)

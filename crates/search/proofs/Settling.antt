@@ -1,18 +1,21 @@
 -- Placing v with a queue and marks to work in: what is required, and what the search leaves.
 use Prim.Native.Nat.{ℕ, _-_, _≤_}
-use mathlib.Core.Path.{_≡_, refl, sym}
+use mathlib.Core.Path.{_≡_, refl, sym, _∙_}
 use mathlib.Core.List.{List, [], _∷_}
 use native.Mathlib.Omega.{arith}
 use lib.ListN.{length, set, take, replicate, length-set, length-replicate}
 use Rattle.packing.specs.Plant.{NONE, GATEWAYS, at}
+use Rattle.packing.specs.Moved.{moved}
+use Rattle.packing.proofs.Moved.{moved-none}
 use Rattle.search.specs.Search.{walk, shift, settled, placedHolders}
 use Rattle.search.specs.declared.Walked.{Walked}
 use Rattle.search.specs.declared.Walked.the-variants.{Found, RanOut}
 use Rattle.search.specs.Table.{heldTable}
-use Rattle.search.specs.Pre.{TableOf, ForSome, ForEach, Is, Workspace, Walkable, Placeable, Settleable}
+use Rattle.search.specs.Pre.{takings, TableOf, ForSome, ForEach, Is, Workspace, Walkable, Placeable, Settleable}
 use Rattle.search.proofs.Rows.{take-replicate}
 use Rattle.search.proofs.States.{placeable-startable}
 use Rattle.search.proofs.Results.{found-state, more-state}
+use Rattle.search.proofs.Least.{found-moved}
 
 -- Placing v: a queue that starts with v.
 first-set : (l : List ℕ) (v : ℕ) → 1 ≤ length l → take 1 (set l 0 v) ≡ v ∷ []
@@ -42,13 +45,16 @@ module _
     walked : Is w queue' from' (walk n limit ls hs (v ∷ []))
     walked = rw (first-set queue v (omega (arith, s .space .places, s .free .inside))) at (d n hs (settle-table s) (settle-walkable s))
 
-    pub settle-kept : {u x : ℕ} {hs' : List ℕ} → w ≡ Found u x → hs' ≡ shift n v from' u x hs → hs' ≡ placedHolders n limit ls hs v
+    pub settle-kept : {u x r : ℕ} {hs' : List ℕ} → w ≡ Found u x → hs' ≡ shift n v from' u x hs → r ≡ takings n v from' u x hs
+        → (hs' ≡ placedHolders n limit ls hs v) × (r ≡ moved n (at hs) (at (placedHolders n limit ls hs v)))
     unfolding placedHolders settled
-    settle-kept {u} {x} q e = let is : Is (Found u x) queue' from' (walk n limit ls hs (v ∷ [])) = rw q at walked in rw (found-state is) e
+    settle-kept {u} {x} q e g =
+        let is : Is (Found u x) queue' from' (walk n limit ls hs (v ∷ [])) = rw q at walked in
+        rw (found-state is) (e, g ∙ found-moved limit ls (s .free) (found-state is))
 
-    pub settle-left : {tail : ℕ} → w ≡ RanOut tail → hs ≡ placedHolders n limit ls hs v
+    pub settle-left : {tail : ℕ} → w ≡ RanOut tail → (hs ≡ placedHolders n limit ls hs v) × (0 ≡ moved n (at hs) (at (placedHolders n limit ls hs v)))
     unfolding placedHolders settled
-    settle-left {tail} q = let is : Is (RanOut tail) queue' from' (walk n limit ls hs (v ∷ [])) = rw q at walked in rw (more-state is)
+    settle-left {tail} q = let is : Is (RanOut tail) queue' from' (walk n limit ls hs (v ∷ [])) = rw q at walked in rw (more-state is) (refl, sym (moved-none n (at hs)))
 
 -- The arrays to work in: zeros for the queue, and the first n of the marks of nobody.
 module _ {n : ℕ} {all : List ℕ} (unseen : all ≡ replicate GATEWAYS NONE) where

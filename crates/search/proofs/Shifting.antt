@@ -3,7 +3,7 @@ use Prim.Native.Nat.{ℕ, zero, suc, _+_, _-_, _<_, _≤_}
 use mathlib.Core.Path.{_≡_, refl, sym, ap, _∙_}
 use mathlib.Core.Bool.{Bool, true, false, not, _&&_, _||_, and-comm, and-false, or-true, or-false}
 use mathlib.Core.List.{List}
-use native.Mathlib.Nat.{sub-zero, not-suc-le-zero}
+use native.Mathlib.Nat.{sub-zero, zero-add, not-suc-le-zero}
 use native.Mathlib.Omega.{arith}
 use lib.Dec.{eqb}
 use lib.ListN.{length, set, length-set}
@@ -17,44 +17,62 @@ use Rattle.packing.proofs.Tests.{by-bool, clash}
 use Rattle.packing.proofs.Moved.{count-point, moved-none, moved-one}
 use Rattle.packing.proofs.Sums.{count-ext}
 use Rattle.search.specs.Search.{shift}
+use Rattle.search.specs.Pre.{takings}
 
--- the shift that is left after k rounds gives what the whole shift gives
+-- the shift that is left after k rounds gives what the whole shift gives, and takes as many more
 pub record Rounds (n v u x : ℕ) (from hs₀ hs : List ℕ) (taker taken k : ℕ) : Type 0 where
   pub upto : k ≤ n
   pub same : length hs ≡ length hs₀
   pub rest : shift (n - k) v from taker taken hs ≡ shift n v from u x hs₀
+  pub count : k + takings (n - k) v from taker taken hs ≡ takings n v from u x hs₀
 
 module _ (n v u x : ℕ) (from hs₀ : List ℕ) where
   pub rounds-start : Rounds n v u x from hs₀ hs₀ u x 0
-  rounds-start = record { upto = omega arith; same = refl; rest = rw sub-zero }
+  rounds-start = record { upto = omega arith; same = refl; rest = rw sub-zero; count = rw (sub-zero, zero-add) }
 
-  -- a round, by the test of whether v is taken
+  -- the rounds that are left are one and those after it
+  left : (k : ℕ) → k < n → n - k ≡ suc (n - (k + 1))
+  left k l = omega arith
+
   round : (hs : List ℕ) (taker taken k : ℕ) → k < n → shift (n - k) v from taker taken hs ≡ shift (suc (n - (k + 1))) v from taker taken hs
-  round hs taker taken k l = ap (λ (j : ℕ). shift j v from taker taken hs) (one k l)
-    where
-      one : (k : ℕ) → k < n → n - k ≡ suc (n - (k + 1))
-      one k l = omega arith
+  round hs taker taken k l = ap (λ (j : ℕ). shift j v from taker taken hs) (left k l)
+
+  round-count : (hs : List ℕ) (taker taken k : ℕ) → k < n → takings (n - k) v from taker taken hs ≡ takings (suc (n - (k + 1))) v from taker taken hs
+  round-count hs taker taken k l = ap (λ (j : ℕ). takings j v from taker taken hs) (left k l)
 
   pub rounds-turn : {hs hs' : List ℕ} {taker taken taker' taken' k : ℕ} → Rounds n v u x from hs₀ hs taker taken k → k < n → taker' ≡ at hs taken → hs' ≡ set hs taken taker
       → (taken ≡ v → ⊥) → taken' ≡ at from taker' → Rounds n v u x from hs₀ hs' taker' taken' (k + 1)
-  unfolding shift
+  unfolding shift takings
   rounds-turn {hs} {hs'} {taker} {taken} {taker'} {taken'} {k} r l old now go next =
       record {
         upto = omega arith;
         same = rw (now, length-set) (r .same);
         rest = rw (next, old, now) (rw (ne-eqb taken v go) at (sym (round hs taker taken k l) ∙ r .rest));
+        count = rw (next, old, now) (more (rw (ne-eqb taken v go) at (round-count hs taker taken k l)) (r .count));
       }
+    where
+      more : {a b c : ℕ} → a ≡ suc b → k + a ≡ c → k + 1 + b ≡ c
+      more e f = omega arith
 
-  pub rounds-done : {hs hs' : List ℕ} {taker taken k : ℕ} → Rounds n v u x from hs₀ hs taker taken k → k < n → hs' ≡ set hs taken taker → taken ≡ v → hs' ≡ shift n v from u x hs₀
-  unfolding shift
-  rounds-done {hs} {hs'} {taker} {taken} {k} r l now done = now ∙ (rw (eq-eqb taken v done) at (sym (round hs taker taken k l) ∙ r .rest))
+  pub rounds-done : {hs hs' : List ℕ} {taker taken k : ℕ} → Rounds n v u x from hs₀ hs taker taken k → k < n → hs' ≡ set hs taken taker → taken ≡ v
+      → (hs' ≡ shift n v from u x hs₀) × (k + 1 ≡ takings n v from u x hs₀)
+  unfolding shift takings
+  rounds-done {hs} {hs'} {taker} {taken} {k} r l now done =
+      (now ∙ (rw (eq-eqb taken v done) at (sym (round hs taker taken k l) ∙ r .rest)), last (rw (eq-eqb taken v done) at (round-count hs taker taken k l)) (r .count))
+    where
+      last : {a c : ℕ} → a ≡ 1 → k + a ≡ c → k + 1 ≡ c
+      last e f = omega arith
 
-  pub rounds-end : {hs : List ℕ} {taker taken k : ℕ} → Rounds n v u x from hs₀ hs taker taken k → n ≤ k → hs ≡ shift n v from u x hs₀
-  unfolding shift
-  rounds-end {hs} {taker} {taken} {k} r l = ap (λ (j : ℕ). shift j v from taker taken hs) (none l) ∙ r .rest
+  pub rounds-end : {hs : List ℕ} {taker taken k : ℕ} → Rounds n v u x from hs₀ hs taker taken k → n ≤ k → (hs ≡ shift n v from u x hs₀) × (k ≡ takings n v from u x hs₀)
+  unfolding shift takings
+  rounds-end {hs} {taker} {taken} {k} r l =
+      (ap (λ (j : ℕ). shift j v from taker taken hs) (none l) ∙ r .rest, same (ap (λ (j : ℕ). takings j v from taker taken hs) (none l)) (r .count))
     where
       none : n ≤ k → 0 ≡ n - k
       none a = omega arith
+
+      same : {a c : ℕ} → 0 ≡ a → k + a ≡ c → k ≡ c
+      same e f = omega arith
 
 -- u takes x: the entries, and what each holds
 module _ (n : ℕ) (hs : List ℕ) (x u : ℕ) (long : n ≤ length hs) (inside : x < n) where
@@ -194,6 +212,14 @@ module _ (n : ℕ) (ls : List ℕ) (v : ℕ) (from : List ℕ) (inside : v < n) 
   shift-any P step (suc fuel) (suc k) hs u x below c p =
       rw (ne-eqb x v (c .0))
       (shift-any P step fuel k (set hs x u) (at hs x) (at from (at hs x)) (ltb-true _ _ (c .2)) (chain-kept hs x u (suc k) c k (at from (at hs x)) (omega arith) (c .4)) (step hs x u (c .1) below p))
+
+  -- .. and so many are taken
+  pub shift-takings : (fuel k : ℕ) (hs : List ℕ) (u x : ℕ) → k < fuel → Chain hs k x → takings fuel v from u x hs ≡ suc k
+  unfolding takings Chain
+  shift-takings zero k hs u x l c = absurd (not-suc-le-zero l)
+  shift-takings (suc fuel) zero hs u x l c = rw (eq-eqb x v c)
+  shift-takings (suc fuel) (suc k) hs u x l c =
+      rw (ne-eqb x v (c .0)) (ap suc (shift-takings fuel k (set hs x u) (at hs x) (at from (at hs x)) (omega arith) (chain-kept hs x u (suc k) c k (at from (at hs x)) (omega arith) (c .4))))
 
   -- The shift: the holders so far are feasible, and u has a place free.
   pub shift-kept : {limit : ℕ → ℕ} (fuel k : ℕ) (hs : List ℕ) (u x : ℕ) → k < fuel → n ≤ length hs → u < n → Chain hs k x → linked ls x u ≡ true

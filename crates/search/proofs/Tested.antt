@@ -1,6 +1,6 @@
 -- The tests that `place` and `choke_set` make of what they are lent: what each says, and what the call leaves by it. b is its answer.
 use Prim.Native.Nat.{ℕ, _<_, _≤_}
-use mathlib.Core.Path.{_≡_, sym, _∙_}
+use mathlib.Core.Path.{_≡_, refl, sym, _∙_}
 use mathlib.Core.Bool.{Bool, true, false, not}
 use mathlib.Core.List.{List}
 use lib.Dec.{ltb, leb}
@@ -9,10 +9,14 @@ use borrow.Author.Tests.{leb-true, ltb-true, ltb-false, le-leb, lt-leb, le-ltb, 
 use Rattle.packing.specs.Lists.{listOf, written}
 use Rattle.packing.specs.Plant.{at}
 use Rattle.packing.specs.Holders.{held}
+use Rattle.packing.specs.Moved.{moved}
+use Rattle.packing.proofs.Moved.{moved-none}
 use Rattle.packing.proofs.Tests.{tests, by-bool, and-l, and-r}
 use Rattle.sound.specs.Searchable.{searchable}
 use Rattle.sound.proofs.Searchable.{Searchable, searchable-means, searchable-holds}
 use Rattle.search.specs.Search.{placedHolders, placeable, holdersAfter}
+use Rattle.search.specs.Moved.{movedBy, placeAnswer}
+use Rattle.search.specs.declared.Placed.{Placed}
 use Rattle.search.specs.ChokeSet.{chokeByte, chokeable, chokeWritten}
 use Rattle.search.specs.Pre.{Placeable}
 
@@ -60,14 +64,15 @@ module _ (n : ℕ) (hs : List ℕ) (v : ℕ) {b : Bool} (e : b ≡ placeable n h
   pub place-free : not b ≡ false → Placeable n hs v
   place-free t = placeable-means n hs v (sym e ∙ not-false b t)
 
-  pub place-refuses : (limit : ℕ → ℕ) (ls : List ℕ) → not b ≡ true → (false ≡ placeable n hs v) × (hs ≡ holdersAfter n limit ls hs v)
-  unfolding holdersAfter
-  place-refuses limit ls f = (sym (not-true b f) ∙ e, rw (sym e ∙ not-true b f))
+  pub place-refuses : (limit : ℕ → ℕ) (ls : List ℕ) → not b ≡ true
+      → (_≡_ {A = Placed} (record { done = false; moved = 0 }) (placeAnswer n limit ls hs v)) × (hs ≡ holdersAfter n limit ls hs v)
+  unfolding holdersAfter movedBy
+  place-refuses limit ls f = let no : placeable n hs v ≡ false = sym e ∙ not-true b f in rw no (λ i. record { done = false; moved = sym (moved-none n (at hs)) i }, refl)
 
-  pub place-places : (limit : ℕ → ℕ) (ls : List ℕ) {hs' : List ℕ} → not b ≡ false → hs' ≡ placedHolders n limit ls hs v
-      → (true ≡ placeable n hs v) × (hs' ≡ holdersAfter n limit ls hs v)
-  unfolding holdersAfter
-  place-places limit ls t h = (sym (not-false b t) ∙ e, rw (sym e ∙ not-false b t) h)
+  pub place-places : (limit : ℕ → ℕ) (ls : List ℕ) {hs' : List ℕ} {r : ℕ} → not b ≡ false → hs' ≡ placedHolders n limit ls hs v → r ≡ moved n (at hs) (at (placedHolders n limit ls hs v))
+      → (_≡_ {A = Placed} (record { done = true; moved = r }) (placeAnswer n limit ls hs v)) × (hs' ≡ holdersAfter n limit ls hs v)
+  unfolding holdersAfter movedBy
+  place-places limit ls t h m = let may : placeable n hs v ≡ true = sym e ∙ not-false b t in rw may (λ i. record { done = true; moved = m i }, h)
 
 -- what the test of the lent lists says, and what it takes
 pub chokeable-means : (n : ℕ) (hs : List ℕ) (room : ℕ) → chokeable n hs room ≡ true → Searchable n hs × (n ≤ room)

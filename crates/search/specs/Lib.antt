@@ -1,6 +1,7 @@
--- 01, "Placing", and the choke set of 01, "Reading", as functions; the table of what is held, of 02's change 3.
+-- 01, "Placing", and the choke set of 01, "Reading", as functions; the table of what is held, of 02's change 3; the number moved, of change 4.
 pub mod Search
 pub mod Table
+pub mod Moved
 pub mod Pre
 pub mod ChokeSet
 pub mod Twice

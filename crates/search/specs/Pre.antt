@@ -1,10 +1,10 @@
 -- What the functions of the search require, and how what they return and leave in the lent lists is read as a state of the model.
-use Prim.Native.Nat.{ℕ, _+_, _-_, _<_, _≤_}
+use Prim.Native.Nat.{ℕ, zero, suc, _+_, _-_, _<_, _≤_}
 use mathlib.Core.Path.{_≡_}
 use mathlib.Core.Bool.{Bool, false, not, cond, _&&_}
 use mathlib.Core.List.{List, [], _∷_, _++_}
 use lib.Dec.{eqb, ltb}
-use lib.ListN.{length, take, replicate, getD}
+use lib.ListN.{length, set, take, replicate, getD}
 use Rattle.packing.specs.Count.{count}
 use Rattle.packing.specs.Plant.{NONE, GATEWAYS, HIGHEST, at}
 use Rattle.packing.specs.Holders.{held, holds}
@@ -97,6 +97,11 @@ pub record Walkable (n : ℕ) (hs queue : List ℕ) (tail : ℕ) (from : List �
   pub start : Startable n hs (take tail queue)
   pub within : tail ≤ length queue
   pub space : Workspace n queue from
+
+-- in how many rounds the shift comes to v: each takes one gateway
+unfoldable pub takings : ℕ → ℕ → List ℕ → ℕ → ℕ → List ℕ → ℕ
+takings zero v from u x hs = 0
+takings (suc fuel) v from u x hs = cond (eqb x v) 1 (suc (takings fuel v from (at hs x) (at from (at hs x)) (set hs x u)))
 
 -- what the test of whether v may be placed says
 pub record Placeable (n : ℕ) (hs : List ℕ) (v : ℕ) : Type 0 where

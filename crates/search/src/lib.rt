@@ -11,7 +11,9 @@ use crate::held::gather;
 use crate::shift::shift_back;
 ghost use mathlib.Core.Path.{_≡_};
 ghost use Rattle.packing.specs.Plant.{at};
+ghost use Rattle.packing.specs.Moved.{moved};
 ghost use Rattle.search.specs.Search.{placeable, placedHolders, holdersAfter};
+ghost use Rattle.search.specs.Moved.{placeAnswer};
 ghost use Rattle.search.specs.Pre.{Placeable, Settleable};
 
 // How a search ends or stands: at a gateway with a place free, looked at from another; or with so many queued.
@@ -20,7 +22,13 @@ enum Walked {
     RanOut(usize),
 }
 
-// Places v with the table of the holders, and a queue and marks to work in.
+// Whether v may be placed, and how many gateways have another holder afterwards.
+pub struct Placed {
+    pub done: bool,
+    pub moved: u16,
+}
+
+// Places v with the table of the holders, and a queue and marks to work in. Returns how many have another holder afterwards.
 fn settle(
     n: u16,
     v: u16,
@@ -30,22 +38,24 @@ fn settle(
     holders: &mut [u16],
     queue: &mut [u16],
     from: &mut [u16],
-)
+) -> u16
     requires { ⌜ Settleable n (now holders) v (now rows) (now queue) (now from) ⌝ }
-    ensures { λ _. ⌜ now (holders .exit) ≡ placedHolders n (at (now (limits .entry))) (now (links .entry)) (now (holders .entry)) v ⌝ }
+    ensures holders { λ _. ⌜ now (holders .exit) ≡ placedHolders n (at (now (limits .entry))) (now (links .entry)) (now (holders .entry)) v ⌝ }
+    ensures moved { λ r. ⌜ r ≡ moved n (at (now (holders .entry))) (at (placedHolders n (at (now (limits .entry))) (now (links .entry)) (now (holders .entry)) v)) ⌝ }
 {
     queue[0] = v;
     let w = walk::walk(limits, links, rows, queue, 1, from);
     match w {
         Walked::Found(u, x) => shift_back(n, v, u, x, from, holders),
-        Walked::RanOut(_) => {}
+        Walked::RanOut(_) => 0,
     }
 }
 
-// Places v, which may be placed: the holders afterwards are those of 01's search.
-fn place_unheld(n: u16, v: u16, limits: &[u8], links: &[u16], holders: &mut [u16])
+// Places v, which may be placed: the holders afterwards are those of 01's search. Returns how many have another holder.
+fn place_unheld(n: u16, v: u16, limits: &[u8], links: &[u16], holders: &mut [u16]) -> u16
     requires { ⌜ Placeable n (now holders) v ⌝ }
-    ensures { λ _. ⌜ now (holders .exit) ≡ placedHolders n (at (now (limits .entry))) (now (links .entry)) (now (holders .entry)) v ⌝ }
+    ensures holders { λ _. ⌜ now (holders .exit) ≡ placedHolders n (at (now (limits .entry))) (now (links .entry)) (now (holders .entry)) v ⌝ }
+    ensures moved { λ r. ⌜ r ≡ moved n (at (now (holders .entry))) (at (placedHolders n (at (now (limits .entry))) (now (links .entry)) (now (holders .entry)) v)) ⌝ }
 {
     let rows = gather(n, holders);
     let mut queue = lists::marks::zeros();
@@ -60,7 +70,7 @@ fn place_unheld(n: u16, v: u16, limits: &[u8], links: &[u16], holders: &mut [u16
         holders,
         &mut queue,
         &mut from[..end],
-    );
+    )
 }
 
 // Whether v may be placed.
@@ -76,14 +86,17 @@ fn is_placeable(n: u16, v: u16, holders: &[u16]) -> bool
     n <= lists::entry(holders, v)
 }
 
-// Places v by a limit for each gateway, 0 past the list's end, and answers whether v may be placed; if not, nothing is changed.
-pub fn place(n: u16, v: u16, limits: &[u8], links: &[u16], holders: &mut [u16]) -> bool
-    ensures done { λ r. ⌜ r ≡ placeable n (now (holders .entry)) v ⌝ }
+// Places v by a limit for each gateway, 0 past the list's end. Answers whether v may be placed, and how many gateways have another holder afterwards; if it may not, nothing is changed.
+pub fn place(n: u16, v: u16, limits: &[u8], links: &[u16], holders: &mut [u16]) -> Placed
+    ensures answer { λ r. ⌜ r ≡ placeAnswer n (at (now (limits .entry))) (now (links .entry)) (now (holders .entry)) v ⌝ }
     ensures holders { λ _. ⌜ now (holders .exit) ≡ holdersAfter n (at (now (limits .entry))) (now (links .entry)) (now (holders .entry)) v ⌝ }
 {
     if !is_placeable(n, v, holders) {
-        return false;
+        return Placed {
+            done: false,
+            moved: 0,
+        };
     }
-    place_unheld(n, v, limits, links, holders);
-    true
+    let moved = place_unheld(n, v, limits, links, holders);
+    Placed { done: true, moved }
 }

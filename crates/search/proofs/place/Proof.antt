@@ -20,7 +20,7 @@ same-length-2 c = search needs
 
 returns-2 : tie.Need-returns-2
 returns-2 c = let test = c .before .before .before .before in
-    place-places _ _ _ (test .before .is-placeable .ensures) _ _ (test .if1 .left) (c .before .before .place-unheld .ensures)
+    place-places _ _ _ (test .before .is-placeable .ensures) _ _ (test .if1 .left) (c .before .before .place-unheld .ensures .0) (c .before .before .place-unheld .ensures .1)
 
 pub place-spec : {M : Type 1} → statement M
 place-spec =

@@ -35,7 +35,7 @@ returns : tie.Need-returns
 returns c = let known = c .before .before .before .before .before .before in
     let called = known .before .before .before .before .before .before in
     let start = called .before .before .before .before .before .before .before .before in
-    settle-kept _ _ (start .pre) (called .walk .ensures) (known .w .given .1) (c .before .before .shift-back .ensures)
+    settle-kept _ _ (start .pre) (called .walk .ensures) (known .w .given .1) (c .before .before .shift-back .ensures .0) (c .before .before .shift-back .ensures .1)
 
 same-length-4 : tie.Need-same-length-4
 same-length-4 c = let called = c .before .before .before .before .before .before in

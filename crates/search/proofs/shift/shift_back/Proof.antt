@@ -19,6 +19,9 @@ entry-requires c κs = search needs
 put-requires : tie.Need-put-requires Inv-loop μ-loop
 put-requires c κs = search needs
 
+add-result : tie.Need-add-result Inv-loop μ-loop
+add-result c = search needs
+
 same-length : tie.Need-same-length Inv-loop μ-loop
 same-length c = search needs
 
@@ -58,6 +61,7 @@ shift-back-spec =
     loop-holds
     entry-requires
     put-requires
+    add-result
     same-length
     returns
     entry-requires-2
