@@ -22,6 +22,8 @@ pub mod Placing
 pub mod Cuts
 pub mod Least
 pub mod Tested
+pub mod Moved
+pub mod MovedExamples
 pub mod Repeats
 pub mod Twice
 pub mod Limits

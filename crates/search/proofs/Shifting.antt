@@ -213,6 +213,15 @@ module _ (n : ℕ) (ls : List ℕ) (v : ℕ) (from : List ℕ) (inside : v < n) 
       rw (ne-eqb x v (c .0))
       (shift-any P step fuel k (set hs x u) (at hs x) (at from (at hs x)) (ltb-true _ _ (c .2)) (chain-kept hs x u (suc k) c k (at from (at hs x)) (omega arith) (c .4)) (step hs x u (c .1) below p))
 
+  -- v has a holder then
+  pub shift-held : (fuel k : ℕ) (hs : List ℕ) (u x : ℕ) → k < fuel → n ≤ length hs → u < n → Chain hs k x → held n (at (shift fuel v from u x hs)) v ≡ true
+  unfolding shift Chain
+  shift-held zero k hs u x l long below c = absurd (not-suc-le-zero l)
+  shift-held (suc fuel) zero hs u x l long below c = rw (eq-eqb x v c, c, taken-here n hs v u long inside) (lt-ltb u n below)
+  shift-held (suc fuel) (suc k) hs u x l long below c =
+      rw (ne-eqb x v (c .0))
+      (shift-held fuel k (set hs x u) (at hs x) (at from (at hs x)) (omega arith) (rw length-set long) (ltb-true _ _ (c .2)) (chain-kept hs x u (suc k) c k (at from (at hs x)) (omega arith) (c .4)))
+
   -- .. and so many are taken
   pub shift-takings : (fuel k : ℕ) (hs : List ℕ) (u x : ℕ) → k < fuel → Chain hs k x → takings fuel v from u x hs ≡ suc k
   unfolding takings Chain
