@@ -10,6 +10,7 @@ pub mod Optimal
 pub mod Records
 pub mod Demands
 pub mod Kept
+pub mod Moved
 pub mod LeftNext
 pub mod Table
 pub mod Early

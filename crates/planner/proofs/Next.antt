@@ -1,6 +1,6 @@
 -- What a sound record has for the calls that place its next gateway and read it.
 use Prim.Native.Nat.{ℕ, _≤_}
-use mathlib.Core.Path.{_≡_, sym, _∙_}
+use mathlib.Core.Path.{_≡_, refl, sym, ap, _∙_}
 use mathlib.Core.Bool.{Bool, false, not}
 use mathlib.Core.List.{List}
 use native.Mathlib.Omega.{arith}
@@ -9,7 +9,10 @@ use borrow.Author.Tests.{le-ltb, not-false}
 use Rattle.packing.specs.Lists.{listOf, written}
 use Rattle.packing.specs.Plant.{GATEWAYS, NONE, at}
 use Rattle.packing.specs.Holders.{held}
+use Rattle.packing.specs.Moved.{moved}
 use Rattle.search.specs.Search.{placedHolders, holdersAfter}
+use Rattle.search.specs.Moved.{movedBy, placeAnswer}
+use Rattle.search.specs.declared.Placed.{Placed}
 use Rattle.search.specs.ChokeSet.{chokeByte, chokeWritten}
 use Rattle.search.specs.Pre.{Placeable}
 use Rattle.search.proofs.Tested.{chokeable-holds, choke-written}
@@ -51,6 +54,13 @@ module _ (s : State) (sound : SoundState s) where
       → hs' ≡ placedHolders (s .small .n) (limitOf s) (linksOf s) (s .holders) (at (s .order) (s .small .k))
   unfolding limitOf
   next-placed limits more is e = e ∙ rw is (placed-common (s .small .t) (linksOf s) (next-placeable more))
+
+  -- .. and so many are moved
+  pub next-moved : (limits : List ℕ) {a : Placed} → (s .small .k ≡ s .small .n → ⊥) → limits ≡ replicate GATEWAYS (s .small .t)
+      → a ≡ placeAnswer (s .small .n) (at limits) (linksOf s) (s .holders) (at (s .order) (s .small .k))
+      → a .moved ≡ moved (s .small .n) (at (s .holders)) (at (placedHolders (s .small .n) (limitOf s) (linksOf s) (s .holders) (at (s .order) (s .small .k))))
+  unfolding movedBy
+  next-moved limits more is e = ap (λ (b : Placed). b .moved) e ∙ ap (λ (l : List ℕ). moved (s .small .n) (at (s .holders)) (at l)) (next-placed limits more is refl)
 
   -- the leader list and the choke bytes are written where there is a place for each
   pub leaders-placed : (leaders : List ℕ) {leaders' : List ℕ} → s .small .n ≤ length leaders → leaders' ≡ leadersWritten (s .small .n) (s .order) (s .holders) leaders

@@ -5,15 +5,18 @@ use mathlib.Core.List.{List}
 use lib.ListN.{length, replicate}
 use Rattle.packing.specs.Lists.{listOf, written}
 use Rattle.packing.specs.Orders.{upTo}
-use Rattle.packing.specs.Plant.{NONE}
+use Rattle.packing.specs.Plant.{NONE, at}
+use Rattle.packing.specs.Moved.{moved}
+use Rattle.packing.proofs.Moved.{moved-none}
 use Rattle.packing.specs.Refusals.{byNumber}
 use Rattle.packing.proofs.Refusals.{refused, accepted}
 use Rattle.search.specs.ChokeSet.{chokeByte}
 use Rattle.stars.specs.Stars.{leaderList}
 use Rattle.planner.specs.declared.Answer.{Answer}
+use Rattle.planner.specs.declared.PlaceAnswer.{PlaceAnswer}
 use Rattle.planner.specs.Refusals.{openRefusal}
 use Rattle.planner.specs.State.{State, stateOf, linksOf}
-use Rattle.planner.specs.Calls.{Outcome, outcome, answerOf, smallOpened, opened, openCall, Call, link, order, place, read, callRefusal, changed, call, readLeaders, readChoke}
+use Rattle.planner.specs.Calls.{Outcome, outcome, answerOf, smallOpened, opened, openCall, Call, link, order, place, read, callRefusal, changed, call, callMoves, placeAnswerOf, readLeaders, readChoke}
 
 outcome-refused : (changed kept : State) {e r : ℕ} → e ≡ r → (e ≡ 0 → ⊥) → _≡_ {A = Outcome} (record { refusal = e; state = kept }) (outcome r changed kept)
 outcome-refused changed kept g h = λ i. record { refusal = g i; state = refused changed kept g h i }
@@ -68,6 +71,26 @@ module _ (s : State) (c : Call) where
   pub list-accepted : (list : State → List ℕ) {e : ℕ} {l : List ℕ} → e ≡ callRefusal s c → e ≡ 0 → l ≡ list (changed s c)
       → (_≡_ {A = Answer} (record { refusal = 0; small = changed s c .small }) (answerOf (call s c))) × (l ≡ list (call s c .state))
   list-accepted list g z e = let p = call-accepted g z in (ap answerOf p, e ∙ ap (λ (o : Outcome). list (o .state)) p)
+
+-- place: its answer, with the number moved, and the holders
+module _ (s : State) where
+  -- the answer that an outcome of it makes
+  answered : Outcome → PlaceAnswer
+  answered o = record { refusal = o .refusal; small = o .state .small; moved = moved (s .small .n) (at (s .holders)) (at (o .state .holders)) }
+
+  pub place-refused : {e : ℕ} → e ≡ callRefusal s place → (e ≡ 0 → ⊥)
+      → (_≡_ {A = PlaceAnswer} (record { refusal = e; small = s .small; moved = 0 }) (placeAnswerOf s)) × (s .holders ≡ call s place .state .holders)
+  unfolding callMoves answered
+  place-refused {e} g h =
+      let p = call-refused s place g h in
+      ((λ i. record { refusal = e; small = s .small; moved = sym (moved-none (s .small .n) (at (s .holders))) i }) ∙ ap answered p, ap (λ (o : Outcome). o .state .holders) p)
+
+  pub place-accepted : {e r : ℕ} {hs' : List ℕ} → e ≡ callRefusal s place → e ≡ 0 → hs' ≡ changed s place .holders → r ≡ moved (s .small .n) (at (s .holders)) (at (changed s place .holders))
+      → (_≡_ {A = PlaceAnswer} (record { refusal = 0; small = changed s place .small; moved = r }) (placeAnswerOf s)) × (hs' ≡ call s place .state .holders)
+  unfolding callMoves answered
+  place-accepted g z l m =
+      let p = call-accepted s place g z in
+      ((λ i. record { refusal = 0; small = changed s place .small; moved = m i }) ∙ ap answered p, l ∙ ap (λ (o : Outcome). o .state .holders) p)
 
 -- the order once another is written over it
 pub replaced : (numbers os : List ℕ) {os' : List ℕ} {n : ℕ} → os' ≡ written (length numbers) numbers os → length numbers ≡ n → os' ≡ written n numbers os

@@ -7,11 +7,13 @@ use Rattle.packing.specs.Lists.{listOf, written}
 use Rattle.packing.specs.Orders.{upTo}
 use Rattle.packing.specs.Plant.{NONE, at}
 use Rattle.packing.specs.Refusals.{refuse, byNumber}
+use Rattle.packing.specs.Moved.{moved}
 use Rattle.search.specs.Search.{placedHolders}
 use Rattle.search.specs.ChokeSet.{chokeByte}
 use Rattle.stars.specs.Stars.{leaderList}
 use Rattle.planner.specs.declared.Small.{Small}
 use Rattle.planner.specs.declared.Answer.{Answer}
+use Rattle.planner.specs.declared.PlaceAnswer.{PlaceAnswer}
 use Rattle.planner.specs.Refusals.{openRefusal, linkConditions, orderConditions, placeConditions, readConditions}
 use Rattle.planner.specs.State.{State, stateOf, withSmall, withLinks, withOrder, withHolders, linksOf, limitOf, soundState}
 
@@ -80,6 +82,14 @@ changed s (read leaders choke) = s
 -- a call on a record
 unfoldable pub call : State → Call → Outcome
 call s c = outcome (callRefusal s c) (changed s c) s
+
+-- 02, change 4: "the number of gateways whose holder changed": at how many of the record's n gateways the holder entries before and after a call differ
+unfoldable pub callMoves : State → Call → ℕ
+callMoves s c = moved (s .small .n) (at (s .holders)) (at (call s c .state .holders))
+
+-- "place above it, now also give[s]" it: place's answer
+abbrev pub placeAnswerOf : State → PlaceAnswer
+placeAnswerOf s = record { refusal = call s place .refusal; small = call s place .state .small; moved = callMoves s place }
 
 -- Read: "leaders and choke set", in the lists lent for them, at any k: "It gives groups for the holders so far" (02, change 1). The order decides who leads a pair (02, change 2), and nothing else here.
 unfoldable pub readLeaders : State → List ℕ → List ℕ → List ℕ

@@ -11,4 +11,5 @@ pub mod MembersTurn
 pub mod Records
 pub mod Claims
 pub mod Kept
+pub mod Moved
 pub mod Cases

@@ -1,8 +1,8 @@
 -- 01, "Demand 3": a record taken through a list of calls, by the definitions that the contracts of the calls cite.
-use Prim.Native.Nat.{ℕ, zero, suc}
+use Prim.Native.Nat.{ℕ, zero, suc, _+_}
 use mathlib.Core.List.{List, [], _∷_, _++_}
 use Rattle.planner.specs.State.{State}
-use Rattle.planner.specs.Calls.{Call, link, order, place, openCall, call}
+use Rattle.planner.specs.Calls.{Call, link, order, place, openCall, call, callMoves}
 
 -- "The list begins from what an accepted open gave."
 abbrev pub afterOpen : ℕ → ℕ → List ℕ → List ℕ → List ℕ → State
@@ -18,6 +18,11 @@ run s (c ∷ calls) = run (call s c .state) calls
 unfoldable pub runNumbers : State → List Call → List ℕ
 runNumbers s [] = []
 runNumbers s (c ∷ calls) = call s c .refusal ∷ runNumbers (call s c .state) calls
+
+-- 02, change 4: how many gateways the calls move, one call after the other. Only placings move any (specs/Moved.antt).
+unfoldable pub runMoves : State → List Call → ℕ
+runMoves s [] = 0
+runMoves s (c ∷ calls) = callMoves s c + runMoves (call s c .state) calls
 
 -- the calls that fill a plant with links, two numbers each, and an order, and place the first k
 unfoldable pub linkCalls : List ℕ → List Call

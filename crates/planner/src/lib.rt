@@ -6,7 +6,7 @@ mod refusals;
 ghost use mathlib.Core.Path.{_≡_};
 ghost use Rattle.planner.specs.State.{stateOf};
 ghost use Rattle.planner.specs.Calls as calls;
-ghost use Rattle.planner.specs.Calls.{answerOf, openCall, call, readLeaders, readChoke};
+ghost use Rattle.planner.specs.Calls.{answerOf, openCall, call, placeAnswerOf, readLeaders, readChoke};
 
 // 01's small part: n gateways, limit T, m links, k placed.
 pub struct Small {
@@ -20,6 +20,13 @@ pub struct Small {
 pub struct Answer {
     pub refusal: u32,
     pub small: Small,
+}
+
+// The same of a placing, with the number of gateways that have another holder after it.
+pub struct PlaceAnswer {
+    pub refusal: u32,
+    pub small: Small,
+    pub moved: u16,
 }
 
 impl Small {
@@ -108,8 +115,8 @@ impl Small {
     }
 
     // The next in the order is kept or left.
-    pub fn place(self, links: &[u16], order: &[u16], holders: &mut [u16]) -> Answer
-        ensures answer { λ r. ⌜ r ≡ answerOf (call (stateOf self (now (links .entry)) (now (order .entry)) (now (holders .entry))) calls.place) ⌝ }
+    pub fn place(self, links: &[u16], order: &[u16], holders: &mut [u16]) -> PlaceAnswer
+        ensures answer { λ r. ⌜ r ≡ placeAnswerOf (stateOf self (now (links .entry)) (now (order .entry)) (now (holders .entry))) ⌝ }
         ensures holders { λ _. ⌜ now (holders .exit) ≡ call (stateOf self (now (links .entry)) (now (order .entry)) (now (holders .entry))) calls.place .state .holders ⌝ }
     {
         let n = self.n;
@@ -117,24 +124,27 @@ impl Small {
         let m = self.m;
         let k = self.k;
         if !sound::is_sound(n, t, m, k, links, order, holders) {
-            return Answer {
+            return PlaceAnswer {
                 refusal: 26,
                 small: self,
+                moved: 0,
             };
         }
         if k == n {
-            return Answer {
+            return PlaceAnswer {
                 refusal: 24,
                 small: self,
+                moved: 0,
             };
         }
         let end = 2 * (m as usize);
         let limits = lists::marks::bytes(t);
-        // The answer is true: the next of a sound record may be placed.
-        search::place(n, order[k as usize], &limits, &links[..end], holders);
-        Answer {
+        // It is done: the next of a sound record may be placed.
+        let placed = search::place(n, order[k as usize], &limits, &links[..end], holders);
+        PlaceAnswer {
             refusal: 0,
             small: Small { n, t, m, k: k + 1 },
+            moved: placed.moved,
         }
     }
 

@@ -3,11 +3,11 @@ use mathlib.Core.Path.{sym, refl}
 use borrow.Author.Tests.{not-true, not-false}
 use lib.Seq.{length-take-le}
 use Rattle.packing.specs.Plant.{firstLinks}
-use Rattle.planner.specs.State.{State, soundState}
+use Rattle.planner.specs.State.{soundState}
 use Rattle.planner.specs.Calls.{conditions, callRefusal, changed}
 use Rattle.planner.proofs.Conditions.{unsound-number, sound-number, place-full, place-next}
-use Rattle.planner.proofs.Outcomes.{list-refused, list-accepted}
-use Rattle.planner.proofs.Next.{checked, next-placed}
+use Rattle.planner.proofs.Outcomes.{place-refused, place-accepted}
+use Rattle.planner.proofs.Next.{checked, next-placed, next-moved}
 use borrow.Author.Needs.{needs}
 use Rattle.planner.proofs.Small.place.Statement.{statement}
 use Rattle.planner.proofs.Small.place.Tie as tie
@@ -20,14 +20,14 @@ same-length c = search needs
 
 returns : tie.Need-returns
 unfolding callRefusal conditions soundState
-returns c = list-refused _ _ (λ (s : State). s .holders) (unsound-number _ (c .before .is-sound .ensures) (not-true _ (c .if1 .taken))) (λ z. omega arith)
+returns c = place-refused _ (unsound-number _ (c .before .is-sound .ensures) (not-true _ (c .if1 .taken))) (λ z. omega arith)
 
 same-length-2 : tie.Need-same-length-2
 same-length-2 c = search needs
 
 returns-2 : tie.Need-returns-2
 unfolding callRefusal conditions soundState
-returns-2 c = list-refused _ _ (λ (s : State). s .holders) (sound-number (c .before .before .is-sound .ensures) (not-false _ (c .before .if1 .left)) (place-full _ _ (c .if2 .taken))) (λ z. omega arith)
+returns-2 c = place-refused _ (sound-number (c .before .before .is-sound .ensures) (not-false _ (c .before .if1 .left)) (place-full _ _ (c .if2 .taken))) (λ z. omega arith)
 
 cast-end : tie.Need-cast-end
 cast-end c = search needs
@@ -58,8 +58,8 @@ slice-aggregate-place-2 c = let test = c .before .before .before .before in
 place-requires : tie.Need-place-requires
 place-requires c κs = search needs
 
-add-t19 : tie.Need-add-t19
-add-t19 c = let test = c .before .before .before .before .before .before .before .before in
+add-t20 : tie.Need-add-t20
+add-t20 c = let test = c .before .before .before .before .before .before .before .before in
     let sound = checked _ _ _ _ _ _ _ (test .before .before .is-sound .ensures) (test .before .if1 .left) in omega (arith, sound .placed, sound .few, test .if2 .left)
 
 same-length-3 : tie.Need-same-length-3
@@ -69,8 +69,9 @@ returns-3 : tie.Need-returns-3
 unfolding callRefusal conditions soundState changed firstLinks
 returns-3 c = let test = c .before .before .before .before .before .before .before .before in
     let sound = checked _ _ _ _ _ _ _ (test .before .before .is-sound .ensures) (test .before .if1 .left) in
-    list-accepted _ _ (λ (s : State). s .holders) (sound-number (test .before .before .is-sound .ensures) (not-false _ (test .before .if1 .left)) (place-next _ _ (test .if2 .left))) refl
+    place-accepted _ (sound-number (test .before .before .is-sound .ensures) (not-false _ (test .before .if1 .left)) (place-next _ _ (test .if2 .left))) refl
     (next-placed _ sound _ (test .if2 .left) (c .before .before .before .before .before .before .before .bytes .ensures) (c .before .before .place .ensures .1))
+    (next-moved _ sound _ (test .if2 .left) (c .before .before .before .before .before .before .before .bytes .ensures) (c .before .before .place .ensures .0))
 
 pub place-spec : {M : Type 1} → statement M
 place-spec =
@@ -90,6 +91,6 @@ place-spec =
     slice-aggregate-place
     slice-aggregate-place-2
     place-requires
-    add-t19
+    add-t20
     same-length-3
     returns-3)
