@@ -1,4 +1,4 @@
--- Groupings, groups of two and choke differences look at nothing from n on.
+-- Groupings, groups of two, holders and choke differences look at nothing from n on.
 use Prim.Native.Nat.{ℕ, _+_, _<_}
 use mathlib.Core.Path.{_≡_, refl, sym, ap, _∙_}
 use mathlib.Core.Bool.{Bool, not, _&&_, _||_}
@@ -9,6 +9,7 @@ use Rattle.packing.specs.Count.{pick, sum, count, sumOver, all}
 use Rattle.packing.specs.Grouping.{Grouping, follows, memberCount, isAlone, isLeader, isMember}
 use Rattle.packing.specs.Pairs.{Two, Earlier, EarlierLeads, SameGroups}
 use Rattle.packing.specs.Holders.{Feasible}
+use Rattle.packing.specs.Moved.{Kept, Fewest}
 use Rattle.packing.specs.Choke.{stranded, ChokeDifference}
 use Rattle.packing.proofs.Tests.{by-bool, all-ext}
 use Rattle.packing.proofs.Sums.{count-ext, sum-ext}
@@ -52,10 +53,17 @@ module _ (n : ℕ) (limit limit' : ℕ → ℕ) (adj : ℕ → ℕ → Bool) (sa
   pub feasible-limits : {h : ℕ → ℕ} → Feasible n limit adj h → Feasible n limit' adj h
   feasible-limits f = record { along = f .along; within = λ u l. rw (same u l) at (f .within u l) }
 
+  pub kept-limits : {h h' : ℕ → ℕ} {v : ℕ} → Kept n limit adj h h' v → Kept n limit' adj h h' v
+  kept-limits kept = record { feasible = feasible-limits (kept .feasible); holding = kept .holding }
+
   pub difference-limits : (s : ℕ → Bool) (d : ℕ) → ChokeDifference n limit adj s d → ChokeDifference n limit' adj s d
   unfolding ChokeDifference sumOver
   difference-limits s d e =
       e ∙ ap (λ (k : ℕ). d + k) (sum-ext n (λ i. pick (s i) (limit i)) (λ i. pick (s i) (limit' i)) (λ i l. rw (same i l)))
+
+pub fewest-limits : (n : ℕ) (limit limit' : ℕ → ℕ) (adj : ℕ → ℕ → Bool) → ((u : ℕ) → u < n → limit u ≡ limit' u) → {h h' : ℕ → ℕ} {v moves : ℕ} → Fewest n limit adj h h' v moves → Fewest n limit' adj h h' v moves
+fewest-limits n limit limit' adj same f =
+    record { kept = kept-limits n limit limit' adj same (f .kept); attained = f .attained; least = λ other k. f .least other (kept-limits n limit' limit adj (λ u l. sym (same u l)) k) }
 
 pub two-below : (n : ℕ) (g h : ℕ → ℕ) → ((v : ℕ) → v < n → g v ≡ h v) → {u w : ℕ} → Two n h u w → Two n g u w
 two-below n g h same {u} {w} t =

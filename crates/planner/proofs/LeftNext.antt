@@ -119,7 +119,7 @@ module _ (p : Told) (ls os hs : List ℕ) (a : Agrees p (stateTold p ls os hs)) 
 module _ (claim : (n : ℕ) (told : Told) (made : State) → Type 0)
     (proved : (p : Told) (ls os hs : List ℕ) → Agrees p (stateTold p ls os hs) → p .placed < p .n → claim (p .n) p (stateTold p ls os hs))
   where
-    before-placing : BeforePlacing claim
+    pub before-placing : BeforePlacing claim
     before-placing n t ls os hs ok calls more =
         let same = tells-n n t ls calls in
         subst (λ (i : ℕ). claim i (toldBy n t ls calls) (madeBy n t ls os hs calls)) same

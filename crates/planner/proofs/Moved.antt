@@ -84,7 +84,7 @@ unfolding NewOneMoved call callMoves changed
 new-one-moved s f more kept = let z = accepts s f more in rw z (new-moved s (changed s place .holders) z (rw z at kept))
 
 -- "this number is the least possible"
-pub accepted-fewest : (s : State) → callRefusal s place ≡ 0 → heldIn (call s place .state) (nextOf s) ≡ true
+pub accepted-fewest : (s : State) → callRefusal s place ≡ 0 → held (s .small .n) (at (call s place .state .holders)) (nextOf s) ≡ true
     → Fewest (s .small .n) (limitOf s) (linked (linksOf s)) (at (s .holders)) (at (call s place .state .holders)) (nextOf s) (callMoves s place)
 unfolding call callMoves changed conditions limitOf
 accepted-fewest s z e =
@@ -98,5 +98,5 @@ accepted-fewest s z e =
     (placed-least (limitOf s) (linksOf s) p (sound .feasible)))
 
 pub fewest-moved : FewestMoved
-unfolding FewestMoved
-fewest-moved s f more kept = accepted-fewest s (accepts s f more) kept
+unfolding FewestMoved call changed
+fewest-moved s f more kept = let z = accepts s f more in accepted-fewest s z (rw z (rw z at kept))

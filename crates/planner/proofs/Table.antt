@@ -12,6 +12,7 @@ use Rattle.packing.specs.Lists.{listOf, listWhere, written}
 use Rattle.packing.specs.Plant.{common, firstLinks, linked, neighbours}
 use Rattle.packing.specs.Grouping.{memberCount}
 use Rattle.packing.specs.Holders.{holds as heldCount}
+use Rattle.packing.specs.Moved.{moved}
 use Rattle.packing.specs.Choke.{stranded}
 use Rattle.packing.proofs.Tests.{and-l, and-r}
 use Rattle.sound.specs.Sound.{numbersSound, listsLong, endsSound, onceEach, holdersLinked, holdersWithin, onlyPlacedHeld, isSound}
@@ -21,14 +22,14 @@ use Rattle.search.specs.ChokeSet.{withoutHolder, chokeWalk, seenIn, walkSaw, in
 use Rattle.packing.specs.Orders.{upTo, repeatsOrOutside}
 use Rattle.planner.specs.Refusals.{openRefusal, linkConditions, orderConditions, placeConditions, readConditions}
 use Rattle.planner.specs.State.{limitOf, soundState}
-use Rattle.planner.specs.Calls.{opened, openCall, conditions, callRefusal, changed, call, readLeaders, readChoke}
-use Rattle.planner.specs.Run.{run, linkCalls, placeCalls}
-use Rattle.planner.specs.Cases.{Row, stands, readsAfter, holds, gives, differsAfter, after, leadersOf, chokeOf, withoutLink, limitsOf, aloneOf, sameList, rowHolds, empty, one, two, path, star, starBack, star4, listed, ring, twoLinked, twoLinkedBack, ringBack, table, early, pairs, rowsHold, Means}
+use Rattle.planner.specs.Calls.{opened, openCall, conditions, callRefusal, changed, call, callMoves, readLeaders, readChoke}
+use Rattle.planner.specs.Run.{run, runMoves, linkCalls, placeCalls}
+use Rattle.planner.specs.Cases.{Row, stands, readsAfter, holds, gives, differsAfter, moves, movesOf, after, leadersOf, chokeOf, withoutLink, limitsOf, aloneOf, sameList, rowHolds, empty, one, two, path, star, starBack, star4, listed, ring, twoLinked, twoLinkedBack, ringBack, chain, table, early, pairs, moving, rowsHold, Means}
 
 -- all of them, computed
-tables-hold : (rowsHold table ≡ true) × (rowsHold early ≡ true) × (rowsHold pairs ≡ true)
-unfolding sum count sumOver all any listOf listWhere common firstLinks linked neighbours memberCount heldCount stranded numbersSound listsLong endsSound onceEach holdersLinked holdersWithin onlyPlacedHeld isSound heldBy look visit turn turns walk shift settled placedHolders firstWith holder back onCycle nextOnCycle leadsIn leadsInTrees begins cut leads leaderOf pairLeader partner ruleFive leaderListBy placeOf leaderList withoutHolder chokeWalk seenIn walkSaw inChoke chokeByte upTo written repeatsOrOutside openRefusal linkConditions orderConditions placeConditions readConditions limitOf soundState opened openCall conditions callRefusal changed call readLeaders readChoke run linkCalls placeCalls after leadersOf chokeOf withoutLink limitsOf aloneOf sameList rowHolds empty one two path star starBack star4 listed ring twoLinked twoLinkedBack ringBack table early pairs rowsHold
-tables-hold = (refl, refl, refl)
+tables-hold : (rowsHold table ≡ true) × (rowsHold early ≡ true) × (rowsHold pairs ≡ true) × (rowsHold moving ≡ true)
+unfolding sum count sumOver all any listOf listWhere common firstLinks linked neighbours memberCount heldCount stranded numbersSound listsLong endsSound onceEach holdersLinked holdersWithin onlyPlacedHeld isSound heldBy look visit turn turns walk shift settled placedHolders firstWith holder back onCycle nextOnCycle leadsIn leadsInTrees begins cut leads leaderOf pairLeader partner ruleFive leaderListBy placeOf leaderList withoutHolder chokeWalk seenIn walkSaw inChoke chokeByte upTo written repeatsOrOutside openRefusal linkConditions orderConditions placeConditions readConditions limitOf soundState opened openCall conditions callRefusal changed call readLeaders readChoke run linkCalls placeCalls after leadersOf chokeOf withoutLink limitsOf aloneOf sameList rowHolds empty one two path star starBack star4 listed ring twoLinked twoLinkedBack ringBack chain table early pairs moving rowsHold moved callMoves runMoves movesOf
+tables-hold = (refl, refl, refl, refl)
 
 pub table-holds : rowsHold table ≡ true
 table-holds = tables-hold .0
@@ -38,6 +39,9 @@ early-holds = tables-hold .1
 
 pub pairs-hold : rowsHold pairs ≡ true
 pairs-hold = tables-hold .2
+
+pub moving-holds : rowsHold moving ≡ true
+moving-holds = tables-hold .3
 
 same-list : (l r : List ℕ) → sameList l r ≡ true → l ≡ r
 unfolding sameList
@@ -55,6 +59,7 @@ row-means (readsAfter p k leaders choke) e = (
   same-list (chokeOf p k) choke (and-r (sameList (leadersOf p k) leaders) (sameList (chokeOf p k) choke) e),
 )
 row-means (holds p k holders) e = same-list (after p k .holders) holders e
+row-means (moves p k sum) e = eqb-true (movesOf p k) sum e
 row-means (gives p k c e) f = eqb-true (call (after p k) c .refusal) e f
 row-means (differsAfter p k without limits alone) e =
     let both = and-l (eqb (withoutLink p k) without && eqb (limitsOf p k) limits) (eqb (aloneOf p k) alone) e in (
@@ -78,3 +83,6 @@ early-case = rows-mean early early-holds
 
 pub pairs-case : (i : ℕ) → i < length pairs → (d : Row) → Means (getD pairs i d)
 pairs-case = rows-mean pairs pairs-hold
+
+pub moving-case : (i : ℕ) → i < length moving → (d : Row) → Means (getD moving i d)
+moving-case = rows-mean moving moving-holds

@@ -12,7 +12,7 @@ use Rattle.packing.specs.Grouping.{isAlone}
 use Rattle.packing.specs.Choke.{stranded}
 use Rattle.planner.specs.State.{State}
 use Rattle.planner.specs.Calls.{Call, link, order, place, read, call, readLeaders, readChoke}
-use Rattle.planner.specs.Run.{linkCalls, placeCalls}
+use Rattle.planner.specs.Run.{linkCalls, placeCalls, afterOpen, runMoves}
 use Rattle.planner.specs.Claims.{madeBy, leadersRead, chokeRead}
 
 -- a plant: n, T, its links two numbers each, and the call of order where 01 names one. Where it names none, no call of order is made: open's order stands.
@@ -43,19 +43,24 @@ limitsOf p k = sumOver (p .n) (chokeRead (after p k) (replicate (p .n) 0) (repli
 unfoldable pub aloneOf : Plant → ℕ → ℕ
 aloneOf p k = count (p .n) (isAlone (leadersRead (after p k) (replicate (p .n) 0) (replicate (p .n) 0)))
 
+-- how many gateways its calls move up to then
+unfoldable pub movesOf : Plant → ℕ → ℕ
+movesOf p k = runMoves (afterOpen (p .n) (p .t) (replicate (length (p .links)) 0) (replicate (p .n) 0) (replicate (p .n) 0)) (linkCalls (p .links) ++ p .ordering ++ placeCalls k)
+
 unfoldable pub sameList : List ℕ → List ℕ → Bool
 sameList [] [] = true
 sameList [] (y ∷ ys) = false
 sameList (x ∷ xs) [] = false
 sameList (x ∷ xs) (y ∷ ys) = eqb x y && sameList xs ys
 
--- what a row says of a plant: its order; what read writes after so many placings; the holders then; the number that a call then gives; the two numbers of the choke difference then, and the number alone
+-- what a row says of a plant: its order; what read writes after so many placings; the holders then; the number that a call then gives; the two numbers of the choke difference then, and the number alone; how many its calls moved up to then
 pub data Row : Type 0 where
   stands : Plant → List ℕ → Row
   readsAfter : Plant → ℕ → List ℕ → List ℕ → Row
   holds : Plant → ℕ → List ℕ → Row
   gives : Plant → ℕ → Call → ℕ → Row
   differsAfter : Plant → ℕ → ℕ → ℕ → ℕ → Row
+  moves : Plant → ℕ → ℕ → Row
 
 unfoldable pub rowHolds : Row → Bool
 rowHolds (stands p numbers) = sameList (after p 0 .order) numbers
@@ -63,6 +68,7 @@ rowHolds (readsAfter p k leaders choke) = sameList (leadersOf p k) leaders && sa
 rowHolds (holds p k holders) = sameList (after p k .holders) holders
 rowHolds (gives p k c e) = eqb (call (after p k) c .refusal) e
 rowHolds (differsAfter p k without limits alone) = eqb (withoutLink p k) without && eqb (limitsOf p k) limits && eqb (aloneOf p k) alone
+rowHolds (moves p k sum) = eqb (movesOf p k) sum
 
 -- the plants
 unfoldable pub empty : Plant
@@ -100,6 +106,15 @@ twoLinkedBack = record { n = 2; t = 2; links = 0 ∷ 1 ∷ []; ordering = order 
 
 unfoldable pub ringBack : Plant
 ringBack = record { n = 5; t = 2; links = 0 ∷ 1 ∷ 1 ∷ 2 ∷ 2 ∷ 3 ∷ 3 ∷ 4 ∷ 4 ∷ 0 ∷ []; ordering = order (4 ∷ 3 ∷ 2 ∷ 1 ∷ 0 ∷ []) ∷ [] }
+
+unfoldable pub chain : Plant
+chain =
+    record {
+      n = 8;
+      t = 2;
+      links = 0 ∷ 1 ∷ 2 ∷ 1 ∷ 3 ∷ 1 ∷ 2 ∷ 4 ∷ 3 ∷ 4 ∷ 5 ∷ 4 ∷ 6 ∷ 4 ∷ 5 ∷ 7 ∷ [];
+      ordering = order (2 ∷ 3 ∷ 5 ∷ 6 ∷ 0 ∷ 1 ∷ 4 ∷ 7 ∷ []) ∷ [];
+    }
 
 -- rows about the fully placed plant
 abbrev pub reads : Plant → List ℕ → List ℕ → Row
@@ -142,6 +157,14 @@ pairs =
     ∷ reads ringBack (1 ∷ 1 ∷ 1 ∷ 4 ∷ 4 ∷ []) (0 ∷ 0 ∷ 0 ∷ 0 ∷ 0 ∷ [])
     ∷ []
 
+-- 02, change 4: how many are moved in all after so many placings. In the listing's plant the third placing moves 2 and the new one. In the star the last is left: it moves nobody.
+-- In the chain the first four placings move one each, and the fifth three: 7 takes 5, 4 takes 2, 1 takes 0.
+unfoldable pub moving : List Row
+moving =
+    moves empty 0 0 ∷ moves two 2 0 ∷ moves listed 1 1 ∷ moves listed 2 2 ∷ moves listed 3 4 ∷ moves listed 5 6 ∷ moves star 4 4 ∷ moves star 5 4
+    ∷ moves chain 4 4 ∷ holds chain 4 (NONE ∷ NONE ∷ 1 ∷ 1 ∷ NONE ∷ 4 ∷ 4 ∷ NONE ∷ []) ∷ moves chain 5 7 ∷ holds chain 5 (1 ∷ NONE ∷ 4 ∷ 1 ∷ NONE ∷ 7 ∷ 4 ∷ NONE ∷ [])
+    ∷ []
+
 -- every row holds
 unfoldable pub rowsHold : List Row → Bool
 rowsHold [] = true
@@ -154,3 +177,4 @@ Means (readsAfter p k leaders choke) = (leadersOf p k ≡ leaders) × (chokeOf p
 Means (holds p k holders) = after p k .holders ≡ holders
 Means (gives p k c e) = call (after p k) c .refusal ≡ e
 Means (differsAfter p k without limits alone) = (withoutLink p k ≡ without) × (limitsOf p k ≡ limits) × (aloneOf p k ≡ alone)
+Means (moves p k sum) = movesOf p k ≡ sum

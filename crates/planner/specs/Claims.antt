@@ -1,4 +1,4 @@
--- The claims of 00, 01 and 02 about records made by calls, each as a statement. proofs/Demands.antt, proofs/LeftNext.antt and proofs/Early.antt prove them.
+-- The claims of 00, 01 and 02 about records made by calls, each as a statement. proofs/Demands.antt, proofs/LeftNext.antt, proofs/Early.antt and proofs/MovedTold.antt prove them.
 use Prim.Native.Nat.{ℕ, _<_, _≤_}
 use mathlib.Core.Path.{_≡_}
 use mathlib.Core.Logic.{_↔_}
@@ -11,11 +11,12 @@ use Rattle.packing.specs.Plant.{at, linked}
 use Rattle.packing.specs.Grouping.{Grouping, covered, coveredFirst}
 use Rattle.packing.specs.Pairs.{EarlierLeads}
 use Rattle.packing.specs.Holders.{held, Feasible}
+use Rattle.packing.specs.Moved.{Fewest}
 use Rattle.packing.specs.Choke.{ChokeDifference}
 use Rattle.packing.specs.SoFar.{SoFar}
 use Rattle.planner.specs.Refusals.{openRefusal}
 use Rattle.planner.specs.State.{State}
-use Rattle.planner.specs.Calls.{Call, place, read, call, readLeaders, readChoke}
+use Rattle.planner.specs.Calls.{Call, place, read, call, callMoves, readLeaders, readChoke}
 use Rattle.planner.specs.Told.{Told, beginning, refuses, tell, toldNumbers}
 use Rattle.planner.specs.Run.{afterOpen, run, runNumbers}
 
@@ -145,3 +146,15 @@ LeftExactlyByHoldersOf n told made = NextLeft n told made ↔ ((h : ℕ → ℕ)
 
 unfoldable pub LeftExactlyByHolders : Type 0
 LeftExactlyByHolders = BeforePlacing LeftExactlyByHoldersOf
+
+-- 02, change 4, by the limits, the links and the order told: where the next is kept, its placing moves the fewest gateways that holders of it and of all kept could.
+abbrev pub NextKept : ℕ → Told → State → Type 0
+NextKept n told made = held n (at (call made place .state .holders)) (at (told .order) (told .placed)) ≡ true
+
+abbrev pub FewestMovedOf : (n : ℕ) (told : Told) (made : State) → Type 0
+FewestMovedOf n told made =
+    NextKept n told made
+    → Fewest n (told .limit) (linked (told .links)) (at (made .holders)) (at (call made place .state .holders)) (at (told .order) (told .placed)) (callMoves made place)
+
+unfoldable pub FewestMovedTold : Type 0
+FewestMovedTold = BeforePlacing FewestMovedOf
