@@ -11,6 +11,7 @@ pub mod Records
 pub mod Demands
 pub mod Kept
 pub mod Moved
+pub mod MovedSums
 pub mod LeftNext
 pub mod MovedTold
 pub mod Table
