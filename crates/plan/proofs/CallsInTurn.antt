@@ -12,11 +12,15 @@ use Rattle.packing.proofs.Flat.{pair-at}
 use Rattle.packing.proofs.Lists.{written-room, written-front}
 use Rattle.planner.specs.declared.Small.{Small}
 use Rattle.planner.specs.declared.Answer.{Answer}
+use Rattle.planner.specs.declared.PlaceAnswer.{PlaceAnswer}
 use Rattle.planner.specs.State.{State, stateOf}
-use Rattle.planner.specs.Calls.{answerOf, openCall, link, order, place, call, readLeaders, readChoke}
-use Rattle.planner.specs.Run.{afterOpen, run, linkCalls, placeCalls, plantCalls}
+use Rattle.planner.specs.Calls.{answerOf, openCall, link, order, place, call, callMoves, placeAnswerOf, readLeaders, readChoke}
+use Rattle.planner.specs.Run.{afterOpen, run, runMoves, linkCalls, placeCalls, plantCalls}
 use Rattle.planner.specs.Claims.{madeBy}
 use Rattle.planner.proofs.Agree.{run-append}
+use Rattle.planner.specs.Moved.{NobodyMoved}
+use Rattle.planner.proofs.Moved.{nobody-moved}
+use Rattle.planner.proofs.MovedSums.{moves-append, links-move, moves-last, moves-fit}
 use Rattle.planner.proofs.Outcomes.{open-links, link-state, order-state, place-state}
 use Rattle.plant_file.specs.declared.reader.Step.{Step}
 use Rattle.plant_file.specs.declared.reader.Step.the-variants.{Link, End}
@@ -25,7 +29,7 @@ use Rattle.plant_file.specs.Reader.{linkAt}
 use Rattle.plant_file.specs.Load.{orderWritten}
 use Rattle.plant_file.proofs.LinksByIndex.{links-long, order-long, step-at}
 use Rattle.plant_file.proofs.Accepted.{file-allowed}
-use Rattle.plan.specs.Plan.{callsAfter, stateAfter}
+use Rattle.plan.specs.Plan.{callsAfter, stateAfter, movesAfter}
 use Rattle.plan.specs.Pre.{linkStep}
 
 -- one link
@@ -83,10 +87,11 @@ module _ (file : List ℕ) (z : fileRefusal file ≡ 0) {n : ℕ} (is : n ≡ fi
       → stateOf (r .small) ls os' hs ≡ call (stateOf s ls os hs) (order (fileOrder file)) .state
   ordered s ls os hs g h = rw (g, h, front-is) (order-state (stateOf s ls os hs) (fileOrder file))
 
--- i placings are made
-pub record Places (n : ℕ) (first now : State) (i : ℕ) : Type 0 where
+-- i placings are made, and moved is how many gateways they moved
+pub record Places (n : ℕ) (first now : State) (moved i : ℕ) : Type 0 where
   pub upto : i ≤ n
   pub is : now ≡ run first (placeCalls i)
+  pub moves : moved ≡ runMoves first (placeCalls i)
 
 place-last : (s : State) (i : ℕ) → run s (placeCalls (suc i)) ≡ call (run s (placeCalls i)) place .state
 unfolding run placeCalls
@@ -94,46 +99,82 @@ place-last s zero = refl
 place-last s (suc i) = place-last (call s place .state) i
 
 module _ (n : ℕ) {first : State} where
-  pub places-start : Places n first first 0
-  unfolding run placeCalls
-  places-start = record { upto = omega arith; is = refl }
+  pub places-start : Places n first first 0 0
+  unfolding run runMoves placeCalls
+  places-start = record { upto = omega arith; is = refl; moves = refl }
 
-  pub places-turn : {s : Small} {ls os hs hs' : List ℕ} {r : Answer} {i : ℕ} → Places n first (stateOf s ls os hs) i → i < n
-      → r ≡ answerOf (call (stateOf s ls os hs) place) → hs' ≡ call (stateOf s ls os hs) place .state .holders → Places n first (stateOf (r .small) ls os hs') (i + 1)
-  places-turn {s} {ls} {os} {hs} {i = i} k l e f =
-      record { upto = omega arith; is = rw (e, f, add-one i) (place-state (stateOf s ls os hs) ∙ ap (λ (x : State). call x place .state) (k .is) ∙ sym (place-last first i)) }
-
-  pub places-end : {now : State} {i : ℕ} → Places n first now i → n ≤ i → now ≡ run first (placeCalls n)
-  places-end {now} {i} k l = rw (last k l) at (k .is)
+  module _
+      {s : Small} {ls os hs : List ℕ} {moved i : ℕ} {r : PlaceAnswer} (k : Places n first (stateOf s ls os hs) moved i) (l : i < n) (e : r ≡ placeAnswerOf (stateOf s ls os hs))
     where
-      last : Places n first now i → n ≤ i → i ≡ n
+      moves-next : moved + r .moved ≡ runMoves first (placeCalls (i + 1))
+      moves-next = rw (e, add-one i) (ap (λ (x : ℕ). x + callMoves (stateOf s ls os hs) place) (k .moves) ∙ ap (λ (x : State). runMoves first (placeCalls i) + callMoves x place) (k .is) ∙ sym (moves-last first i))
+
+      -- the sum has 32 bits
+      pub places-fit : moved + r .moved ≤ GATEWAYS * GATEWAYS
+      places-fit = rw moves-next (moves-fit first (i + 1))
+
+      pub places-turn : {hs' : List ℕ} → hs' ≡ call (stateOf s ls os hs) place .state .holders → Places n first (stateOf (r .small) ls os hs') (moved + r .moved) (i + 1)
+      places-turn f =
+          record {
+            upto = omega arith;
+            is = rw (e, f, add-one i) (place-state (stateOf s ls os hs) ∙ ap (λ (x : State). call x place .state) (k .is) ∙ sym (place-last first i));
+            moves = moves-next;
+          }
+
+  pub places-end : {now : State} {moved i : ℕ} → Places n first now moved i → n ≤ i → (now ≡ run first (placeCalls n)) × (moved ≡ runMoves first (placeCalls n))
+  places-end {now} {moved} {i} k l = (rw (last k l) at (k .is), rw (last k l) at (k .moves))
+    where
+      last : Places n first now moved i → n ≤ i → i ≡ n
       last d h = omega arith
 
--- open, and all the calls
-pub all-made : (file : List ℕ) (k : ℕ) (ls os hs : List ℕ) {n t : ℕ} {ls₂ os₁ os₃ hs₁ hs₄ : List ℕ} {r : Answer} {s₂ s₃ s₄ : Small} → n ≡ fileN file → t ≡ fileT file
-    → r ≡ answerOf (openCall n t ls os hs) → os₁ ≡ openCall n t ls os hs .state .order → hs₁ ≡ openCall n t ls os hs .state .holders
-    → stateOf s₂ ls₂ os₁ hs₁ ≡ run (stateOf (r .small) ls os₁ hs₁) (linkCalls (fileLinks file))
-    → stateOf s₃ ls₂ os₃ hs₁ ≡ call (stateOf s₂ ls₂ os₁ hs₁) (order (fileOrder file)) .state
-    → stateOf s₄ ls₂ os₃ hs₄ ≡ run (stateOf s₃ ls₂ os₃ hs₁) (placeCalls k)
-    → stateOf s₄ ls₂ os₃ hs₄ ≡ madeBy (fileN file) (fileT file) ls os hs (callsAfter file k)
-unfolding callsAfter plantCalls run
-all-made file k ls os hs {n} {t} {ls₂} {os₁} {os₃} {hs₁} {hs₄} {r} {s₂} {s₃} {s₄} en et er eo eh links orders places =
-    places ∙ ap (λ (x : State). run x (placeCalls k)) (orders ∙ ap (λ (x : State). call x (order (fileOrder file)) .state) (links ∙ ap (λ (x : State). run x (linkCalls (fileLinks file))) begun))
-    ∙ rw (en, et) (after (afterOpen (fileN file) (fileT file) ls os hs))
-  where
-    begun : stateOf (r .small) ls os₁ hs₁ ≡ afterOpen n t ls os hs
-    begun = rw (er, eo, eh) (open-links n t ls os hs)
+-- the record after the file's open
+start : List ℕ → List ℕ → List ℕ → List ℕ → State
+start file ls os hs = afterOpen (fileN file) (fileT file) ls os hs
 
-    after : (s : State) → run (call (run s (linkCalls (fileLinks file))) (order (fileOrder file)) .state) (placeCalls k) ≡ run s (linkCalls (fileLinks file) ++ (order (fileOrder file) ∷ placeCalls k))
-    after s = sym (run-append s (linkCalls (fileLinks file)) (order (fileOrder file) ∷ placeCalls k))
+-- open, and all the calls
+module _
+    (file : List ℕ) (k : ℕ) (ls os hs : List ℕ) {n t : ℕ} {ls₂ os₁ os₃ hs₁ : List ℕ} {r : Answer} {s₂ s₃ : Small} (en : n ≡ fileN file) (et : t ≡ fileT file)
+    (er : r ≡ answerOf (openCall n t ls os hs)) (eo : os₁ ≡ openCall n t ls os hs .state .order) (eh : hs₁ ≡ openCall n t ls os hs .state .holders)
+    (links : stateOf s₂ ls₂ os₁ hs₁ ≡ run (stateOf (r .small) ls os₁ hs₁) (linkCalls (fileLinks file)))
+    (orders : stateOf s₃ ls₂ os₃ hs₁ ≡ call (stateOf s₂ ls₂ os₁ hs₁) (order (fileOrder file)) .state)
+  where
+    begun : stateOf (r .small) ls os₁ hs₁ ≡ start file ls os hs
+    unfolding start
+    begun = let opened : stateOf (r .small) ls os₁ hs₁ ≡ afterOpen n t ls os hs = rw (er, eo, eh) (open-links n t ls os hs) in rw (en, et) at opened
+
+    filled : stateOf s₃ ls₂ os₃ hs₁ ≡ call (run (start file ls os hs) (linkCalls (fileLinks file))) (order (fileOrder file)) .state
+    filled = orders ∙ ap (λ (x : State). call x (order (fileOrder file)) .state) (links ∙ ap (λ (x : State). run x (linkCalls (fileLinks file))) begun)
+
+    pub all-made : {hs₄ : List ℕ} {s₄ : Small} → stateOf s₄ ls₂ os₃ hs₄ ≡ run (stateOf s₃ ls₂ os₃ hs₁) (placeCalls k) → stateOf s₄ ls₂ os₃ hs₄ ≡ madeBy (fileN file) (fileT file) ls os hs (callsAfter file k)
+    unfolding callsAfter plantCalls run start
+    all-made places = places ∙ ap (λ (x : State). run x (placeCalls k)) filled ∙ sym (run-append (start file ls os hs) (linkCalls (fileLinks file)) (order (fileOrder file) ∷ placeCalls k))
+
+    -- only the placings move gateways
+    pub all-moves : {m : ℕ} → m ≡ runMoves (stateOf s₃ ls₂ os₃ hs₁) (placeCalls k) → m ≡ runMoves (afterOpen (fileN file) (fileT file) ls os hs) (callsAfter file k)
+    unfolding callsAfter plantCalls runMoves start NobodyMoved
+    all-moves places =
+        omega (
+          arith,
+          places,
+          ap (λ (x : State). runMoves x (placeCalls k)) filled,
+          moves-append (start file ls os hs) (linkCalls (fileLinks file)) (order (fileOrder file) ∷ placeCalls k),
+          links-move (start file ls os hs) (fileLinks file),
+          nobody-moved (run (start file ls os hs) (linkCalls (fileLinks file))) .3 (fileOrder file),
+        )
 
 -- the record made with lists of 0 is the file's after k placings, and so is what a read of it writes
-module _ (file : List ℕ) (k : ℕ) {ls os hs : List ℕ} (s : Small) (ls' os' hs' : List ℕ) (els : ls ≡ replicate ENDS 0) (eos : os ≡ replicate GATEWAYS 0) (ehs : hs ≡ replicate GATEWAYS 0)
-    (made : stateOf s ls' os' hs' ≡ madeBy (fileN file) (fileT file) ls os hs (callsAfter file k)) where
-  file-made : stateOf s ls' os' hs' ≡ stateAfter file k
+module _ (file : List ℕ) (k : ℕ) {ls os hs : List ℕ} (els : ls ≡ replicate ENDS 0) (eos : os ≡ replicate GATEWAYS 0) (ehs : hs ≡ replicate GATEWAYS 0) where
+  file-made : {s : State} → s ≡ madeBy (fileN file) (fileT file) ls os hs (callsAfter file k) → s ≡ stateAfter file k
   unfolding stateAfter
-  file-made = made ∙ rw (els, eos, ehs)
+  file-made made = made ∙ rw (els, eos, ehs)
 
-  pub all-read : (leaders choke : List ℕ) {leaders' choke' : List ℕ} → leaders' ≡ readLeaders (stateOf s ls' os' hs') leaders choke → choke' ≡ readChoke (stateOf s ls' os' hs') leaders choke
-      → (leaders' ≡ readLeaders (stateAfter file k) leaders choke) × (choke' ≡ readChoke (stateAfter file k) leaders choke)
-  all-read leaders choke e f = (e ∙ ap (λ (x : State). readLeaders x leaders choke) file-made, f ∙ ap (λ (x : State). readChoke x leaders choke) file-made)
+  file-moves : {m : ℕ} → m ≡ runMoves (afterOpen (fileN file) (fileT file) ls os hs) (callsAfter file k) → m ≡ movesAfter file k
+  unfolding movesAfter
+  file-moves moves = moves ∙ rw (els, eos, ehs)
+
+  pub all-read : (s : Small) (ls' os' hs' leaders choke : List ℕ) {m : ℕ} {leaders' choke' : List ℕ}
+      → stateOf s ls' os' hs' ≡ madeBy (fileN file) (fileT file) ls os hs (callsAfter file k) → m ≡ runMoves (afterOpen (fileN file) (fileT file) ls os hs) (callsAfter file k)
+      → leaders' ≡ readLeaders (stateOf s ls' os' hs') leaders choke → choke' ≡ readChoke (stateOf s ls' os' hs') leaders choke
+      → (leaders' ≡ readLeaders (stateAfter file k) leaders choke) × ((choke' ≡ readChoke (stateAfter file k) leaders choke) × (m ≡ movesAfter file k))
+  all-read s ls' os' hs' leaders choke made moves e f =
+      (e ∙ ap (λ (x : State). readLeaders x leaders choke) (file-made made), (f ∙ ap (λ (x : State). readChoke x leaders choke) (file-made made), file-moves moves))

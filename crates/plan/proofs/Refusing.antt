@@ -1,6 +1,6 @@
 -- The refusals of a plan after so many placings, and what it gives by them.
 use Prim.Native.Nat.{ℕ, _<_, _≤_}
-use mathlib.Core.Path.{_≡_, sym, _∙_}
+use mathlib.Core.Path.{_≡_, sym, ap, _∙_}
 use mathlib.Core.Bool.{Bool, true, false, _||_}
 use mathlib.Core.List.{List}
 use native.Mathlib.Omega.{arith}
@@ -12,8 +12,9 @@ use Rattle.packing.proofs.Tests.{or-none, or-false-l, or-false-r}
 use Rattle.packing.proofs.Refusals.{refuse-none, refused, accepted, first-refused, first-passed, first-none}
 use Rattle.planner.specs.Calls.{readLeaders, readChoke}
 use Rattle.plant_file.specs.PlantFile.{fileN, fileRefusal, fileThenShort}
-use Rattle.plan.specs.Plan.{stateAfter, fileState, planRefusal, planLeaders, planChoke}
-use Rattle.plan.specs.After.{afterRefusal, planAfterRefusal, planLeadersAfter, planChokeAfter}
+use Rattle.plan.specs.Plan.{stateAfter, movesAfter, fileState, planRefusal, planLeaders, planChoke}
+use Rattle.plan.specs.After.{afterRefusal, planAfterRefusal, planMovesAfter, plannedAfter, planLeadersAfter, planChokeAfter}
+use Rattle.plan.specs.declared.Planned.{Planned}
 use Rattle.plan.specs.Claim.{AfterAll}
 
 -- the file's number, then 24, then 10: each way to it
@@ -66,14 +67,15 @@ plan-places file k ls cs f z =
     (a .0, a .1, ltb-false ls _ (or-false-l _ _ (a .2)), ltb-false cs _ (or-false-r (ltb ls (fileN file)) _ (a .2)))
 
 module _ (file : List ℕ) (k : ℕ) (leaders choke : List ℕ) {e : ℕ} (of : e ≡ planAfterRefusal file k (length leaders) (length choke)) where
-  pub plan-refused : (e ≡ 0 → ⊥) → (e ≡ planAfterRefusal file k (length leaders) (length choke)) × ((leaders ≡ planLeadersAfter file k leaders choke) × (choke ≡ planChokeAfter file k leaders choke))
-  unfolding planLeadersAfter planChokeAfter
-  plan-refused z = (of, (refused _ _ of z, refused _ _ of z))
+  pub plan-refused : (e ≡ 0 → ⊥)
+      → (_≡_ {A = Planned} (record { refusal = e; moved = 0 }) (plannedAfter file k (length leaders) (length choke))) × ((leaders ≡ planLeadersAfter file k leaders choke) × (choke ≡ planChokeAfter file k leaders choke))
+  unfolding planLeadersAfter planChokeAfter planMovesAfter
+  plan-refused z = ((λ i. record { refusal = of i; moved = refused (movesAfter file k) 0 of z i }), (refused _ _ of z, refused _ _ of z))
 
-  pub plan-accepted : {leaders' choke' : List ℕ} → e ≡ 0 → leaders' ≡ readLeaders (stateAfter file k) leaders choke → choke' ≡ readChoke (stateAfter file k) leaders choke
-      → (0 ≡ planAfterRefusal file k (length leaders) (length choke)) × ((leaders' ≡ planLeadersAfter file k leaders choke) × (choke' ≡ planChokeAfter file k leaders choke))
-  unfolding planLeadersAfter planChokeAfter
-  plan-accepted z p q = (sym z ∙ of, (accepted _ _ of z p, accepted _ _ of z q))
+  pub plan-accepted : {m : ℕ} {leaders' choke' : List ℕ} → e ≡ 0 → leaders' ≡ readLeaders (stateAfter file k) leaders choke → choke' ≡ readChoke (stateAfter file k) leaders choke → m ≡ movesAfter file k
+      → (_≡_ {A = Planned} (record { refusal = 0; moved = m }) (plannedAfter file k (length leaders) (length choke))) × ((leaders' ≡ planLeadersAfter file k leaders choke) × (choke' ≡ planChokeAfter file k leaders choke))
+  unfolding planLeadersAfter planChokeAfter planMovesAfter
+  plan-accepted z p q m = ((λ i. record { refusal = (sym z ∙ of) i; moved = accepted (movesAfter file k) 0 of z m i }), (accepted _ _ of z p, accepted _ _ of z q))
 
 -- After n placings 24 is not given, and the record is the file's.
 pub number-all : (file : List ℕ) (ls cs : ℕ) → planAfterRefusal file (fileN file) ls cs ≡ planRefusal file ls cs
@@ -87,10 +89,10 @@ after-all file leaders choke =
     (same, rw same, rw same)
 
 -- .. so a plan after n placings is the file's plan
-pub plan-whole : (file leaders choke : List ℕ) {n r : ℕ} {leaders' choke' : List ℕ} → n ≡ fileN file
-    → r ≡ planAfterRefusal file n (length leaders) (length choke) → leaders' ≡ planLeadersAfter file n leaders choke → choke' ≡ planChokeAfter file n leaders choke
-    → (r ≡ planRefusal file (length leaders) (length choke)) × ((leaders' ≡ planLeaders file leaders choke) × (choke' ≡ planChoke file leaders choke))
+pub plan-whole : (file leaders choke : List ℕ) {n : ℕ} {r : Planned} {leaders' choke' : List ℕ} → n ≡ fileN file
+    → r ≡ plannedAfter file n (length leaders) (length choke) → leaders' ≡ planLeadersAfter file n leaders choke → choke' ≡ planChokeAfter file n leaders choke
+    → (r .refusal ≡ planRefusal file (length leaders) (length choke)) × ((leaders' ≡ planLeaders file leaders choke) × (choke' ≡ planChoke file leaders choke))
 unfolding AfterAll
 plan-whole file leaders choke is e f g =
     let same = after-all file leaders choke in
-    ((rw is at e) ∙ same .0, ((rw is at f) ∙ same .1, (rw is at g) ∙ same .2))
+    (ap (λ (p : Planned). p .refusal) e ∙ rw is (same .0), ((rw is at f) ∙ same .1, (rw is at g) ∙ same .2))

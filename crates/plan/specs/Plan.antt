@@ -8,7 +8,7 @@ use Rattle.packing.specs.Plant.{GATEWAYS, ENDS}
 use Rattle.packing.specs.Refusals.{byNumber}
 use Rattle.planner.specs.State.{State}
 use Rattle.planner.specs.Calls.{Call, readLeaders, readChoke}
-use Rattle.planner.specs.Run.{plantCalls}
+use Rattle.planner.specs.Run.{afterOpen, runMoves, plantCalls}
 use Rattle.planner.specs.Claims.{madeBy}
 use Rattle.plant_file.specs.PlantFile.{fileN, fileT, fileLinks, fileOrder, fileThenShort}
 
@@ -19,6 +19,10 @@ callsAfter file k = plantCalls (fileLinks file) (fileOrder file) k
 -- the record that they make after an open with lists that have a place for every plant
 unfoldable pub stateAfter : List ℕ → ℕ → State
 stateAfter file k = madeBy (fileN file) (fileT file) (replicate ENDS 0) (replicate GATEWAYS 0) (replicate GATEWAYS 0) (callsAfter file k)
+
+-- 02, change 4: how many gateways they move, placing after placing
+unfoldable pub movesAfter : List ℕ → ℕ → ℕ
+movesAfter file k = runMoves (afterOpen (fileN file) (fileT file) (replicate ENDS 0) (replicate GATEWAYS 0) (replicate GATEWAYS 0)) (callsAfter file k)
 
 -- .. once all n are placed
 unfoldable pub fileState : List ℕ → State

@@ -5,11 +5,11 @@ ghost use mathlib.Core.Path.{_≡_};
 ghost use Rattle.planner.specs.State.{stateOf};
 ghost use Rattle.planner.specs.Calls as calls;
 ghost use Rattle.planner.specs.Calls.{call, readLeaders, readChoke};
-ghost use Rattle.planner.specs.Run.{run, linkCalls, placeCalls};
+ghost use Rattle.planner.specs.Run.{afterOpen, run, runMoves, linkCalls, placeCalls};
 ghost use Rattle.planner.specs.Claims.{madeBy};
 ghost use Rattle.plant_file.specs.PlantFile.{fileN, fileT, fileLinks, fileOrder, fileRefusal};
 ghost use Rattle.plant_file.specs.Reader.{linkAt};
-ghost use Rattle.plan.specs.Plan.{callsAfter, stateAfter};
+ghost use Rattle.plan.specs.Plan.{callsAfter, stateAfter, movesAfter};
 ghost use Rattle.plan.specs.Pre.{linkStep};
 
 // The call for the link at an index.
@@ -54,17 +54,27 @@ fn with_order(file: &[u8], s: Small, links: &[u16], order: &mut [u16], holders: 
     s.order(links, order, holders, &numbers[..n]).small
 }
 
+// A record's small part, and how many gateways the placings moved.
+struct Made {
+    small: Small,
+    moved: u32,
+}
+
 // The placings.
-fn with_places(placings: u32, s: Small, links: &[u16], order: &[u16], holders: &mut [u16]) -> Small
-    ensures { λ r. ⌜ stateOf r (now (links .entry)) (now (order .entry)) (now (holders .exit)) ≡ run (stateOf s (now (links .entry)) (now (order .entry)) (now (holders .entry))) (placeCalls placings) ⌝ }
+fn with_places(placings: u32, s: Small, links: &[u16], order: &[u16], holders: &mut [u16]) -> Made
+    ensures state { λ r. ⌜ stateOf (r .small) (now (links .entry)) (now (order .entry)) (now (holders .exit)) ≡ run (stateOf s (now (links .entry)) (now (order .entry)) (now (holders .entry))) (placeCalls placings) ⌝ }
+    ensures moved { λ r. ⌜ r .moved ≡ runMoves (stateOf s (now (links .entry)) (now (order .entry)) (now (holders .entry))) (placeCalls placings) ⌝ }
 {
     let mut now = s;
+    let mut moved: u32 = 0;
     let mut i: u32 = 0;
     while i < placings {
-        now = now.place(links, order, holders).small;
+        let placed = now.place(links, order, holders);
+        now = placed.small;
+        moved += placed.moved as u32;
         i += 1;
     }
-    now
+    Made { small: now, moved }
 }
 
 // Open, and then all of them.
@@ -74,9 +84,10 @@ fn make(
     links: &mut [u16],
     order: &mut [u16],
     holders: &mut [u16],
-) -> Small
+) -> Made
     requires { ⌜ fileRefusal (now file) ≡ 0 ⌝ }
-    ensures { λ r. ⌜ stateOf r (now (links .exit)) (now (order .exit)) (now (holders .exit)) ≡ madeBy (fileN (now (file .entry))) (fileT (now (file .entry))) (now (links .entry)) (now (order .entry)) (now (holders .entry)) (callsAfter (now (file .entry)) placings) ⌝ }
+    ensures state { λ r. ⌜ stateOf (r .small) (now (links .exit)) (now (order .exit)) (now (holders .exit)) ≡ madeBy (fileN (now (file .entry))) (fileT (now (file .entry))) (now (links .entry)) (now (order .entry)) (now (holders .entry)) (callsAfter (now (file .entry)) placings) ⌝ }
+    ensures moved { λ r. ⌜ r .moved ≡ runMoves (afterOpen (fileN (now (file .entry))) (fileT (now (file .entry))) (now (links .entry)) (now (order .entry)) (now (holders .entry))) (callsAfter (now (file .entry)) placings) ⌝ }
 {
     let n = plant_file::gateways(file);
     let opened = Small::open(n, plant_file::limit(file), links, order, holders).small;
@@ -85,15 +96,17 @@ fn make(
     with_places(placings, ordered, links, order, holders)
 }
 
-// The record made, and read into the lent lists.
-pub(crate) fn read_all(file: &[u8], placings: u32, leaders: &mut [u16], choke: &mut [u8])
+// The record made, and read into the lent lists. Returns how many gateways the placings moved.
+pub(crate) fn read_all(file: &[u8], placings: u32, leaders: &mut [u16], choke: &mut [u8]) -> u32
     requires { ⌜ fileRefusal (now file) ≡ 0 ⌝ }
     ensures leaders { λ _. ⌜ now (leaders .exit) ≡ readLeaders (stateAfter (now (file .entry)) placings) (now (leaders .entry)) (now (choke .entry)) ⌝ }
     ensures choke { λ _. ⌜ now (choke .exit) ≡ readChoke (stateAfter (now (file .entry)) placings) (now (leaders .entry)) (now (choke .entry)) ⌝ }
+    ensures moved { λ r. ⌜ r ≡ movesAfter (now (file .entry)) placings ⌝ }
 {
     let mut links = lists::marks::ends();
     let mut order = lists::marks::zeros();
     let mut holders = lists::marks::zeros();
-    let s = make(file, placings, &mut links, &mut order, &mut holders);
-    s.read(&links, &order, &holders, leaders, choke);
+    let made = make(file, placings, &mut links, &mut order, &mut holders);
+    made.small.read(&links, &order, &holders, leaders, choke);
+    made.moved
 }

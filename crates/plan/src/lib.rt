@@ -1,10 +1,10 @@
-// The plan of a plant file, as lists of numbers (01, "The plant file and the listing"), also while the plant is being placed (02, change 1).
+// The plan of a plant file, as lists of numbers (01, "The plant file and the listing"), also while the plant is being placed (02, change 1), and how many gateways it moves (02, change 4).
 mod calls;
 
 ghost use mathlib.Core.Path.{_≡_};
 ghost use lib.ListN.{length};
 ghost use Rattle.plan.specs.Plan.{planRefusal, planLeaders, planChoke};
-ghost use Rattle.plan.specs.After.{afterRefusal, planAfterRefusal, planLeadersAfter, planChokeAfter};
+ghost use Rattle.plan.specs.After.{afterRefusal, planAfterRefusal, plannedAfter, planLeadersAfter, planChokeAfter};
 
 // The file's number, then 24 for more placings than there are gateways, then 10: short says that a lent list is too short.
 pub fn refusal_after(file: &[u8], placings: u32, short: bool) -> u32
@@ -31,18 +31,32 @@ fn refusal_of(file: &[u8], placings: u32, leaders: &[u16], choke: &[u8]) -> u32
     refusal_after(file, placings, short)
 }
 
+// The refusal's number, or 0 for accepted, and how many gateways the placings move, 0 on refusal.
+pub struct Planned {
+    pub refusal: u32,
+    pub moved: u32,
+}
+
 // The leader list and the choke bytes after so many placings. Nothing is written on refusal.
-pub fn plan_lists_after(file: &[u8], placings: u32, leaders: &mut [u16], choke: &mut [u8]) -> u32
-    ensures answer { λ r. ⌜ r ≡ planAfterRefusal (now (file .entry)) placings (length (now (leaders .entry))) (length (now (choke .entry))) ⌝ }
+pub fn plan_lists_after(
+    file: &[u8],
+    placings: u32,
+    leaders: &mut [u16],
+    choke: &mut [u8],
+) -> Planned
+    ensures answer { λ r. ⌜ r ≡ plannedAfter (now (file .entry)) placings (length (now (leaders .entry))) (length (now (choke .entry))) ⌝ }
     ensures leaders { λ _. ⌜ now (leaders .exit) ≡ planLeadersAfter (now (file .entry)) placings (now (leaders .entry)) (now (choke .entry)) ⌝ }
     ensures choke { λ _. ⌜ now (choke .exit) ≡ planChokeAfter (now (file .entry)) placings (now (leaders .entry)) (now (choke .entry)) ⌝ }
 {
     let refused = refusal_of(file, placings, leaders, choke);
     if refused != 0 {
-        return refused;
+        return Planned {
+            refusal: refused,
+            moved: 0,
+        };
     }
-    calls::read_all(file, placings, leaders, choke);
-    0
+    let moved = calls::read_all(file, placings, leaders, choke);
+    Planned { refusal: 0, moved }
 }
 
 // The leader list and the choke bytes of a file's plan: after all placings. Nothing is written on refusal.
@@ -51,5 +65,5 @@ pub fn plan_lists(file: &[u8], leaders: &mut [u16], choke: &mut [u8]) -> u32
     ensures leaders { λ _. ⌜ now (leaders .exit) ≡ planLeaders (now (file .entry)) (now (leaders .entry)) (now (choke .entry)) ⌝ }
     ensures choke { λ _. ⌜ now (choke .exit) ≡ planChoke (now (file .entry)) (now (leaders .entry)) (now (choke .entry)) ⌝ }
 {
-    plan_lists_after(file, plant_file::gateways(file) as u32, leaders, choke)
+    plan_lists_after(file, plant_file::gateways(file) as u32, leaders, choke).refusal
 }

@@ -27,7 +27,7 @@ same-length-4 c = search needs
 returns-2 : tie.Need-returns-2
 returns-2 c = let read = c .before .before .before .before in
     let test = read .before .before .before in
-    plan-accepted _ _ _ _ (test .before .refusal-of .ensures) (test .if1 .left) (read .read-all .ensures .0) (read .read-all .ensures .1)
+    plan-accepted _ _ _ _ (test .before .refusal-of .ensures) (test .if1 .left) (read .read-all .ensures .0) (read .read-all .ensures .1 .0) (read .read-all .ensures .1 .1)
 
 pub plan-lists-after-spec : {M : Type 1} → statement M
 plan-lists-after-spec =

@@ -1,4 +1,4 @@
-use Rattle.plan.proofs.CallsInTurn.{all-made}
+use Rattle.plan.proofs.CallsInTurn.{all-made, all-moves}
 use mathlib.Core.Path.{_∙_}
 use borrow.Author.Needs.{needs}
 use Rattle.plan.proofs.calls.make.Statement.{statement}
@@ -29,16 +29,19 @@ same-length-2 : tie.Need-same-length-2
 same-length-2 c = c .before .before .before .before .before .before .before .order2 .given ∙ c .before .before .before .before .before .before .before .before .before .before .before .before .before .before .before .before .before .before .before .before .before .before .order .given
 
 same-length-3 : tie.Need-same-length-3
-same-length-3 c = search needs
+same-length-3 c = c .before .holders2 .given ∙ c .before .before .before .before .before .before .before .before .before .before .before .before .before .before .before .before .before .before .before .before .holders .given
 
 returns : tie.Need-returns
 returns c = let places = c .before .before in
     let order = places .before .before .before .before .before .before in
     let links = order .before .before .before .before .before .before in
     let opened = links .before .before .before .before .before .before .before .before .before in
-    let header = opened .before .before .before .before in
-    all-made _ _ _ _ _ (header .before .gateways .ensures) (header .limit .ensures) (opened .«open» .ensures .0) (opened .«open» .ensures .1 .0) (opened .«open» .ensures .1 .1)
-    (links .with-links .ensures) (order .with-order .ensures) (places .with-places .ensures)
+    let header = opened .before .before .before .before in (
+      all-made _ _ _ _ _ (header .before .gateways .ensures) (header .limit .ensures) (opened .«open» .ensures .0) (opened .«open» .ensures .1 .0) (opened .«open» .ensures .1 .1)
+          (links .with-links .ensures) (order .with-order .ensures) (places .with-places .ensures .0),
+      all-moves _ _ _ _ _ (header .before .gateways .ensures) (header .limit .ensures) (opened .«open» .ensures .0) (opened .«open» .ensures .1 .0) (opened .«open» .ensures .1 .1)
+          (links .with-links .ensures) (order .with-order .ensures) (places .with-places .ensures .1),
+    )
 
 pub make-spec : {M : Type 1} → statement M
 make-spec =

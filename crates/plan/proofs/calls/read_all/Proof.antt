@@ -46,7 +46,7 @@ returns : tie.Need-returns
 returns c = let read = c .before .before .before .before in
     let made = read .before .before .before .before .before .before .before .before .before in
     let lent = made .before .before .before .before in
-    all-read _ _ _ _ _ _ (lent .before .before .ends .ensures) (lent .before .zeros .ensures) (lent .zeros2 .ensures) (made .make .ensures) _ _ (read .read .ensures .1 .0) (read .read .ensures .1 .1)
+    all-read _ _ (lent .before .before .ends .ensures) (lent .before .zeros .ensures) (lent .zeros2 .ensures) _ _ _ _ _ _ (made .make .ensures .0) (made .make .ensures .1) (read .read .ensures .1 .0) (read .read .ensures .1 .1)
 
 pub read-all-spec : {M : Type 1} → statement M
 read-all-spec =

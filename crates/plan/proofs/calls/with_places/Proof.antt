@@ -1,23 +1,32 @@
 use borrow.Author.Needs.{needs}
+use native.Mathlib.Omega.{arith}
 use Prim.Native.Nat.{_-_}
 use mathlib.Core.Path.{_≡_}
 use lib.ListN.{length}
 use Rattle.planner.specs.State.{stateOf}
-use Rattle.plan.proofs.CallsInTurn.{Places, places-start, places-turn, places-end}
+use Rattle.plan.proofs.CallsInTurn.{Places, places-start, places-fit, places-turn, places-end}
 use Rattle.plan.proofs.calls.with_places.Statement.{statement}
 use Rattle.plan.proofs.calls.with_places.Tie as tie
 
 abbrev Inv-loop : tie.InvT-loop
-Inv-loop placings links order holders₀ now₀ i₀ holders now i = Places placings (stateOf now₀ links order holders₀) (stateOf now links order holders) i × (length holders ≡ length holders₀)
+Inv-loop placings links order holders₀ now₀ moved₀ i₀ holders now moved i = Places placings (stateOf now₀ links order holders₀) (stateOf now links order holders) moved i × (length holders ≡ length holders₀)
 
 abbrev μ-loop : tie.MeasureT-loop
-μ-loop placings links order holders₀ now₀ i₀ holders now i = placings - i
+μ-loop placings links order holders₀ now₀ moved₀ i₀ holders now moved i = placings - i
 
 loop-holds : tie.Need-loop-holds Inv-loop μ-loop
 loop-holds c = (places-start _, search needs)
 
 place-requires : tie.Need-place-requires Inv-loop μ-loop
 place-requires c κs = search needs
+
+cast-moved : tie.Need-cast-moved Inv-loop μ-loop
+cast-moved c = search needs
+
+add-moved : tie.Need-add-moved Inv-loop μ-loop
+add-moved c = let placed = c .before .before .before .before in
+    let turn = placed .before .before in
+    omega (arith, places-fit _ (turn .before .loop .inv .0) (turn .loop-test .taken) (placed .place .ensures .0))
 
 add-i : tie.Need-add-i Inv-loop μ-loop
 add-i c = search needs
@@ -26,7 +35,9 @@ loop-less : tie.Need-loop-less Inv-loop μ-loop
 loop-less c = search needs
 
 loop-again : tie.Need-loop-again Inv-loop μ-loop
-loop-again c = (places-turn _ (c .before .before .before .before .before .before .loop .inv .0) (c .before .before .before .before .before .loop-test .taken) (c .before .before .before .place .ensures .0) (c .before .before .before .place .ensures .1), search needs)
+loop-again c = let placed = c .before .before .before .before in
+    let turn = placed .before .before in
+    (places-turn _ (turn .before .loop .inv .0) (turn .loop-test .taken) (placed .place .ensures .0) (placed .place .ensures .1), search needs)
 
 same-length : tie.Need-same-length Inv-loop μ-loop
 same-length c = search needs
@@ -42,6 +53,8 @@ with-places-spec =
     μ-loop
     loop-holds
     place-requires
+    cast-moved
+    add-moved
     add-i
     loop-less
     loop-again
