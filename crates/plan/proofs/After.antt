@@ -55,10 +55,10 @@ module _ (file : List ℕ) (z : fileRefusal file ≡ 0) where
 
   module _ (k : ℕ) (within : k ≤ fileN file) where
     -- what the calls tell: the file's n, T, links and order, and k placed
-    file-told : tell (beginning (fileN file) (fileT file) (length ownLinks)) (callsAfter file k) ≡ placedTold file (length ownLinks) k
+    pub file-told : tell (beginning (fileN file) (fileT file) (length ownLinks)) (callsAfter file k) ≡ placedTold file (length ownLinks) k
     file-told = file-tells file (length ownLinks) z (rw length-replicate (omega (arith, file-allowed file z .links-few))) k within
 
-    file-agrees : Agrees (placedTold file (length ownLinks) k) (stateAfter file k)
+    pub file-agrees : Agrees (placedTold file (length ownLinks) k) (stateAfter file k)
     unfolding stateAfter
     file-agrees = rw file-told at (run-agrees (open-agrees (fileN file) (fileT file) ownLinks own own file-open) (callsAfter file k))
 

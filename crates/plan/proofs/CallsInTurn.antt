@@ -93,7 +93,7 @@ pub record Places (n : ℕ) (first now : State) (moved i : ℕ) : Type 0 where
   pub is : now ≡ run first (placeCalls i)
   pub moves : moved ≡ runMoves first (placeCalls i)
 
-place-last : (s : State) (i : ℕ) → run s (placeCalls (suc i)) ≡ call (run s (placeCalls i)) place .state
+pub place-last : (s : State) (i : ℕ) → run s (placeCalls (suc i)) ≡ call (run s (placeCalls i)) place .state
 unfolding run placeCalls
 place-last s zero = refl
 place-last s (suc i) = place-last (call s place .state) i

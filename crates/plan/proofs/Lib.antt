@@ -4,4 +4,5 @@ pub mod Turns
 pub mod CallsInTurn
 pub mod ToldByFile
 pub mod After
+pub mod FileMoves
 pub mod FilePlan

@@ -1,20 +1,22 @@
--- 00, demands 2 and 3, and 02, changes 1 and 2, for a plan made from a file.
-use Prim.Native.Nat.{ℕ, _<_, _≤_}
+-- 00, demands 2 and 3, and 02, changes 1, 2 and 4, for a plan made from a file.
+use Prim.Native.Nat.{ℕ, _+_, _<_, _≤_}
 use mathlib.Core.Path.{_≡_}
-use mathlib.Core.Bool.{Bool, not}
+use mathlib.Core.Bool.{Bool, true, false, not}
 use mathlib.Core.List.{List}
 use lib.Dec.{eqb}
 use lib.ListN.{length}
-use Rattle.packing.specs.Count.{count}
+use Rattle.packing.specs.Count.{sum, count}
 use Rattle.packing.specs.Plant.{at, common, linked}
 use Rattle.packing.specs.Grouping.{Grouping, covered, coveredFirst}
 use Rattle.packing.specs.Pairs.{EarlierLeads}
 use Rattle.packing.specs.Choke.{ChokeDifference}
+use Rattle.packing.specs.Holders.{held}
+use Rattle.packing.specs.Moved.{moved, Fewest}
 use Rattle.packing.specs.SoFar.{SoFar}
 use Rattle.search.specs.ChokeSet.{chokeByte}
 use Rattle.plant_file.specs.PlantFile.{fileN, fileT, fileLinks, fileOrder}
 use Rattle.plan.specs.Plan.{stateAfter, planRefusal, planLeaders, planChoke}
-use Rattle.plan.specs.After.{planAfterRefusal, planLeadersAfter, planChokeAfter}
+use Rattle.plan.specs.After.{planAfterRefusal, planMovesAfter, planLeadersAfter, planChokeAfter}
 
 -- a grouping of the plant that the file describes
 abbrev pub GroupingOf : List ℕ → (ℕ → ℕ) → Type 0
@@ -51,6 +53,27 @@ unfoldable pub FilePairs : Type 0
 FilePairs =
     (file : List ℕ) (k : ℕ) (leaders choke : List ℕ) → planAfterRefusal file k (length leaders) (length choke) ≡ 0
     → EarlierLeads (fileN file) (at (fileOrder file)) (at (planLeadersAfter file k leaders choke))
+
+-- 02, change 4: how many gateways the placing after the first j moves, by the holders of the records that the file's calls make with j placings and with one more
+unfoldable pub placingMoves : List ℕ → ℕ → ℕ
+placingMoves file j = moved (fileN file) (at (stateAfter file j .holders)) (at (stateAfter file (j + 1) .holders))
+
+-- that placing gives its gateway a holder, or leaves it
+abbrev pub placingKeeps : List ℕ → ℕ → Bool
+placingKeeps file j = held (fileN file) (at (stateAfter file (j + 1) .holders)) (at (fileOrder file) j)
+
+-- What is claimed of a number for the first k placings: it is the sum of what each of them moves. That is 0 where the gateway is left, and else the fewest that holders of it and of all kept before it could,
+-- along the file's links and within its T.
+pub record SumOfFewest (file : List ℕ) (k total : ℕ) : Type 0 where
+  pub sums : total ≡ sum k (placingMoves file)
+  pub left : (j : ℕ) → j < k → placingKeeps file j ≡ false → placingMoves file j ≡ 0
+  pub fewest : (j : ℕ) → j < k → placingKeeps file j ≡ true
+      → Fewest (fileN file) (common (fileT file)) (linked (fileLinks file)) (at (stateAfter file j .holders)) (at (stateAfter file (j + 1) .holders)) (at (fileOrder file) j) (placingMoves file j)
+
+-- It holds of what is given for every accepted file and number of placings.
+unfoldable pub FileMoves : Type 0
+FileMoves =
+    (file : List ℕ) (k leadersLen chokeLen : ℕ) → planAfterRefusal file k leadersLen chokeLen ≡ 0 → SumOfFewest file k (planMovesAfter file k leadersLen chokeLen)
 
 -- With n placings it is the plan, whatever is handed in.
 unfoldable pub AfterAll : Type 0

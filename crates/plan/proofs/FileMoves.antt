@@ -1,0 +1,107 @@
+-- How many gateways the placings of an accepted file move: the claim of specs/Claim.antt.
+use Prim.Native.Nat.{ℕ, zero, suc, _+_, _<_, _≤_}
+use mathlib.Core.Path.{_≡_, refl, sym, ap, _∙_}
+use mathlib.Core.Bool.{true, false}
+use mathlib.Core.List.{List, [], _∷_, _++_}
+use native.Mathlib.Numerals.{add-one}
+use native.Mathlib.Omega.{arith}
+use lib.ListN.{length}
+use Rattle.packing.specs.Count.{sum}
+use Rattle.packing.specs.Plant.{at, common, linked}
+use Rattle.packing.specs.Holders.{held}
+use Rattle.packing.specs.Moved.{moved, Fewest}
+use Rattle.packing.specs.Refusals.{byNumber}
+use Rattle.planner.specs.declared.Small.{Small}
+use Rattle.planner.specs.State.{State}
+use Rattle.planner.specs.Calls.{order, place, call, callMoves}
+use Rattle.planner.specs.Run.{afterOpen, run, runMoves, linkCalls, placeCalls, plantCalls}
+use Rattle.planner.specs.Claims.{FewestMovedOf, FewestMovedTold}
+use Rattle.planner.specs.Moved.{NobodyMoved}
+use Rattle.planner.proofs.Agree.{run-append}
+use Rattle.planner.proofs.Moved.{nobody-moved}
+use Rattle.planner.proofs.MovedTold.{fewest-told}
+use Rattle.planner.proofs.MovedSums.{moves-append, links-move, moves-last}
+use Rattle.plant_file.specs.PlantFile.{fileN, fileT, fileLinks, fileOrder, fileRefusal}
+use Rattle.plan.specs.Plan.{callsAfter, stateAfter, movesAfter}
+use Rattle.plan.specs.After.{planAfterRefusal, planMovesAfter}
+use Rattle.plan.specs.Claim.{placingMoves, placingKeeps, SumOfFewest, FileMoves}
+use Rattle.plan.proofs.CallsInTurn.{place-last}
+use Rattle.plan.proofs.Refusing.{plan-places}
+use Rattle.plan.proofs.ToldByFile.{placedTold}
+use Rattle.plan.proofs.After.{ownLinks, own, file-open, file-told, file-agrees}
+
+-- the record that the links and the order make
+filled : List ℕ → State
+filled file = call (run (afterOpen (fileN file) (fileT file) ownLinks own own) (linkCalls (fileLinks file))) (order (fileOrder file)) .state
+
+state-is : (file : List ℕ) (k : ℕ) → stateAfter file k ≡ run (filled file) (placeCalls k)
+unfolding stateAfter callsAfter plantCalls filled run
+state-is file k = run-append (afterOpen (fileN file) (fileT file) ownLinks own own) (linkCalls (fileLinks file)) (order (fileOrder file) ∷ placeCalls k)
+
+moves-are : (file : List ℕ) (k : ℕ) → movesAfter file k ≡ runMoves (filled file) (placeCalls k)
+unfolding movesAfter callsAfter plantCalls filled runMoves NobodyMoved
+moves-are file k =
+    let start : State = afterOpen (fileN file) (fileT file) ownLinks own own in
+    omega (
+      arith,
+      moves-append start (linkCalls (fileLinks file)) (order (fileOrder file) ∷ placeCalls k),
+      links-move start (fileLinks file),
+      nobody-moved (run start (linkCalls (fileLinks file))) .3 (fileOrder file),
+    )
+
+-- one placing more
+state-next : (file : List ℕ) (k : ℕ) → stateAfter file (k + 1) ≡ call (stateAfter file k) place .state
+state-next file k = state-is file (k + 1) ∙ rw (add-one k) (place-last (filled file) k) ∙ ap (λ (s : State). call s place .state) (sym (state-is file k))
+
+module _ (file : List ℕ) (z : fileRefusal file ≡ 0) where
+  few : (k : ℕ) → k ≤ fileN file → stateAfter file k .small .n ≡ fileN file
+  few k l = ap (λ (small : Small). small .n) (file-agrees file z k l .small)
+
+  placed : (k : ℕ) → k ≤ fileN file → stateAfter file k .small .k ≡ k
+  placed k l = ap (λ (small : Small). small .k) (file-agrees file z k l .small)
+
+  placing-is : (k : ℕ) → k ≤ fileN file → callMoves (stateAfter file k) place ≡ placingMoves file k
+  unfolding callMoves placingMoves
+  placing-is k l = rw (state-next file k, few k l)
+
+  sums-to : (k : ℕ) → k ≤ fileN file → movesAfter file k ≡ sum k (placingMoves file)
+  unfolding sum runMoves placeCalls
+  sums-to zero l = moves-are file 0
+  sums-to (suc k) l =
+      omega (
+        arith,
+        moves-are file (suc k),
+        moves-last (filled file) k,
+        moves-are file k,
+        ap (λ (s : State). callMoves s place) (state-is file k),
+        placing-is k (omega arith),
+        sums-to k (omega arith),
+      )
+
+  -- what the placing after the first j does, as the planner's claims say it
+  module _ (j : ℕ) (l : j < fileN file) where
+    next-is : at (stateAfter file j .order) (stateAfter file j .small .k) ≡ at (fileOrder file) j
+    next-is = rw (placed j (omega arith)) (file-agrees file z j (omega arith) .order j l)
+
+    left-none : placingKeeps file j ≡ false → placingMoves file j ≡ 0
+    unfolding NobodyMoved
+    left-none e =
+        sym (placing-is j (omega arith))
+        ∙ nobody-moved (stateAfter file j) .1 (rw (← state-next file j, few (j + 1) (omega arith), next-is) e)
+
+    by-calls : FewestMovedOf (fileN file) (placedTold file (length ownLinks) j) (stateAfter file j)
+    unfolding FewestMovedTold stateAfter
+    by-calls =
+        let tells = file-told file z j (omega arith) in
+        rw tells at (fewest-told (fileN file) (fileT file) ownLinks own own (file-open file z) (callsAfter file j) (rw tells l))
+
+    kept-fewest : placingKeeps file j ≡ true
+        → Fewest (fileN file) (common (fileT file)) (linked (fileLinks file)) (at (stateAfter file j .holders)) (at (stateAfter file (j + 1) .holders)) (at (fileOrder file) j) (placingMoves file j)
+    kept-fewest e = rw (← state-next file j, placing-is j (omega arith)) at (by-calls (rw (← state-next file j) e))
+
+  pub moves-least : (k : ℕ) → k ≤ fileN file → SumOfFewest file k (movesAfter file k)
+  moves-least k l = record { sums = sums-to k l; left = λ j i. left-none j (omega arith); fewest = λ j i. kept-fewest j (omega arith) }
+
+pub file-moves : FileMoves
+unfolding FileMoves planMovesAfter
+file-moves file k ls cs passes = let (z, within, _, _) = plan-places file k ls cs refl passes in rw passes (moves-least file z k within)
