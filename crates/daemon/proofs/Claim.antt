@@ -1,5 +1,5 @@
 -- What the bytes say is the plan of the file, so they carry its claim.
-use Prim.Native.Nat.{ℕ, _+_, _*_, _<_, _≤_}
+use Prim.Native.Nat.{ℕ, _+_, _*_, _/_, _%_, _<_, _≤_}
 use mathlib.Core.Path.{_≡_, refl, sym, ap, _∙_}
 use mathlib.Core.Bool.{false}
 use mathlib.Core.List.{List, _++_, append-assoc}
@@ -8,7 +8,7 @@ use lib.Dec.{eqb, ltb}
 use lib.ListN.{length, drop, length-append, List·getD-append}
 use lib.Seq.{getD-append-add}
 use Rattle.packing.specs.Lists.{written}
-use Rattle.packing.specs.Plant.{at}
+use Rattle.packing.specs.Plant.{GATEWAYS, at}
 use Rattle.packing.specs.Pairs.{EarlierLeads}
 use Rattle.packing.proofs.Below.{leads-below}
 use Rattle.packing.proofs.Lists.{written-past}
@@ -17,52 +17,80 @@ use Rattle.packing.proofs.SoFar.{placed-same}
 use Rattle.plant_file.specs.PlantFile.{number, fileN, fileOrder, fileRefusal}
 use Rattle.plant_file.specs.Encode.{lowFirst}
 use Rattle.plant_file.proofs.Encode.{low-long, number-low}
-use Rattle.plan.specs.Plan.{fileLeaders, fileChoke}
+use Rattle.plan.specs.Plan.{movesAfter, fileLeaders, fileChoke}
+use Rattle.plan.specs.Claim.{SumOfFewest}
 use Rattle.plan.specs.After.{fileLeadersAfter, fileChokeAfter}
 use Rattle.plan.proofs.Refusing.{after-none}
 use Rattle.plan.proofs.After.{leaders-long, choke-long, choke-at, choke-bit, plan-so-far-below, lists-so-far, lists-pairs}
+use Rattle.plan.proofs.FileMoves.{moves-few, moves-least}
 use Rattle.plan.proofs.FilePlan.{leaders-all, choke-all, plan-below, lists-plan}
-use Rattle.daemon.specs.Groups.{planBytes, groupsRefusal, groupsOut, bytesAfter, groupsAfterRefusal, groupsAfterOut}
-use Rattle.daemon.specs.Claim.{leaderAt, chokeAt, BytesPlan, BytesRefused, BytesSoFar, BytesPairs, BytesStay, BytesAfterRefused, BytesAfterAll}
+use Rattle.daemon.specs.Groups.{fourBytes, bytesFor, planBytes, groupsRefusal, groupsOut, bytesAfter, groupsAfterRefusal, groupsAfterOut}
+use Rattle.daemon.specs.Claim.{leaderAt, chokeAt, movedAt, BytesPlan, BytesRefused, BytesSoFar, BytesPairs, BytesMoves, BytesStay, BytesAfterRefused, BytesAfterAll}
+use Rattle.daemon.proofs.LowFirst.{four-long}
 use Rattle.daemon.proofs.Groups.{bytes-after-all}
 
--- the bytes of n leaders and n choke bytes, and what stands behind them
-module _ (n : ℕ) (leaders choke out : List ℕ) (led : length leaders ≡ n) (choked : length choke ≡ n) where
-  bytes-are : written (3 * n) (lowFirst leaders ++ choke) out ≡ lowFirst leaders ++ (choke ++ drop (3 * n) out)
-  unfolding written
-  bytes-are = append-assoc (lowFirst leaders) choke (drop (3 * n) out)
+-- four bytes, low byte first, are the number that they were taken from
+low-first : (x : ℕ) → x ≤ GATEWAYS * GATEWAYS → {a b c d : ℕ} → a ≡ x % 256 → b ≡ (x / 256) % 256 → c ≡ (x / 65536) % 256 → d ≡ (x / 16777216) % 256 → a + 256 * b + 65536 * c + 16777216 * d ≡ x
+low-first x few e f g h = omega arith
+
+-- the bytes of n leaders, n choke bytes and a number, and what stands behind them
+module _ (n : ℕ) (leaders choke : List ℕ) (x : ℕ) (out : List ℕ) (led : length leaders ≡ n) (choked : length choke ≡ n) where
+  all : List ℕ
+  all = written (bytesFor n) (lowFirst leaders ++ choke ++ fourBytes x) out
+
+  -- behind the leaders, and behind the choke bytes
+  behind : List ℕ
+  behind = fourBytes x ++ drop (bytesFor n) out
+
+  bytes-are : all ≡ lowFirst leaders ++ choke ++ behind
+  unfolding written all behind
+  bytes-are = append-assoc (lowFirst leaders ++ choke) (fourBytes x) (drop (bytesFor n) out)
+
+  leaders-first : all ≡ lowFirst leaders ++ (choke ++ behind)
+  leaders-first = bytes-are ∙ append-assoc (lowFirst leaders) choke behind
 
   twice : length (lowFirst leaders) ≡ 2 * n
   twice = omega (arith, low-long leaders)
 
+  thrice : length (lowFirst leaders ++ choke) ≡ 3 * n
+  thrice = omega (arith, length-append (lowFirst leaders) choke, twice)
+
   -- the two bytes of a leader are that leader, ..
-  leader-bytes : (v : ℕ) → v < n → at leaders v ≡ leaderAt (written (3 * n) (lowFirst leaders ++ choke) out) v
+  leader-bytes : (v : ℕ) → v < n → at leaders v ≡ leaderAt all v
   unfolding number
   leader-bytes v l =
       rw (
-        bytes-are,
-        List·getD-append (lowFirst leaders) (choke ++ drop (3 * n) out) 0 (2 * v) (omega (arith, twice)),
-        List·getD-append (lowFirst leaders) (choke ++ drop (3 * n) out) 0 (2 * v + 1) (omega (arith, twice)),
+        leaders-first,
+        List·getD-append (lowFirst leaders) (choke ++ behind) 0 (2 * v) (omega (arith, twice)),
+        List·getD-append (lowFirst leaders) (choke ++ behind) 0 (2 * v + 1) (omega (arith, twice)),
       ) (sym (number-low leaders v))
 
-  -- .. and a choke byte is that byte
-  choke-bytes : (v : ℕ) → v < n → at choke v ≡ chokeAt n (written (3 * n) (lowFirst leaders ++ choke) out) v
+  -- .. a choke byte is that byte, ..
+  choke-bytes : (v : ℕ) → v < n → at choke v ≡ chokeAt n all v
   choke-bytes v l =
-      rw (bytes-are, ← twice, getD-append-add (lowFirst leaders) (choke ++ drop (3 * n) out) v 0)
-      (sym (List·getD-append choke (drop (3 * n) out) 0 v (omega arith)))
+      rw (leaders-first, ← twice, getD-append-add (lowFirst leaders) (choke ++ behind) v 0)
+      (sym (List·getD-append choke behind 0 v (omega arith)))
 
-  past-bytes : drop (3 * n) (written (3 * n) (lowFirst leaders ++ choke) out) ≡ drop (3 * n) out
-  past-bytes = written-past (3 * n) (lowFirst leaders ++ choke) out (omega (arith, length-append (lowFirst leaders) choke, twice))
+  -- .. and the four bytes are the number, if it has 32 bits
+  moved-byte : (i b : ℕ) → at behind i ≡ b → at all (3 * n + i) ≡ b
+  moved-byte i b e = rw (bytes-are, ← thrice, getD-append-add (lowFirst leaders ++ choke) behind i 0) e
+
+  moved-bytes : x ≤ GATEWAYS * GATEWAYS → movedAt n all ≡ x
+  unfolding behind fourBytes
+  moved-bytes few = low-first x few (rw zeroth at (moved-byte 0 (x % 256) refl)) (moved-byte 1 ((x / 256) % 256) refl) (moved-byte 2 ((x / 65536) % 256) refl) (moved-byte 3 ((x / 16777216) % 256) refl)
+    where
+      zeroth : 3 * n + 0 ≡ 3 * n
+      zeroth = omega arith
+
+  past-bytes : drop (bytesFor n) all ≡ drop (bytesFor n) out
+  unfolding all
+  past-bytes = written-past (bytesFor n) (lowFirst leaders ++ choke ++ fourBytes x) out (omega (arith, length-append (lowFirst leaders ++ choke) (fourBytes x), thrice, four-long x))
 
 -- an accepted call for k placings
 module _ (file : List ℕ) (k : ℕ) (out : List ℕ) (z : groupsAfterRefusal file k (length out) ≡ 0) where
-  after-fine : (fileRefusal file ≡ 0) × (k ≤ fileN file) × (ltb (length out) (3 * fileN file) ≡ false)
+  after-fine : (fileRefusal file ≡ 0) × (k ≤ fileN file) × (ltb (length out) (bytesFor (fileN file)) ≡ false)
   unfolding groupsAfterRefusal
   after-fine = after-none file k _ z
-
-  out-is : groupsAfterOut file k out ≡ written (3 * fileN file) (lowFirst (fileLeadersAfter file k) ++ fileChokeAfter file k) out
-  unfolding groupsAfterOut bytesAfter
-  out-is = rw z
 
   led : length (fileLeadersAfter file k) ≡ fileN file
   led = leaders-long file (after-fine .0) k (after-fine .1)
@@ -70,14 +98,21 @@ module _ (file : List ℕ) (k : ℕ) (out : List ℕ) (z : groupsAfterRefusal fi
   choked : length (fileChokeAfter file k) ≡ fileN file
   choked = choke-long file (after-fine .0) k (after-fine .1)
 
+  out-is : groupsAfterOut file k out ≡ all (fileN file) (fileLeadersAfter file k) (fileChokeAfter file k) (movesAfter file k) out led choked
+  unfolding groupsAfterOut bytesAfter all
+  out-is = rw z
+
   leader-after : (v : ℕ) → v < fileN file → at (fileLeadersAfter file k) v ≡ leaderAt (groupsAfterOut file k out) v
-  leader-after v l = rw out-is (leader-bytes (fileN file) (fileLeadersAfter file k) (fileChokeAfter file k) out led choked v l)
+  leader-after v l = rw out-is (leader-bytes (fileN file) (fileLeadersAfter file k) (fileChokeAfter file k) (movesAfter file k) out led choked v l)
 
   choke-after : (v : ℕ) → v < fileN file → at (fileChokeAfter file k) v ≡ chokeAt (fileN file) (groupsAfterOut file k out) v
-  choke-after v l = rw out-is (choke-bytes (fileN file) (fileLeadersAfter file k) (fileChokeAfter file k) out led choked v l)
+  choke-after v l = rw out-is (choke-bytes (fileN file) (fileLeadersAfter file k) (fileChokeAfter file k) (movesAfter file k) out led choked v l)
 
-  past-after : drop (3 * fileN file) (groupsAfterOut file k out) ≡ drop (3 * fileN file) out
-  past-after = rw out-is (past-bytes (fileN file) (fileLeadersAfter file k) (fileChokeAfter file k) out led choked)
+  moved-after : movedAt (fileN file) (groupsAfterOut file k out) ≡ movesAfter file k
+  moved-after = rw out-is (moved-bytes (fileN file) (fileLeadersAfter file k) (fileChokeAfter file k) (movesAfter file k) out led choked (moves-few file k))
+
+  past-after : drop (bytesFor (fileN file)) (groupsAfterOut file k out) ≡ drop (bytesFor (fileN file)) out
+  past-after = rw out-is (past-bytes (fileN file) (fileLeadersAfter file k) (fileChokeAfter file k) (movesAfter file k) out led choked)
 
 pub bytes-so-far : BytesSoFar
 unfolding BytesSoFar
@@ -94,7 +129,7 @@ bytes-stay file k k' out out' z z' = placed-same (bytes-so-far file k out z .0) 
 
 pub bytes-after-refused : BytesAfterRefused
 unfolding BytesAfterRefused groupsAfterOut
-bytes-after-refused file k out h = sym (refused (written (3 * fileN file) (bytesAfter file k) out) out refl h)
+bytes-after-refused file k out h = sym (refused (written (bytesFor (fileN file)) (bytesAfter file k) out) out refl h)
 
 -- an accepted call for all placings
 module _ (file out : List ℕ) (z : groupsRefusal file (length out) ≡ 0) where
@@ -136,6 +171,13 @@ bytes-pairs = (pairs, λ file out z. rw (all-out file out z) at (pairs file (fil
         let (fine, within, long) = after-fine file k out z in
         leads-below (fileN file) (at (fileOrder file)) (at (fileOrder file)) (at (fileLeadersAfter file k)) (leaderAt (groupsAfterOut file k out)) (λ i l. refl) (leader-after file k out z) (lists-pairs file k fine within)
 
+pub bytes-moves : BytesMoves
+unfolding BytesMoves
+bytes-moves = (moves, λ file out z. rw (all-out file out z) at (moves file (fileN file) out (all-fine file out z)))
+  where
+    moves : (file : List ℕ) (k : ℕ) (out : List ℕ) → groupsAfterRefusal file k (length out) ≡ 0 → SumOfFewest file k (movedAt (fileN file) (groupsAfterOut file k out))
+    moves file k out z = let (fine, within, long) = after-fine file k out z in rw (moved-after file k out z) (moves-least file fine k within)
+
 pub bytes-refused : BytesRefused
 unfolding BytesRefused groupsOut
-bytes-refused file out h = sym (refused (written (3 * fileN file) (planBytes file) out) out refl h)
+bytes-refused file out h = sym (refused (written (bytesFor (fileN file)) (planBytes file) out) out refl h)

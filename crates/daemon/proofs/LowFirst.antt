@@ -10,6 +10,7 @@ use Rattle.packing.specs.Lists.{written}
 use Rattle.packing.proofs.Lists.{sets-append}
 use Rattle.plant_file.specs.Encode.{lowFirst}
 use Rattle.plant_file.proofs.Encode.{low-long}
+use Rattle.daemon.specs.Groups.{fourBytes, bytesFor}
 use Rattle.daemon.specs.Pre.{Plannable}
 
 -- the first i numbers are written: what the rest makes of the list
@@ -60,24 +61,53 @@ module _ (bytes : List ℕ) (start : ℕ) (first : List ℕ) where
   pub ones-end : {now : List ℕ} {i : ℕ} → Ones bytes start first now i → length bytes ≤ i → now ≡ sets first start bytes
   ones-end {now} {i} k l = rw (drop-of-length-le bytes l) at (k .rest)
 
--- both parts
-both-written : (n : ℕ) (numbers bytes lent : List ℕ) {mid new : List ℕ} → length numbers ≡ n → length bytes ≡ n → 3 * n ≤ length lent
-    → mid ≡ sets lent 0 (lowFirst numbers) → new ≡ sets mid (2 * n) bytes → new ≡ written (3 * n) (lowFirst numbers ++ bytes) lent
-unfolding written
-both-written n numbers bytes lent {mid} {new} e f room g h =
-    h ∙ ap (λ (l : List ℕ). sets l (2 * n) bytes) g ∙ ap (λ (k : ℕ). sets (sets lent 0 (lowFirst numbers)) k bytes) place ∙ sets-append lent 0 (lowFirst numbers) bytes
-    ∙ sets-eq (lowFirst numbers ++ bytes) lent 0 (omega (arith, long)) ∙ ap (λ (k : ℕ). (lowFirst numbers ++ bytes) ++ drop k lent) whole
+-- four bytes, one after the other
+pub four-written : (x start : ℕ) (out : List ℕ)
+    → set (set (set (set out start (x % 256)) (start + 1) ((x / 256) % 256)) (start + 2) ((x / 65536) % 256)) (start + 3) ((x / 16777216) % 256) ≡ sets out start (fourBytes x)
+unfolding fourBytes
+four-written x start out = rw (add-one start, two, three)
   where
-    place : 2 * n ≡ 0 + length (lowFirst numbers)
-    place = omega (arith, low-long numbers)
+    two : start + 2 ≡ suc (suc start)
+    two = omega arith
 
-    long : length (lowFirst numbers ++ bytes) ≡ 3 * n
-    long = omega (arith, length-append (lowFirst numbers) bytes, low-long numbers)
+    three : start + 3 ≡ suc (suc (suc start))
+    three = omega arith
 
-    whole : 0 + length (lowFirst numbers ++ bytes) ≡ 3 * n
-    whole = omega (arith, long)
+-- a list of which some first entries are set is written so
+sets-written : (k : ℕ) (front lent : List ℕ) → length front ≡ k → k ≤ length lent → sets lent 0 front ≡ written k front lent
+unfolding written
+sets-written k front lent e room = sets-eq front lent 0 (omega arith) ∙ ap (λ (i : ℕ). front ++ drop i lent) whole
+  where
+    whole : 0 + length front ≡ k
+    whole = omega arith
 
--- the first n of both lists, and the places for them
+-- the three parts
+module _ (n : ℕ) (numbers bytes four lent : List ℕ) (e : length numbers ≡ n) (f : length bytes ≡ n) (g : length four ≡ 4) (room : bytesFor n ≤ length lent) where
+  both-long : length (lowFirst numbers ++ bytes) ≡ 3 * n
+  both-long = omega (arith, length-append (lowFirst numbers) bytes, low-long numbers)
+
+  parts-long : length (lowFirst numbers ++ bytes ++ four) ≡ bytesFor n
+  parts-long = omega (arith, length-append (lowFirst numbers ++ bytes) four, both-long)
+
+  parts-written : {a b new : List ℕ} → a ≡ sets lent 0 (lowFirst numbers) → b ≡ sets a (2 * n) bytes → new ≡ sets b (3 * n) four → new ≡ written (bytesFor n) (lowFirst numbers ++ bytes ++ four) lent
+  parts-written {a} {b} {new} ea eb ec =
+      ec ∙ ap (λ (l : List ℕ). sets l (3 * n) four) both ∙ ap (λ (k : ℕ). sets (sets lent 0 (lowFirst numbers ++ bytes)) k four) third
+      ∙ sets-append lent 0 (lowFirst numbers ++ bytes) four ∙ sets-written (bytesFor n) (lowFirst numbers ++ bytes ++ four) lent parts-long room
+    where
+      second : 2 * n ≡ 0 + length (lowFirst numbers)
+      second = omega (arith, low-long numbers)
+
+      third : 3 * n ≡ 0 + length (lowFirst numbers ++ bytes)
+      third = omega (arith, both-long)
+
+      both : b ≡ sets lent 0 (lowFirst numbers ++ bytes)
+      both = eb ∙ ap (λ (l : List ℕ). sets l (2 * n) bytes) ea ∙ ap (λ (k : ℕ). sets (sets lent 0 (lowFirst numbers)) k bytes) second ∙ sets-append lent 0 (lowFirst numbers) bytes
+
+pub four-long : (x : ℕ) → length (fourBytes x) ≡ 4
+unfolding fourBytes
+four-long x = refl
+
+-- the first n of both lists, and the places for them and for the four bytes
 module _ (n : ℕ) (leaders choke out : List ℕ) (p : Plannable n leaders choke out) where
   pub numbers-places : 2 * length (take n leaders) ≤ length out
   numbers-places = omega (arith, length-take-le n leaders (p .led), p .places)
@@ -85,6 +115,9 @@ module _ (n : ℕ) (leaders choke out : List ℕ) (p : Plannable n leaders choke
   pub bytes-places : {long : ℕ} → long ≡ length out → 2 * n + length (take n choke) ≤ long
   bytes-places e = omega (arith, length-take-le n choke (p .choked), p .places)
 
-  pub plan-written : {mid new : List ℕ} → mid ≡ sets out 0 (lowFirst (take n leaders)) → new ≡ sets mid (2 * n) (take n choke) → new ≡ written (3 * n) (lowFirst (take n leaders) ++ take n choke) out
-  plan-written g h =
-      both-written n (take n leaders) (take n choke) out (length-take-le n leaders (p .led)) (length-take-le n choke (p .choked)) (p .places) g h
+  pub four-places : {long long' : ℕ} → long ≡ length out → long' ≡ long → 3 * n + 4 ≤ long'
+  four-places e f = omega (arith, p .places)
+
+  pub plan-written : (x : ℕ) {a b new : List ℕ} → a ≡ sets out 0 (lowFirst (take n leaders)) → b ≡ sets a (2 * n) (take n choke) → new ≡ sets b (3 * n) (fourBytes x)
+      → new ≡ written (bytesFor n) (lowFirst (take n leaders) ++ take n choke ++ fourBytes x) out
+  plan-written x = parts-written n (take n leaders) (take n choke) (fourBytes x) out (length-take-le n leaders (p .led)) (length-take-le n choke (p .choked)) (four-long x) (p .places)

@@ -1,4 +1,4 @@
--- 00, demands 2 and 3, and 02, changes 1 and 2, of the bytes that the calls from C write. proofs/Claim.antt proves it.
+-- 00, demands 2 and 3, and 02, changes 1, 2 and 4, of the bytes that the calls from C write. proofs/Claim.antt proves it.
 use Prim.Native.Nat.{ℕ, _+_, _*_, _<_, _≤_}
 use mathlib.Core.Path.{_≡_}
 use mathlib.Core.List.{List}
@@ -10,7 +10,7 @@ use Rattle.packing.specs.Pairs.{EarlierLeads}
 use Rattle.search.specs.ChokeSet.{chokeByte}
 use Rattle.plant_file.specs.PlantFile.{fileN, fileLinks, fileOrder}
 use Rattle.plan.specs.Plan.{stateAfter}
-use Rattle.plan.specs.Claim.{PlanOf, PlanSoFar}
+use Rattle.plan.specs.Claim.{PlanOf, PlanSoFar, SumOfFewest}
 use Rattle.daemon.specs.Groups.{groupsRefusal, groupsOut, groupsAfterRefusal, groupsAfterOut}
 
 -- "n leaders of two bytes, then n choke bytes", "numbers low byte first": gateway v's leader and its choke byte, as a caller reads them
@@ -20,26 +20,30 @@ leaderAt out v = at out (2 * v) + 256 * at out (2 * v + 1)
 abbrev pub chokeAt : ℕ → List ℕ → ℕ → ℕ
 chokeAt n out v = at out (2 * n + v)
 
+-- .. and the number moved, in the four bytes behind them
+abbrev pub movedAt : ℕ → List ℕ → ℕ
+movedAt n out = at out (3 * n) + 256 * at out (3 * n + 1) + 65536 * at out (3 * n + 2) + 16777216 * at out (3 * n + 3)
+
 -- An accepted call: the leaders that the bytes say are a grouping of the file's plant, no grouping covers more of the first k in its order for any k up to n,
--- and the choke set that they say has demand 2's difference. Each choke byte is 0 or 1, and nothing past 3n is written.
+-- and the choke set that they say has demand 2's difference. Each choke byte is 0 or 1, and nothing past 3n + 4 is written.
 unfoldable pub BytesPlan : Type 0
 BytesPlan =
     (file out : List ℕ) → groupsRefusal file (length out) ≡ 0
     → PlanOf file (leaderAt (groupsOut file out)) (λ v. eqb (chokeAt (fileN file) (groupsOut file out) v) 1)
     × ((v : ℕ) → v < fileN file → chokeAt (fileN file) (groupsOut file out) v ≤ 1)
-    × (drop (3 * fileN file) (groupsOut file out) ≡ drop (3 * fileN file) out)
+    × (drop (3 * fileN file + 4) (groupsOut file out) ≡ drop (3 * fileN file + 4) out)
 
 -- A refused one writes nothing.
 unfoldable pub BytesRefused : Type 0
 BytesRefused = (file out : List ℕ) → (groupsRefusal file (length out) ≡ 0 → ⊥) → groupsOut file out ≡ out
 
--- An accepted call for k placings: the leaders that the bytes say are the groups so far (plan/specs/Claim.antt), each choke byte is that of the holders so far, and nothing past 3n is written.
+-- An accepted call for k placings: the leaders that the bytes say are the groups so far (plan/specs/Claim.antt), each choke byte is that of the holders so far, and nothing past 3n + 4 is written.
 unfoldable pub BytesSoFar : Type 0
 BytesSoFar =
     (file : List ℕ) (k : ℕ) (out : List ℕ) → groupsAfterRefusal file k (length out) ≡ 0
     → PlanSoFar file k (leaderAt (groupsAfterOut file k out))
     × ((v : ℕ) → v < fileN file → chokeAt (fileN file) (groupsAfterOut file k out) v ≡ chokeByte (fileN file) (fileLinks file) (stateAfter file k .holders) v)
-    × (drop (3 * fileN file) (groupsAfterOut file k out) ≡ drop (3 * fileN file) out)
+    × (drop (3 * fileN file + 4) (groupsAfterOut file k out) ≡ drop (3 * fileN file + 4) out)
 
 unfoldable pub BytesAfterRefused : Type 0
 BytesAfterRefused = (file : List ℕ) (k : ℕ) (out : List ℕ) → (groupsAfterRefusal file k (length out) ≡ 0 → ⊥) → groupsAfterOut file k out ≡ out
@@ -49,6 +53,12 @@ unfoldable pub BytesPairs : Type 0
 BytesPairs =
     ((file : List ℕ) (k : ℕ) (out : List ℕ) → groupsAfterRefusal file k (length out) ≡ 0 → EarlierLeads (fileN file) (at (fileOrder file)) (leaderAt (groupsAfterOut file k out)))
     × ((file out : List ℕ) → groupsRefusal file (length out) ≡ 0 → EarlierLeads (fileN file) (at (fileOrder file)) (leaderAt (groupsOut file out)))
+
+-- 02, change 4: the number that the bytes say is the sum over the placings, and what each of them moves is the least (plan/specs/Claim.antt), after k placings and after all.
+unfoldable pub BytesMoves : Type 0
+BytesMoves =
+    ((file : List ℕ) (k : ℕ) (out : List ℕ) → groupsAfterRefusal file k (length out) ≡ 0 → SumOfFewest file k (movedAt (fileN file) (groupsAfterOut file k out)))
+    × ((file out : List ℕ) → groupsRefusal file (length out) ≡ 0 → SumOfFewest file (fileN file) (movedAt (fileN file) (groupsOut file out)))
 
 -- What is settled stays so: the answers for two numbers of placings cover the same of the gateways that are placed in both.
 unfoldable pub BytesStay : Type 0

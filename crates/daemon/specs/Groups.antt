@@ -1,34 +1,42 @@
 -- 01, "The plant file and the listing": "The daemon's one call takes the file's bytes and a lent byte list and returns 0 or a refusal number". file is the list of bytes.
-use Prim.Native.Nat.{ℕ, _*_}
-use mathlib.Core.List.{List, _++_}
+use Prim.Native.Nat.{ℕ, _+_, _*_, _/_, _%_}
+use mathlib.Core.List.{List, [], _∷_, _++_}
 use lib.Dec.{ltb}
 use lib.ListN.{length}
 use Rattle.packing.specs.Lists.{written}
 use Rattle.packing.specs.Refusals.{byNumber}
 use Rattle.plant_file.specs.PlantFile.{fileN, fileThenShort}
 use Rattle.plant_file.specs.Encode.{lowFirst}
-use Rattle.plan.specs.Plan.{fileLeaders, fileChoke}
+use Rattle.plan.specs.Plan.{movesAfter, fileLeaders, fileChoke}
 use Rattle.plan.specs.After.{afterRefusal, fileLeadersAfter, fileChokeAfter}
 
--- "n leaders of two bytes, then n choke bytes of 0 or 1, 3n in all"
-unfoldable pub planBytes : List ℕ → List ℕ
-planBytes file = lowFirst (fileLeaders file) ++ fileChoke file
+-- 02, change 4: "four more bytes at the end of its answer, low byte first"
+unfoldable pub fourBytes : ℕ → List ℕ
+fourBytes x = x % 256 ∷ (x / 256) % 256 ∷ (x / 65536) % 256 ∷ (x / 16777216) % 256 ∷ []
 
--- the file's number, then 10: "the daemon's call needs 3n"
+-- "Its list must now be 3n + 4 long", for n = 0 too
+abbrev pub bytesFor : ℕ → ℕ
+bytesFor n = 3 * n + 4
+
+-- "n leaders of two bytes, then n choke bytes of 0 or 1, 3n in all", and the number moved, summed "over all placings"
+unfoldable pub planBytes : List ℕ → List ℕ
+planBytes file = lowFirst (fileLeaders file) ++ fileChoke file ++ fourBytes (movesAfter file (fileN file))
+
+-- the file's number, then 10: "must now be 3n + 4 long, under number 10"
 unfoldable pub groupsRefusal : List ℕ → ℕ → ℕ
-groupsRefusal file outLen = fileThenShort file (ltb outLen (3 * fileN file))
+groupsRefusal file outLen = fileThenShort file (ltb outLen (bytesFor (fileN file)))
 
 -- the lent list after the call; as it came on refusal
 unfoldable pub groupsOut : List ℕ → List ℕ → List ℕ
-groupsOut file out = byNumber (groupsRefusal file (length out)) (written (3 * fileN file) (planBytes file) out) out
+groupsOut file out = byNumber (groupsRefusal file (length out)) (written (bytesFor (fileN file)) (planBytes file) out) out
 
--- 02, change 1: the same after k placings
+-- 02, change 1: the same after k placings, with the number that these move
 unfoldable pub bytesAfter : List ℕ → ℕ → List ℕ
-bytesAfter file k = lowFirst (fileLeadersAfter file k) ++ fileChokeAfter file k
+bytesAfter file k = lowFirst (fileLeadersAfter file k) ++ fileChokeAfter file k ++ fourBytes (movesAfter file k)
 
 -- the file's number, then 24, then 10
 unfoldable pub groupsAfterRefusal : List ℕ → ℕ → ℕ → ℕ
-groupsAfterRefusal file k outLen = afterRefusal file k (ltb outLen (3 * fileN file))
+groupsAfterRefusal file k outLen = afterRefusal file k (ltb outLen (bytesFor (fileN file)))
 
 unfoldable pub groupsAfterOut : List ℕ → ℕ → List ℕ → List ℕ
-groupsAfterOut file k out = byNumber (groupsAfterRefusal file k (length out)) (written (3 * fileN file) (bytesAfter file k) out) out
+groupsAfterOut file k out = byNumber (groupsAfterRefusal file k (length out)) (written (bytesFor (fileN file)) (bytesAfter file k) out) out

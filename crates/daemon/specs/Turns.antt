@@ -1,5 +1,5 @@
--- 01, "First to be named": the file's numbers, "then 10". "the daemon's call needs 3n".
-use Prim.Native.Nat.{ℕ, _*_, _<_}
+-- 01, "First to be named": the file's numbers, "then 10". 02, change 4: "Its list must now be 3n + 4 long, under number 10."
+use Prim.Native.Nat.{ℕ, _+_, _*_, _<_}
 use mathlib.Core.List.{List}
 use Rattle.packing.specs.Turns.{done, named, FirstNamed}
 use Rattle.plant_file.specs.PlantFile.{fileN}
@@ -7,9 +7,9 @@ use Rattle.plant_file.specs.Turns.{fileTurn}
 use Rattle.daemon.specs.Groups.{groupsRefusal, groupsAfterRefusal}
 
 unfoldable pub GroupsExactly : Type 0
-GroupsExactly = (file : List ℕ) (outLen : ℕ) → FirstNamed (fileTurn file (named 10 (outLen < 3 * fileN file) done)) (groupsRefusal file outLen)
+GroupsExactly = (file : List ℕ) (outLen : ℕ) → FirstNamed (fileTurn file (named 10 (outLen < 3 * fileN file + 4) done)) (groupsRefusal file outLen)
 
 -- .. after k placings, 24 between them: more placings than there are gateways (01: "Place when k = n")
 unfoldable pub GroupsAfterExactly : Type 0
 GroupsAfterExactly =
-    (file : List ℕ) (k outLen : ℕ) → FirstNamed (fileTurn file (named 24 (fileN file < k) (named 10 (outLen < 3 * fileN file) done))) (groupsAfterRefusal file k outLen)
+    (file : List ℕ) (k outLen : ℕ) → FirstNamed (fileTurn file (named 24 (fileN file < k) (named 10 (outLen < 3 * fileN file + 4) done))) (groupsAfterRefusal file k outLen)

@@ -6,6 +6,7 @@ ghost use lib.ListN.{length, take};
 ghost use lib.Seq.{sets};
 ghost use Rattle.packing.specs.Lists.{written};
 ghost use Rattle.plant_file.specs.Encode.{lowFirst};
+ghost use Rattle.daemon.specs.Groups.{fourBytes, bytesFor};
 ghost use Rattle.daemon.specs.Pre.{Plannable};
 
 fn low(x: u16) -> u8
@@ -46,11 +47,23 @@ fn with_bytes(bytes: &[u8], start: usize, out: &mut [u8])
     }
 }
 
-// The first n of the leaders, and then the first n choke bytes.
-pub(crate) fn with_plan(n: usize, leaders: &[u16], choke: &[u8], out: &mut [u8])
+// A number in four bytes from a place on.
+fn with_four(x: u32, start: usize, out: &mut [u8])
+    requires { ⌜ start + 4 ≤ length (now out) ⌝ }
+    ensures { λ _. ⌜ now (out .exit) ≡ sets (now (out .entry)) start (fourBytes x) ⌝ }
+{
+    out[start] = (x % 256) as u8;
+    out[start + 1] = ((x / 256) % 256) as u8;
+    out[start + 2] = ((x / 65536) % 256) as u8;
+    out[start + 3] = ((x / 16777216) % 256) as u8;
+}
+
+// The first n of the leaders, then the first n choke bytes, then the number moved.
+pub(crate) fn with_plan(n: usize, leaders: &[u16], choke: &[u8], moved: u32, out: &mut [u8])
     requires { ⌜ Plannable n (now leaders) (now choke) (now out) ⌝ }
-    ensures { λ _. ⌜ now (out .exit) ≡ written (3 * n) (lowFirst (take n (now (leaders .entry))) ++ take n (now (choke .entry))) (now (out .entry)) ⌝ }
+    ensures { λ _. ⌜ now (out .exit) ≡ written (bytesFor n) (lowFirst (take n (now (leaders .entry))) ++ take n (now (choke .entry)) ++ fourBytes moved) (now (out .entry)) ⌝ }
 {
     with_numbers(&leaders[..n], out);
     with_bytes(&choke[..n], 2 * n, out);
+    with_four(moved, 3 * n, out);
 }

@@ -1,29 +1,35 @@
-// The calls from C: the plan of a plant file as one list of bytes (01, "The plant file and the listing"), also while the plant is being placed (02, change 1).
+// The calls from C: the plan of a plant file as one list of bytes (01, "The plant file and the listing"), also while the plant is being placed (02, change 1), with the number moved (02, change 4).
 mod bytes;
 
 ghost use mathlib.Core.Path.{_≡_};
-ghost use Prim.Native.Nat.{_*_, _≤_};
+ghost use Prim.Native.Nat.{_≤_};
 ghost use mathlib.Core.Bool.{false};
 ghost use lib.ListN.{length};
 ghost use Rattle.packing.specs.Lists.{written};
 ghost use Rattle.packing.specs.Refusals.{byNumber};
 ghost use Rattle.plant_file.specs.PlantFile.{fileN};
 ghost use Rattle.plan.specs.After.{afterRefusal};
-ghost use Rattle.daemon.specs.Groups.{groupsRefusal, groupsOut, bytesAfter, groupsAfterRefusal, groupsAfterOut};
+ghost use Rattle.daemon.specs.Groups.{bytesFor, groupsRefusal, groupsOut, bytesAfter, groupsAfterRefusal, groupsAfterOut};
 
 // Where the list is long enough. The file is checked by the plan alone.
 fn write_plan(file: &[u8], placings: u32, out: &mut [u8]) -> u32
-    requires { ⌜ 3 * fileN (now file) ≤ length (now out) ⌝ }
+    requires { ⌜ bytesFor (fileN (now file)) ≤ length (now out) ⌝ }
     ensures answer { λ r. ⌜ r ≡ afterRefusal (now (file .entry)) placings false ⌝ }
-    ensures out { λ _. ⌜ now (out .exit) ≡ byNumber (afterRefusal (now (file .entry)) placings false) (written (3 * fileN (now (file .entry))) (bytesAfter (now (file .entry)) placings) (now (out .entry))) (now (out .entry)) ⌝ }
+    ensures out { λ _. ⌜ now (out .exit) ≡ byNumber (afterRefusal (now (file .entry)) placings false) (written (bytesFor (fileN (now (file .entry)))) (bytesAfter (now (file .entry)) placings) (now (out .entry))) (now (out .entry)) ⌝ }
 {
     let mut leaders = lists::marks::zeros();
     let mut choke = lists::marks::bytes(0);
-    let refused = plan::plan_lists_after(file, placings, &mut leaders, &mut choke);
-    if refused != 0 {
-        return refused;
+    let planned = plan::plan_lists_after(file, placings, &mut leaders, &mut choke);
+    if planned.refusal != 0 {
+        return planned.refusal;
     }
-    bytes::with_plan(plant_file::gateways(file) as usize, &leaders, &choke, out);
+    bytes::with_plan(
+        plant_file::gateways(file) as usize,
+        &leaders,
+        &choke,
+        planned.moved,
+        out,
+    );
     0
 }
 
@@ -33,7 +39,7 @@ pub extern "C" fn plan_groups_after(file: &[u8], placings: u32, out: &mut [u8]) 
     ensures answer { λ r. ⌜ r ≡ groupsAfterRefusal (now (file .entry)) placings (length (now (out .entry))) ⌝ }
     ensures out { λ _. ⌜ now (out .exit) ≡ groupsAfterOut (now (file .entry)) placings (now (out .entry)) ⌝ }
 {
-    if out.len() < 3 * (plant_file::gateways(file) as usize) {
+    if out.len() < 3 * (plant_file::gateways(file) as usize) + 4 {
         return plan::refusal_after(file, placings, true);
     }
     write_plan(file, placings, out)

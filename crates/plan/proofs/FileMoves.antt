@@ -1,5 +1,5 @@
 -- How many gateways the placings of an accepted file move: the claim of specs/Claim.antt.
-use Prim.Native.Nat.{ℕ, zero, suc, _+_, _<_, _≤_}
+use Prim.Native.Nat.{ℕ, zero, suc, _+_, _*_, _<_, _≤_}
 use mathlib.Core.Path.{_≡_, refl, sym, ap, _∙_}
 use mathlib.Core.Bool.{true, false}
 use mathlib.Core.List.{List, [], _∷_, _++_}
@@ -7,7 +7,7 @@ use native.Mathlib.Numerals.{add-one}
 use native.Mathlib.Omega.{arith}
 use lib.ListN.{length}
 use Rattle.packing.specs.Count.{sum}
-use Rattle.packing.specs.Plant.{at, common, linked}
+use Rattle.packing.specs.Plant.{GATEWAYS, at, common, linked}
 use Rattle.packing.specs.Holders.{held}
 use Rattle.packing.specs.Moved.{moved, Fewest}
 use Rattle.packing.specs.Refusals.{byNumber}
@@ -20,7 +20,7 @@ use Rattle.planner.specs.Moved.{NobodyMoved}
 use Rattle.planner.proofs.Agree.{run-append}
 use Rattle.planner.proofs.Moved.{nobody-moved}
 use Rattle.planner.proofs.MovedTold.{fewest-told}
-use Rattle.planner.proofs.MovedSums.{moves-append, links-move, moves-last}
+use Rattle.planner.proofs.MovedSums.{moves-append, links-move, moves-last, moves-fit}
 use Rattle.plant_file.specs.PlantFile.{fileN, fileT, fileLinks, fileOrder, fileRefusal}
 use Rattle.plan.specs.Plan.{callsAfter, stateAfter, movesAfter}
 use Rattle.plan.specs.After.{planAfterRefusal, planMovesAfter}
@@ -48,6 +48,10 @@ moves-are file k =
       links-move start (fileLinks file),
       nobody-moved (run start (linkCalls (fileLinks file))) .3 (fileOrder file),
     )
+
+-- the sum has 32 bits, whatever the file
+pub moves-few : (file : List ℕ) (k : ℕ) → movesAfter file k ≤ GATEWAYS * GATEWAYS
+moves-few file k = rw (moves-are file k) (moves-fit (filled file) k)
 
 -- one placing more
 state-next : (file : List ℕ) (k : ℕ) → stateAfter file (k + 1) ≡ call (stateAfter file k) place .state

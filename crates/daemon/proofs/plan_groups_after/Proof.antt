@@ -13,6 +13,9 @@ cast-if1 c = search needs
 mul-if1 : tie.Need-mul-if1
 mul-if1 c = search needs
 
+add-if1 : tie.Need-add-if1
+add-if1 c = search needs
+
 refusal-after-requires : tie.Need-refusal-after-requires
 refusal-after-requires c κs = search needs
 
@@ -35,6 +38,7 @@ plan-groups-after-spec =
     gateways-requires
     cast-if1
     mul-if1
+    add-if1
     refusal-after-requires
     returns
     write-plan-requires

@@ -19,7 +19,9 @@ plan-lists-after-requires : tie.Need-plan-lists-after-requires
 plan-lists-after-requires c κs = search needs
 
 returns : tie.Need-returns
-returns c = plan-refuses _ _ (c .before .before .before .before .before .before .before .zeros .ensures) (c .before .before .before .before .before .before .bytes .ensures) (c .before .before .before .plan-lists-after .ensures .0) _ (c .if1 .taken)
+returns c = let planned = c .before .before .before .before in
+    let lent = planned .before .before .before in
+    plan-refuses _ _ (lent .before .zeros .ensures) (lent .bytes .ensures) (planned .plan-lists-after .ensures .0) _ (c .if1 .taken)
 
 gateways-requires : tie.Need-gateways-requires
 gateways-requires c κs = search needs
@@ -34,13 +36,22 @@ slice-aggregate-with-plan-2 : tie.Need-slice-aggregate-with-plan-2
 slice-aggregate-with-plan-2 c = search needs
 
 with-plan-requires : tie.Need-with-plan-requires
-with-plan-requires c κs = plannable _ _ (c .before .before .before .before .before .before .before .before .before .before .before .zeros .ensures) (c .before .before .before .before .before .before .before .before .before .before .bytes .ensures) (c .before .before .before .before .before .before .before .plan-lists-after .ensures .0) (c .before .before .before .before .if1 .left) (c .before .before .before .gateways .ensures) (c .before .before .before .before .before .before .before .plan-lists-after .ensures .1 .0) (c .before .before .before .before .before .before .before .plan-lists-after .ensures .1 .1) _ (c .before .before .before .before .before .before .before .before .before .before .before .before .before .before .pre)
+with-plan-requires c κs = let test = c .before .before .before .before in
+    let planned = test .before .before .before .before in
+    let lent = planned .before .before .before in
+    plannable _ _ (lent .before .zeros .ensures) (lent .bytes .ensures) (planned .plan-lists-after .ensures .0) (test .if1 .left) (c .before .before .before .gateways .ensures)
+    (planned .plan-lists-after .ensures .1 .0) (planned .plan-lists-after .ensures .1 .1) _ (lent .before .before .before .before .pre)
 
 same-length : tie.Need-same-length
 same-length c = search needs
 
 returns-2 : tie.Need-returns-2
-returns-2 c = plan-accepts _ _ (c .before .before .before .before .before .before .before .before .before .before .before .before .before .before .zeros .ensures) (c .before .before .before .before .before .before .before .before .before .before .before .before .before .bytes .ensures) (c .before .before .before .before .before .before .before .before .before .before .plan-lists-after .ensures .0) (c .before .before .before .before .before .before .before .if1 .left) (c .before .before .before .before .before .before .gateways .ensures) (c .before .before .before .before .before .before .before .before .before .before .plan-lists-after .ensures .1 .0) (c .before .before .before .before .before .before .before .before .before .before .plan-lists-after .ensures .1 .1) _ (c .before .before .with-plan .ensures)
+returns-2 c = let written = c .before .before in
+    let test = written .before .before .before .before .before in
+    let planned = test .before .before .before .before in
+    let lent = planned .before .before .before in
+    plan-accepts _ _ (lent .before .zeros .ensures) (lent .bytes .ensures) (planned .plan-lists-after .ensures .0) (test .if1 .left) (written .before .before .before .before .gateways .ensures)
+    (planned .plan-lists-after .ensures .1 .0) (planned .plan-lists-after .ensures .1 .1) _ (written .with-plan .ensures)
 
 pub write-plan-spec : {M : Type 1} → statement M
 write-plan-spec =
