@@ -84,7 +84,7 @@ static bool is_answer(int k)
     for (int v = 0; v < ALL; v++)
         if (a.leader[v] != leader_of(v, k) || a.choke[v] != choke_of(v, k))
             return false;
-    return true;
+    return a.moved == k; /* nobody else moves */
 }
 
 static void check(const char *links, const char *order, struct rng *r)

@@ -32,7 +32,7 @@ static void check_answer(const struct plant *p, int k, const char *name, size_t 
           outcome.fault ? outcome.fault : "the answer");
 }
 
-/* An out of any length from 3n on: the same answer, and nothing past it. */
+/* An out of any length from 3n + 4 on: the same answer, and nothing past it. */
 static void check_lengths(const struct plant *p, const char *name, struct rng *r)
 {
     static const size_t more[] = {0, 1, 2, 63, 64, 1000, MAX_OUT - PLAN_GROUPS_OUT_MAX};
@@ -66,7 +66,7 @@ static void no_area(void)
     tally(plan_groups(NULL, 0, out, sizeof out) == 9 && out[0] == 7, "no file and an out area");
     tally(plan_groups(NULL, 0, NULL, 0) == 9, "no file and no out area");
     plant_open(&plant, 0, 2);
-    tally(plan_groups(file, plant_write(&plant, file), NULL, 0) == 0, "no gateway and no out area");
+    tally(plan_groups(file, plant_write(&plant, file), NULL, 0) == 10, "no gateway and no out area");
     plant_open(&plant, 1, 2);
     tally(plan_groups(file, plant_write(&plant, file), NULL, 0) == 10, "one gateway and no out area");
     plant_open(&plant, 0, 1);
@@ -81,7 +81,7 @@ static void no_area_after(void)
     tally(plan_groups_after(NULL, 0, 1, NULL, 0) == 9, "no file, one placing and no out area");
     plant_open(&plant, 0, 2);
     size_t len = plant_write(&plant, file);
-    tally(plan_groups_after(file, len, 0, NULL, 0) == 0, "no gateway, 0 placings and no out area");
+    tally(plan_groups_after(file, len, 0, NULL, 0) == 10, "no gateway, 0 placings and no out area");
     tally(plan_groups_after(file, len, 1, NULL, 0) == 24, "no gateway, one placing and no out area");
     plant_open(&plant, 1, 2);
     len = plant_write(&plant, file);
@@ -139,13 +139,14 @@ static void sizes(void)
     tally(PLAN_GROUPS_GATEWAYS_MAX == 1024, "the most gateways");
     tally(PLAN_GROUPS_LINKS_MAX == 8192, "the most links");
     tally(PLAN_GROUPS_ALONE == 65535, "the entry of one alone");
-    tally(PLAN_GROUPS_OUT_MAX == 3072, "the longest out");
+    tally(PLAN_GROUPS_OUT_MAX == 3076, "the longest out");
     tally(PLAN_GROUPS_FILE_MAX == 34826, "the longest file");
-    tally(PLAN_GROUPS_OUT(0) == 0 && PLAN_GROUPS_OUT(5) == 15, "the out of 0 and of 5 gateways");
+    tally(PLAN_GROUPS_OUT(0) == 4 && PLAN_GROUPS_OUT(5) == 19, "the out of 0 and of 5 gateways");
     tally(sizeof PLAN_GROUPS_OUT(i) == sizeof(size_t), "an out's length is a size_t");
-    tally(PLAN_GROUPS_OUT((uint8_t)200) == 600 && PLAN_GROUPS_OUT(INT_MAX) == 6442450941, "a length is not cut off");
-    tally(60 / PLAN_GROUPS_OUT(i ? 1 + 1 : 0) == 10 && PLAN_GROUPS_OUT(i | 1) == 15, "any expression is an argument");
-    tally(PLAN_GROUPS_OUT(i++) == 12 && i == 5, "the argument is taken once");
+    tally(PLAN_GROUPS_OUT((uint8_t)200) == 604 && PLAN_GROUPS_OUT(INT_MAX) == 6442450945, "a length is not cut off");
+    tally(PLAN_GROUPS_OUT(i ? 1 + 1 : 0) == 10 && PLAN_GROUPS_OUT(i | 1) == 19, "any expression is an argument");
+    tally(60 / PLAN_GROUPS_OUT(2) == 6 && PLAN_GROUPS_OUT(2) * 2 == 20, "a length stands in any expression");
+    tally(PLAN_GROUPS_OUT(i++) == 16 && i == 5, "the argument is taken once");
 }
 
 /* The longest file and out are those of the largest plant, and just enough for it. */

@@ -14,21 +14,22 @@ struct edge {
     int leader[MOST];
     int choke[MOST];
     int difference;
+    int moved;
 };
 
 #define STAR {{0, 1}, {0, 2}, {0, 3}, {0, 4}}
 
 static const struct edge edges[] = {
-    {"no gateway", 0, 2, 0, {{0}}, {0}, {0}, {0}, 0},
-    {"one gateway", 1, 2, 0, {{0}}, {0}, {ALONE}, {0}, 1},
-    {"two without a link", 2, 2, 0, {{0}}, {0, 1}, {ALONE, ALONE}, {0}, 2},
-    {"two linked", 2, 2, 1, {{1, 0}}, {0, 1}, {0, 0}, {0}, 0},
-    {"a chain of three", 3, 2, 2, {{0, 1}, {1, 2}}, {0, 1, 2}, {1, 1, 1}, {0}, 0},
-    {"a star of four, T = 3", 5, 3, 4, STAR, {0, 1, 2, 3, 4}, {0, 0, 0, 0, ALONE}, {1}, 1},
-    {"the same from the other end", 5, 3, 4, STAR, {4, 3, 2, 1, 0}, {0, ALONE, 0, 0, 0}, {1}, 1},
-    {"the same with T = 4", 5, 4, 4, STAR, {0, 1, 2, 3, 4}, {0, 0, 0, 0, 0}, {0}, 0},
-    {"the listing's plant", 5, 2, 4, {{0, 2}, {0, 3}, {0, 4}, {1, 2}}, {2, 3, 4, 0, 1}, {0, 2, 2, 0, 0}, {0}, 0},
-    {"a ring of five", 5, 2, 5, {{0, 1}, {1, 2}, {2, 3}, {3, 4}, {4, 0}}, {0, 1, 2, 3, 4}, {1, 1, 1, 3, 3}, {0}, 0},
+    {"no gateway", 0, 2, 0, {{0}}, {0}, {0}, {0}, 0, 0},
+    {"one gateway", 1, 2, 0, {{0}}, {0}, {ALONE}, {0}, 1, 0},
+    {"two without a link", 2, 2, 0, {{0}}, {0, 1}, {ALONE, ALONE}, {0}, 2, 0},
+    {"two linked", 2, 2, 1, {{1, 0}}, {0, 1}, {0, 0}, {0}, 0, 2},
+    {"a chain of three", 3, 2, 2, {{0, 1}, {1, 2}}, {0, 1, 2}, {1, 1, 1}, {0}, 0, 3},
+    {"a star of four, T = 3", 5, 3, 4, STAR, {0, 1, 2, 3, 4}, {0, 0, 0, 0, ALONE}, {1}, 1, 4},
+    {"the same from the other end", 5, 3, 4, STAR, {4, 3, 2, 1, 0}, {0, ALONE, 0, 0, 0}, {1}, 1, 4},
+    {"the same with T = 4", 5, 4, 4, STAR, {0, 1, 2, 3, 4}, {0, 0, 0, 0, 0}, {0}, 0, 5},
+    {"the listing's plant", 5, 2, 4, {{0, 2}, {0, 3}, {0, 4}, {1, 2}}, {2, 3, 4, 0, 1}, {0, 2, 2, 0, 0}, {0}, 0, 6},
+    {"a ring of five", 5, 2, 5, {{0, 1}, {1, 2}, {2, 3}, {3, 4}, {4, 0}}, {0, 1, 2, 3, 4}, {1, 1, 1, 3, 3}, {0}, 0, 5},
 };
 
 static struct plant plant;
@@ -44,7 +45,7 @@ static bool is_answered(const struct edge *e)
     for (int v = 0; v < e->n; v++)
         if (a.leader[v] != e->leader[v] || a.choke[v] != e->choke[v])
             return false;
-    return packing_difference(&plant, a.choke) == e->difference;
+    return packing_difference(&plant, a.choke) == e->difference && a.moved == e->moved;
 }
 
 int main(void)

@@ -38,39 +38,40 @@ static const struct shape hung_5 = {8, 8, {{0, 1}, {1, 2}, {2, 3}, {3, 4}, {4, 0
 /* Links 0-2, 0-3, 0-4, 1-2: only groups 0, 3, 4 and 1, 2 cover all. */
 static const struct shape listed = {5, 4, {{0, 2}, {0, 3}, {0, 4}, {1, 2}}};
 
-/* T is 2 everywhere. */
+/* T is 2 everywhere. Each gateway finds a place at once, but for one of the listing's plant. */
 static const struct edge {
     const char *name;
     const struct shape *shape;
     int order[MOST];
     int leader[MOST];
+    int moved;
 } edges[] = {
-    {"two linked", &two, {0, 1}, {0, 0}},
-    {"two linked, the higher number first", &two, {1, 0}, {1, 1}},
-    {"a group of three that any could lead", &ring_3, {0, 1, 2}, {1, 1, 1}},
-    {"a group of three led by the last of them", &ring_3, {2, 0, 1}, {1, 1, 1}},
-    {"a ring of four", &ring_4, {0, 1, 2, 3}, {0, 0, 2, 2}},
-    {"a ring of four from its end", &ring_4, {3, 2, 1, 0}, {1, 1, 3, 3}},
-    {"a ring of four from 1 on", &ring_4, {1, 2, 3, 0}, {1, 1, 2, 2}},
-    {"a ring of four, from 0 to both sides", &ring_4, {0, 3, 1, 2}, {0, 0, 3, 3}},
-    {"a ring of five from its end", &ring_5, {4, 3, 2, 1, 0}, {1, 1, 1, 4, 4}},
-    {"a ring of five, 3 before 4", &ring_5, {3, 0, 4, 2, 1}, {1, 1, 1, 3, 3}},
-    {"a ring of five, 4 before 3", &ring_5, {4, 2, 3, 0, 1}, {1, 1, 1, 4, 4}},
-    {"a ring of six", &ring_6, {0, 1, 2, 3, 4, 5}, {0, 0, 2, 2, 4, 4}},
-    {"a ring of six from its end", &ring_6, {5, 4, 3, 2, 1, 0}, {1, 1, 3, 3, 5, 5}},
-    {"a ring of six, two groups turned", &ring_6, {1, 0, 2, 3, 5, 4}, {1, 1, 2, 2, 5, 5}},
-    {"a ring of six, from 5 and 0 inwards", &ring_6, {5, 0, 4, 1, 3, 2}, {0, 0, 3, 3, 5, 5}},
-    {"four round, one turned", &round_4, {4, 5, 1, 2, 3, 0}, {1, 1, 2, 2, 4, 4}},
-    {"four round, all turned", &round_4, {5, 4, 1, 3, 2, 0}, {1, 1, 3, 3, 5, 5}},
-    {"five round, none turned", &round_5, {5, 6, 1, 2, 3, 4, 0}, {1, 1, 1, 3, 3, 5, 5}},
-    {"five round, all turned", &round_5, {6, 5, 1, 2, 4, 3, 0}, {1, 1, 1, 4, 4, 6, 6}},
-    {"six round, one turned", &round_6, {6, 7, 1, 2, 3, 4, 5, 0}, {1, 1, 2, 2, 4, 4, 6, 6}},
-    {"six round, all turned", &round_6, {7, 6, 1, 3, 2, 5, 4, 0}, {1, 1, 3, 3, 5, 5, 7, 7}},
-    {"an odd run, and a three led by the last", &hung_4, {5, 4, 3, 2, 1, 6, 0}, {0, 0, 3, 3, 5, 5, 0}},
-    {"an even run", &hung_5, {5, 6, 1, 2, 3, 4, 0, 7}, {0, 1, 1, 3, 3, 5, 5, 0}},
-    {"an even run, all turned", &hung_5, {7, 6, 5, 2, 1, 4, 3, 0}, {7, 2, 2, 4, 4, 6, 6, 7}},
-    {"the listing's plant", &listed, {2, 3, 4, 0, 1}, {0, 2, 2, 0, 0}},
-    {"the listing's plant, 1 before 2", &listed, {4, 1, 2, 3, 0}, {0, 1, 1, 0, 0}},
+    {"two linked", &two, {0, 1}, {0, 0}, 2},
+    {"two linked, the higher number first", &two, {1, 0}, {1, 1}, 2},
+    {"a group of three that any could lead", &ring_3, {0, 1, 2}, {1, 1, 1}, 3},
+    {"a group of three led by the last of them", &ring_3, {2, 0, 1}, {1, 1, 1}, 3},
+    {"a ring of four", &ring_4, {0, 1, 2, 3}, {0, 0, 2, 2}, 4},
+    {"a ring of four from its end", &ring_4, {3, 2, 1, 0}, {1, 1, 3, 3}, 4},
+    {"a ring of four from 1 on", &ring_4, {1, 2, 3, 0}, {1, 1, 2, 2}, 4},
+    {"a ring of four, from 0 to both sides", &ring_4, {0, 3, 1, 2}, {0, 0, 3, 3}, 4},
+    {"a ring of five from its end", &ring_5, {4, 3, 2, 1, 0}, {1, 1, 1, 4, 4}, 5},
+    {"a ring of five, 3 before 4", &ring_5, {3, 0, 4, 2, 1}, {1, 1, 1, 3, 3}, 5},
+    {"a ring of five, 4 before 3", &ring_5, {4, 2, 3, 0, 1}, {1, 1, 1, 4, 4}, 5},
+    {"a ring of six", &ring_6, {0, 1, 2, 3, 4, 5}, {0, 0, 2, 2, 4, 4}, 6},
+    {"a ring of six from its end", &ring_6, {5, 4, 3, 2, 1, 0}, {1, 1, 3, 3, 5, 5}, 6},
+    {"a ring of six, two groups turned", &ring_6, {1, 0, 2, 3, 5, 4}, {1, 1, 2, 2, 5, 5}, 6},
+    {"a ring of six, from 5 and 0 inwards", &ring_6, {5, 0, 4, 1, 3, 2}, {0, 0, 3, 3, 5, 5}, 6},
+    {"four round, one turned", &round_4, {4, 5, 1, 2, 3, 0}, {1, 1, 2, 2, 4, 4}, 6},
+    {"four round, all turned", &round_4, {5, 4, 1, 3, 2, 0}, {1, 1, 3, 3, 5, 5}, 6},
+    {"five round, none turned", &round_5, {5, 6, 1, 2, 3, 4, 0}, {1, 1, 1, 3, 3, 5, 5}, 7},
+    {"five round, all turned", &round_5, {6, 5, 1, 2, 4, 3, 0}, {1, 1, 1, 4, 4, 6, 6}, 7},
+    {"six round, one turned", &round_6, {6, 7, 1, 2, 3, 4, 5, 0}, {1, 1, 2, 2, 4, 4, 6, 6}, 8},
+    {"six round, all turned", &round_6, {7, 6, 1, 3, 2, 5, 4, 0}, {1, 1, 3, 3, 5, 5, 7, 7}, 8},
+    {"an odd run, and a three led by the last", &hung_4, {5, 4, 3, 2, 1, 6, 0}, {0, 0, 3, 3, 5, 5, 0}, 7},
+    {"an even run", &hung_5, {5, 6, 1, 2, 3, 4, 0, 7}, {0, 1, 1, 3, 3, 5, 5, 0}, 8},
+    {"an even run, all turned", &hung_5, {7, 6, 5, 2, 1, 4, 3, 0}, {7, 2, 2, 4, 4, 6, 6, 7}, 8},
+    {"the listing's plant", &listed, {2, 3, 4, 0, 1}, {0, 2, 2, 0, 0}, 6},
+    {"the listing's plant, 1 before 2", &listed, {4, 1, 2, 3, 0}, {0, 1, 1, 0, 0}, 6},
 };
 
 static struct plant plant;
@@ -81,8 +82,8 @@ static void fill(const struct shape *s, const int *order)
     plant_fill(&plant, s->n, 2, s->m, s->ends, order);
 }
 
-/* Whether the call has answered with these leaders and no choke set. */
-static bool is_answer(const int *leader)
+/* Whether the call has answered with these leaders, no choke set and that number moved. */
+static bool is_answer(const int *leader, int moved)
 {
     static struct answer a;
     if (outcome.number != 0 || outcome.fault != NULL)
@@ -91,18 +92,18 @@ static bool is_answer(const int *leader)
     for (int v = 0; v < plant.n; v++)
         if (a.leader[v] != leader[v] || a.choke[v] != 0)
             return false;
-    return true;
+    return a.moved == moved;
 }
 
 /* Both calls give the leaders, and what they answer on the way there is judged too. */
-static void check(const char *name, const int *leader, struct rng *r)
+static void check(const char *name, const int *leader, int moved, struct rng *r)
 {
     static struct answer a;
     int most[MOST + 1];
     lent_plan(&plant, AT_END, &outcome);
-    tally(is_answer(leader), "%s", name);
+    tally(is_answer(leader, moved), "%s", name);
     lent_plan_after(&plant, plant.n, AT_START, &outcome);
-    tally(is_answer(leader), "%s, with all placed", name);
+    tally(is_answer(leader, moved), "%s, with all placed", name);
     flow_every(&plant, most);
     for (int k = 0; k <= plant.n; k++) {
         const char *fault = judge_after(&plant, most, k, r, &a);
@@ -114,7 +115,7 @@ static void by_hand(struct rng *r)
 {
     for (size_t i = 0; i < sizeof edges / sizeof edges[0]; i++) {
         fill(edges[i].shape, edges[i].order);
-        check(edges[i].name, edges[i].leader, r);
+        check(edges[i].name, edges[i].leader, edges[i].moved, r);
     }
 }
 
@@ -138,22 +139,27 @@ static void after_rule_1(struct rng *r)
         placing_first(&plant, plant.n, holder);
         reading_leaders_by(AS_GROUPED, plant.n, plant.order, holder, leader);
         tally(leader[3] == rows[i].by_rule_1 && leader[4] == rows[i].by_rule_1, "row %zu: who leads by rule 1", i);
-        check("a group of two by rules 1 and 5", expected, r);
+        check("a group of two by rules 1 and 5", expected, 5, r);
     }
 }
 
-/* The listing's plant in every order: whichever of 1 and 2 comes first leads the other. */
+/*
+ * The listing's plant in every order: whichever of 1 and 2 comes first leads the other. 0 has places for two of 2, 3 and 4;
+ * the last of them makes 2 move to 1, unless it is 2 itself. The others find a place at once.
+ */
 static void every_order(struct rng *r)
 {
     int count = 0, led_by_2 = 0;
     fill(&listed, (const int[]){0, 1, 2, 3, 4});
     do {
-        int i = 0;
+        int i = 0, j = 4;
         while (plant.order[i] != 1 && plant.order[i] != 2)
             i++;
-        int x = plant.order[i];
+        while (plant.order[j] < 2)
+            j--;
+        int x = plant.order[i], moved = plant.order[j] == 2 ? 5 : 6;
         const int leader[] = {0, x, x, 0, 0};
-        check("the listing's plant in every order", leader, r);
+        check("the listing's plant in every order", leader, moved, r);
         count++;
         led_by_2 += x == 2;
     } while (order_next(plant.order, plant.n));
@@ -166,8 +172,8 @@ static void in_bytes(void)
     static uint8_t file[] = {'P', 'L', 'T', 1, 0, 5, 0, 2, 4, 0, 0, 0, 2, 0, 0, 0, 3, 0,
                              0, 0, 4, 0, 1, 0, 2, 0, 2, 0, 3, 0, 4, 0, 0, 0, 1, 0};
     static const uint8_t other[] = {0, 0, 4, 0, 1, 0, 3, 0, 2, 0};
-    static const uint8_t led_by_2[] = {0, 0, 2, 0, 2, 0, 0, 0, 0, 0, 0, 0, 0, 0, 0};
-    static const uint8_t led_by_1[] = {0, 0, 1, 0, 1, 0, 0, 0, 0, 0, 0, 0, 0, 0, 0};
+    static const uint8_t led_by_2[] = {0, 0, 2, 0, 2, 0, 0, 0, 0, 0, 0, 0, 0, 0, 0, 6, 0, 0, 0};
+    static const uint8_t led_by_1[] = {0, 0, 1, 0, 1, 0, 0, 0, 0, 0, 0, 0, 0, 0, 0, 5, 0, 0, 0};
     lent_call(file, sizeof file, sizeof led_by_2, AT_END, &outcome);
     tally(outcome.number == 0 && memcmp(outcome.out, led_by_2, sizeof led_by_2) == 0, "the listing's bytes");
     memcpy(file + sizeof file - sizeof other, other, sizeof other);

@@ -1,6 +1,7 @@
 /*
  * Who leads a group of two is all that rule 5 decides. Random plants at every number of placings: groups, covered
- * gateways and choke set are those that there are where the lower number leads, and where it is decided otherwise.
+ * gateways, choke set and number moved are those that there are where the lower number leads, and where it is decided
+ * otherwise.
  */
 #include <string.h>
 
@@ -52,6 +53,8 @@ static const char *fault_beside(const struct answer *a, const struct answer *oth
         return "a group of more than two has another leader";
     if (memcmp(a->choke, other->choke, (size_t)plant.n * sizeof a->choke[0]) != 0)
         return "the choke set is another";
+    if (a->moved != other->moved)
+        return "the number moved is another";
     return NULL;
 }
 
@@ -77,7 +80,7 @@ static void check(const char *name, int k, struct rng *r)
     static struct answer a, other;
     int holder[MAX_GATEWAYS], by_rule[MAX_GATEWAYS];
     const char *none = call(k, r, &a);
-    placing_first(&plant, k, holder);
+    other.moved = placing_first(&plant, k, holder);
     placing_choke(&plant, holder, other.choke);
     reading_leaders(plant.n, plant.order, holder, by_rule);
     for (int i = 0; i < WAYS; i++) {

@@ -185,9 +185,9 @@ static void orders(void)
 
 static void out_lengths(void)
 {
-    static const int sizes[] = {1, 2, 5, 300, 1024};
-    for (int i = 0; i < 5; i++) {
-        size_t needed = 3 * (size_t)sizes[i];
+    static const int sizes[] = {0, 1, 2, 5, 300, 1024};
+    for (int i = 0; i < 6; i++) {
+        size_t needed = 3 * (size_t)sizes[i] + 4;
         whole(sizes[i], 2, 0);
         for (out_len = needed < NEAR ? 0 : needed - NEAR; out_len < needed; out_len++)
             expect(10, "the out area has", (int)out_len);
@@ -195,7 +195,7 @@ static void out_lengths(void)
     }
     base();
     put_number(order_at(0), N);
-    out_len = 3 * N - 1;
+    out_len = 3 * N + 3;
     expect(6, "6 before 10", 0);
 }
 

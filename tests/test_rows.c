@@ -29,14 +29,14 @@ static void make_full(int limit, bool descending, int free, const int *movable)
         plant.order[v] = descending ? limit - 1 - v : v;
 }
 
-/* The call right after the one more is placed. */
-static bool after_one_more(int limit)
+/* The call right after the one more is placed, which moves so many; each one before it moved itself alone. */
+static bool after_one_more(int limit, int moves)
 {
     lent_plan_after(&plant, limit + 1, AT_END, &outcome);
     if (outcome.number != 0 || outcome.fault != NULL)
         return false;
     answer_read(&answer, plant.n, outcome.out);
-    return true;
+    return answer.moved == limit + moves;
 }
 
 /* All that is known of any plant, at every number of placings. */
@@ -55,7 +55,7 @@ static void one_moves(int limit, bool descending, struct rng *r)
 {
     for (int v = 0; v < limit; v++) {
         make_full(limit, descending, 1, &v);
-        bool found = after_one_more(limit) && answer.leader[limit] == limit + 1 && answer.leader[v] != limit + 1
+        bool found = after_one_more(limit, 2) && answer.leader[limit] == limit + 1 && answer.leader[v] != limit + 1
             && answer.leader[v] != ALONE && answer.leader[v] == answer.leader[limit + 2];
         tally(found, "limit %d: %d does not move to the gateway with a place free", limit, v);
         judge("one can move", limit, v, v, r);
@@ -69,7 +69,7 @@ static void lower_moves(int limit, bool descending, struct rng *r)
         for (int low = 0; low < high; low++) {
             const int movable[FREE] = {high, low};
             make_full(limit, descending, FREE, movable);
-            bool lower = after_one_more(limit) && answer.leader[limit + 2] == ALONE && answer.leader[limit + 3] != ALONE
+            bool lower = after_one_more(limit, 2) && answer.leader[limit + 2] == ALONE && answer.leader[limit + 3] != ALONE
                 && answer.leader[low] == answer.leader[limit + 3] && answer.leader[high] == limit + 1;
             tally(lower, "limit %d: not %d but %d moves", limit, low, high);
             judge("two can move", limit, low, high, r);
@@ -81,14 +81,15 @@ static void lower_moves(int limit, bool descending, struct rng *r)
 static void none_moves(int limit, struct rng *r)
 {
     make_full(limit, false, 0, NULL);
-    bool left = after_one_more(limit) && answer.leader[limit] == ALONE;
+    bool left = after_one_more(limit, 0) && answer.leader[limit] == ALONE;
     lent_plan(&plant, AT_END, &outcome);
     left = left && outcome.number == 0 && outcome.fault == NULL;
     if (left)
         answer_read(&answer, plant.n, outcome.out);
+    left = left && answer.moved == limit + 1; /* the hub too finds a place at once */
     for (int v = 0; left && v < plant.n; v++)
         left = answer.choke[v] == (v == limit + 1) && (answer.leader[v] == ALONE) == (v == limit);
-    tally(left, "limit %d: the one more is not alone, or the choke set is not the hub", limit);
+    tally(left, "limit %d: the one more is not alone, or the choke set is not the hub, or somebody moved", limit);
     judge("none can move", limit, limit, limit, r);
 }
 

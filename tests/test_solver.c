@@ -1,10 +1,12 @@
-/* The tests' own means: the flow against every packing there is, and the definitions on lists made by hand. */
+/* The tests' own means: the flows against all packings or holders there are, and the definitions on lists made by hand. */
 #include <string.h>
 
 #include "brute.h"
+#include "brute_least.h"
 #include "families.h"
 #include "flow.h"
 #include "groups.h"
+#include "least.h"
 #include "packing.h"
 #include "placing.h"
 #include "reading.h"
@@ -162,6 +164,62 @@ static void readings_by_hand(void)
     }
 }
 
+/* Holders, one gateway more, the fewest that move so that it is held too, and in how many ways. T is 2. */
+static void least_by_hand(void)
+{
+    enum { F = NOBODY };
+    static const struct {
+        const char *what;
+        int n, m, ends[6][2], holder[6], v, moved, ways;
+    } rows[] = {
+        {"no neighbour", 2, 0, {{0}}, {F, F}, 0, 0, 0},
+        {"a place free", 2, 1, {{0, 1}}, {F, F}, 0, 1, 1},
+        {"two places free", 3, 2, {{0, 1}, {0, 2}}, {F, F, F}, 0, 1, 2},
+        {"nobody can move", 4, 3, {{0, 1}, {0, 2}, {0, 3}}, {F, 0, 0, F}, 3, 0, 0},
+        {"one can move", 5, 4, {{0, 1}, {0, 2}, {0, 3}, {1, 4}}, {F, 0, 0, F, F}, 3, 2, 1},
+        {"either of two can move", 5, 5, {{0, 1}, {0, 2}, {0, 3}, {1, 4}, {2, 4}}, {F, 0, 0, F, F}, 3, 2, 2},
+        {"nobody need move", 6, 5, {{0, 1}, {0, 2}, {0, 3}, {1, 4}, {3, 5}}, {F, 0, 0, F, F, F}, 3, 1, 1},
+        {"two move, the second to any of three", 6, 6, {{0, 1}, {0, 2}, {0, 3}, {1, 4}, {4, 5}, {4, 0}}, {4, 0, 0, F, F, 4},
+            3, 3, 3},
+    };
+    for (size_t i = 0; i < sizeof rows / sizeof rows[0]; i++) {
+        plant_fill(&plant, rows[i].n, 2, rows[i].m, rows[i].ends, (const int[]){0, 1, 2, 3, 4, 5});
+        struct fewest f = brute_least(&plant, rows[i].holder, rows[i].v);
+        tally(f.moved == rows[i].moved && f.ways == rows[i].ways, "the least by all holders, %s", rows[i].what);
+        tally(least_moved(&plant, rows[i].holder, rows[i].v) == rows[i].moved, "the least by the flow, %s", rows[i].what);
+    }
+}
+
+/* Any holders along links and within T, also such as no placings lead to; one at least is without. */
+static void any_holders(struct rng *r, int *holder, int *without)
+{
+    int holds[MAX_BRUTE] = {0};
+    *without = rng_below(r, plant.n);
+    for (int w = 0; w < plant.n; w++)
+        holder[w] = NOBODY;
+    for (int times = 10 * plant.n; times > 0; times--) {
+        int w = rng_below(r, plant.n), u = rng_below(r, plant.n);
+        if (w == *without || holder[w] != NOBODY || holds[u] == plant.limit || !plant_has_link(&plant, u, w))
+            continue;
+        holder[w] = u;
+        holds[u]++;
+    }
+}
+
+static void least_of_any(struct rng *r)
+{
+    int holder[MAX_BRUTE], v, seen[MAX_BRUTE + 1] = {0};
+    for (int i = 0; i < 20000; i++) {
+        family_make(&families[i % family_count], &plant, r, rng_between(r, 5, MAX_BRUTE), 2 + i % 7 / 6);
+        any_holders(r, holder, &v);
+        int moved = brute_least(&plant, holder, v).moved;
+        tally(least_moved(&plant, holder, v) == moved, "the least by the flow and by all holders, %d", i);
+        seen[moved]++;
+    }
+    for (int moved = 0; moved <= 3; moved++)
+        tally(seen[moved] >= 5, "only %d holders where %d is the least", seen[moved], moved);
+}
+
 int main(void)
 {
     struct rng r = {1};
@@ -170,11 +228,13 @@ int main(void)
     pairs_by_hand();
     groups_by_hand();
     readings_by_hand();
+    least_by_hand();
     for (int n = 0; n <= 4; n++)
         for (int limit = 2; limit <= 4; limit++)
             every_graph(n, limit, &r);
     every_graph(5, 2, &r);
     every_graph(5, 3, &r);
     some_of_six(&r);
+    least_of_any(&r);
     return tally_end();
 }

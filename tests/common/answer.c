@@ -2,12 +2,19 @@
 
 #include <string.h>
 
+size_t answer_size(int n)
+{
+    return 3 * (size_t)n + 4;
+}
+
 void answer_read(struct answer *a, int n, const uint8_t *out)
 {
+    const uint8_t *moved = out + 3 * n;
     for (int v = 0; v < n; v++) {
         a->leader[v] = get_number(out + 2 * v);
         a->choke[v] = out[2 * n + v];
     }
+    a->moved = get_number(moved) + 65536L * get_number(moved + 2);
 }
 
 int answer_covered(const struct plant *p, const int *leader, int k)
@@ -25,5 +32,7 @@ const char *answer_differs(const struct answer *a, const struct answer *b, int n
         return "the leader list is another than by the rules";
     if (memcmp(a->choke, b->choke, size) != 0)
         return "the choke set is another than by the walk";
+    if (a->moved != b->moved)
+        return "the number moved is another than by the placings";
     return NULL;
 }

@@ -98,7 +98,7 @@ int file_refusal_after(const uint8_t *file, size_t len, uint32_t placings, size_
         return refusal;
     if (placings > (uint32_t)p->n)
         return 24;
-    return out_len < 3 * (size_t)p->n ? 10 : 0;
+    return out_len < 3 * (size_t)p->n + 4 ? 10 : 0;
 }
 
 int file_refusal(const uint8_t *file, size_t len, size_t out_len, struct plant *p)

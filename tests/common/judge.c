@@ -12,8 +12,10 @@
 
 static struct pairs_met met; /* in all answers that are packings */
 
-static void by_rules(const struct plant *p, const int *holder, struct answer *a)
+/* The holders after k placings, and the answer that goes with them. */
+static void by_rules(const struct plant *p, int k, int *holder, struct answer *a)
 {
+    a->moved = placing_first(p, k, holder);
     reading_leaders(p->n, p->order, holder, a->leader);
     placing_choke(p, holder, a->choke);
 }
@@ -21,8 +23,7 @@ static void by_rules(const struct plant *p, const int *holder, struct answer *a)
 void judge_expect(const struct plant *p, int k, struct answer *a)
 {
     int holder[MAX_GATEWAYS];
-    placing_first(p, k, holder);
-    by_rules(p, holder, a);
+    by_rules(p, k, holder, a);
 }
 
 /* Demand 3 over those placed: of every first j of the order, as many as any packing can cover. */
@@ -74,14 +75,13 @@ static const char *fault_of(const struct plant *p, const int *most, int k, const
         return "over some first j the flow covers another number";
     if (!left_are_alone(p, most, k, a->leader))
         return "the flow leaves another gateway";
-    placing_first(p, k, holder);
+    by_rules(p, k, holder, &expected);
     if (!held_are_covered(p, holder, a->leader))
         return "a gateway that is held is alone";
     if (!is_set(p, a->choke))
         return "a choke byte is neither 0 nor 1";
     if (k == p->n && packing_difference(p, a->choke) != packing_alone(p, a->leader))
         return "the choke difference is not the number alone";
-    by_rules(p, holder, &expected);
     return answer_differs(a, &expected, p->n);
 }
 
@@ -113,7 +113,7 @@ static bool is_whole_answer(const struct plant *p, const struct outcome *o)
 {
     static struct outcome whole;
     lent_plan(p, AT_END, &whole);
-    return whole.number == 0 && memcmp(whole.out, o->out, 3 * (size_t)p->n) == 0;
+    return whole.number == 0 && memcmp(whole.out, o->out, answer_size(p->n)) == 0;
 }
 
 const char *judge_after(const struct plant *p, const int *most, int k, struct rng *r, struct answer *a)

@@ -91,7 +91,7 @@ static struct lending lend_both(const uint8_t *file, size_t len, size_t out_len,
 
 static const char *fault_of(const struct lending *l, const uint8_t *file, uint32_t number)
 {
-    size_t written = number == 0 ? 3 * (size_t)get_number(file + 5) : 0;
+    size_t written = number == 0 ? answer_size(get_number(file + 5)) : 0;
     if (memcmp(l->in.at, file, l->in.len) != 0)
         return "the file's bytes changed";
     if (!guards_hold(&l->in))
@@ -99,7 +99,7 @@ static const char *fault_of(const struct lending *l, const uint8_t *file, uint32
     if (!guards_hold(&l->out))
         return "bytes beside the out area changed";
     if (!unwritten_from(&l->out, written))
-        return number == 0 ? "bytes past 3n changed" : "a refused call wrote";
+        return number == 0 ? "bytes past 3n + 4 changed" : "a refused call wrote";
     return NULL;
 }
 

@@ -1,5 +1,7 @@
 #include "placing.h"
 
+#include <string.h>
+
 struct neighbours {
     int start[MAX_GATEWAYS + 1];
     int list[2 * MAX_LINKS]; /* x's, in order of arrival, from start[x] up to start[x + 1] */
@@ -85,24 +87,59 @@ static void take(const struct search *s, int u, int v, int *holder)
     } while (x != v);
 }
 
-static void place(const struct plant *p, const struct neighbours *near, int v, int *holder)
+/* At how many of n gateways the holders differ. */
+static int count_changed(int n, const int *before, const int *after)
+{
+    int count = 0;
+    for (int v = 0; v < n; v++)
+        count += before[v] != after[v];
+    return count;
+}
+
+static int place(const struct plant *p, const struct neighbours *near, int v, int *holder)
 {
     static struct search s;
+    int before[MAX_GATEWAYS];
+    memcpy(before, holder, (size_t)p->n * sizeof before[0]);
     begin(&s, p, near, holder);
     s.queue[s.tail++] = v;
     int u = search(&s, p->limit);
     if (u != NOBODY)
         take(&s, u, v, holder);
+    return count_changed(p->n, before, holder);
 }
 
-void placing_first(const struct plant *p, int k, int *holder)
+static void place_first(const struct plant *p, int k, int *holder, int *moved)
 {
     static struct neighbours near;
     gather(p, &near);
     for (int v = 0; v < p->n; v++)
         holder[v] = NOBODY;
     for (int i = 0; i < k; i++)
-        place(p, &near, p->order[i], holder);
+        moved[i] = place(p, &near, p->order[i], holder);
+}
+
+long placing_first(const struct plant *p, int k, int *holder)
+{
+    int moved[MAX_GATEWAYS];
+    long sum = 0;
+    place_first(p, k, holder, moved);
+    for (int i = 0; i < k; i++)
+        sum += moved[i];
+    return sum;
+}
+
+void placing_each(const struct plant *p, int *moved)
+{
+    int holder[MAX_GATEWAYS];
+    place_first(p, p->n, holder, moved);
+}
+
+int placing_one(const struct plant *p, int v, int *holder)
+{
+    static struct neighbours near;
+    gather(p, &near);
+    return place(p, &near, v, holder);
 }
 
 void placing_choke(const struct plant *p, const int *holder, int *choke)

@@ -52,7 +52,7 @@ void whole(int n, int limit, int m)
     for (int i = 0; i < n; i++)
         put_number(order_at(i), i);
     len = (size_t)HEADER + 4 * (size_t)m + 2 * (size_t)n;
-    out_len = 3 * (size_t)n;
+    out_len = 3 * (size_t)n + 4;
     placings = (uint32_t)n;
 }
 
