@@ -52,7 +52,7 @@ fn one_more_placing(s: Small, links: &[u16], order: &[u16], holders: &mut [u16])
     lines::text(b"1024 placed:");
     lines::small(s);
     let r = s.place(links, order, holders);
-    lines::answer(b"\none more placing", r);
+    lines::placed(b"\none more placing", r);
     lines::end();
 }
 

@@ -1,6 +1,7 @@
 // Prints what a call gave.
 use crate::parts;
 use planner::Answer;
+use planner::PlaceAnswer;
 use planner::Small;
 
 pub(crate) fn text(t: &[u8]) {
@@ -38,6 +39,16 @@ pub(crate) fn answer(label: &[u8], a: Answer) {
     bar();
     let s = a.small;
     small(s);
+}
+
+// The same of a placing, with the number moved.
+pub(crate) fn placed(label: &[u8], a: PlaceAnswer) {
+    refusal(label, a.refusal);
+    bar();
+    let s = a.small;
+    small(s);
+    text(b" | moved");
+    number(a.moved as u64);
 }
 
 pub(crate) fn list(l: &[u16]) {

@@ -16,7 +16,7 @@ pub(crate) fn case(label: &[u8], a: &[u16]) {
         k: lists::entry(a, 4),
     };
     let r = s.place(&links, &order, &mut holders);
-    lines::answer(label, r);
+    lines::placed(label, r);
     lines::after(&holders, &came);
 }
 
@@ -27,7 +27,7 @@ fn place_each(label: &[u8], first: Small, links: &[u16], order: &[u16], holders:
     while i < 8 {
         let r = s.place(links, order, holders);
         s = r.small;
-        lines::answer(label, r);
+        lines::placed(label, r);
         lines::list(holders);
         lines::end();
         i += 1;

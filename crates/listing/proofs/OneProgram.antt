@@ -1,5 +1,5 @@
 -- The listing's text is the text of what the daemon's bytes say: both go by the plan of the file.
-use Prim.Native.Nat.{ℕ, zero, suc, _*_, _<_, _≤_}
+use Prim.Native.Nat.{ℕ, zero, suc, _+_, _*_, _<_, _≤_}
 use mathlib.Core.Path.{_≡_, refl, sym, ap, _∙_}
 use mathlib.Core.List.{List}
 use native.Mathlib.Omega.{arith}
@@ -17,22 +17,22 @@ use Rattle.plan.specs.Plan.{planRefusal, planLeaders, planChoke}
 use Rattle.plan.proofs.FilePlan.{plan-own, leaders-front, choke-front}
 use Rattle.report.specs.Text as text
 use Rattle.report.proofs.Alike.{listing-alike}
-use Rattle.daemon.specs.Groups.{groupsRefusal, groupsOut}
+use Rattle.daemon.specs.Groups.{bytesFor, groupsRefusal, groupsOut}
 use Rattle.daemon.specs.Claim.{leaderAt, chokeAt}
 use Rattle.daemon.proofs.Claim.{leader-is, choke-is}
 use Rattle.listing.specs.Listed.{textBy, fileText}
 use Rattle.listing.specs.OneProgram.{textOf, OneProgram}
 
 -- with room for every plant the file's number stands alone
-alone : (file out : List ℕ) → 3 * GATEWAYS ≤ length out → groupsRefusal file (length out) ≡ fileRefusal file
+alone : (file out : List ℕ) → 3 * GATEWAYS + 4 ≤ length out → groupsRefusal file (length out) ≡ fileRefusal file
 unfolding groupsRefusal
 alone file out room = by (fileRefusal file) refl
   where
-    by : (e : ℕ) → fileRefusal file ≡ e → fileThenShort file (ltb (length out) (3 * fileN file)) ≡ fileRefusal file
-    by zero z = rw (le-ltb (length out) (3 * fileN file) (omega (arith, file-allowed file z .few))) (then-alone file)
+    by : (e : ℕ) → fileRefusal file ≡ e → fileThenShort file (ltb (length out) (bytesFor (fileN file))) ≡ fileRefusal file
+    by zero z = rw (le-ltb (length out) (bytesFor (fileN file)) (omega (arith, file-allowed file z .few))) (then-alone file)
     by (suc e) z = sym (then-file file _ refl (λ q. omega arith))
 
-module _ (file out : List ℕ) (room : 3 * GATEWAYS ≤ length out) (z : fileRefusal file ≡ 0) where
+module _ (file out : List ℕ) (room : 3 * GATEWAYS + 4 ≤ length out) (z : fileRefusal file ≡ 0) where
   same-leader : (v : ℕ) → v < fileN file → at (planLeaders file (replicate GATEWAYS 0) (replicate GATEWAYS 0)) v ≡ at (listOf (fileN file) (leaderAt (groupsOut file out))) v
   same-leader v l =
       sym (getD-take (fileN file) (planLeaders file (replicate GATEWAYS 0) (replicate GATEWAYS 0)) v 0 l)

@@ -1,6 +1,6 @@
 -- 00: "Two programs of ours form groups: one at the release desk, one in the gateway daemon. They must become one."
 -- The desk's is the listing, the daemon's the call from C: what the one prints is the text of what the other's bytes say. proofs/OneProgram.antt proves it.
-use Prim.Native.Nat.{ℕ, _*_, _≤_}
+use Prim.Native.Nat.{ℕ, _+_, _*_, _≤_}
 use mathlib.Core.Path.{_≡_}
 use mathlib.Core.List.{List}
 use lib.ListN.{length}
@@ -17,4 +17,4 @@ textOf file number bytes = textBy number (text.listing (fileN file) (fileT file)
 
 -- for every file, accepted or refused, and every lent list with room for every plant
 unfoldable pub OneProgram : Type 0
-OneProgram = (file out : List ℕ) → 3 * 1024 ≤ length out → fileText file ≡ textOf file (groupsRefusal file (length out)) (groupsOut file out)
+OneProgram = (file out : List ℕ) → 3 * 1024 + 4 ≤ length out → fileText file ≡ textOf file (groupsRefusal file (length out)) (groupsOut file out)

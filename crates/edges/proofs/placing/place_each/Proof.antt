@@ -18,8 +18,8 @@ loop-holds c = search needs
 place-requires : tie.Need-place-requires Inv-loop μ-loop
 place-requires c κs = search needs
 
-answer-requires : tie.Need-answer-requires Inv-loop μ-loop
-answer-requires c κs = search needs
+placed-requires : tie.Need-placed-requires Inv-loop μ-loop
+placed-requires c κs = search needs
 
 list-requires : tie.Need-list-requires Inv-loop μ-loop
 list-requires c κs = search needs
@@ -50,7 +50,7 @@ place-each-spec =
     μ-loop
     loop-holds
     place-requires
-    answer-requires
+    placed-requires
     list-requires
     end-requires
     add-i
