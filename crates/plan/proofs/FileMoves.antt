@@ -2,15 +2,13 @@
 use Prim.Native.Nat.{ℕ, zero, suc, _+_, _*_, _<_, _≤_}
 use mathlib.Core.Path.{_≡_, refl, sym, ap, _∙_}
 use mathlib.Core.Bool.{true, false}
-use mathlib.Core.List.{List, [], _∷_, _++_}
+use mathlib.Core.List.{List, _∷_}
 use native.Mathlib.Numerals.{add-one}
 use native.Mathlib.Omega.{arith}
 use lib.ListN.{length}
 use Rattle.packing.specs.Count.{sum}
 use Rattle.packing.specs.Plant.{GATEWAYS, at, common, linked}
-use Rattle.packing.specs.Holders.{held}
-use Rattle.packing.specs.Moved.{moved, Fewest}
-use Rattle.packing.specs.Refusals.{byNumber}
+use Rattle.packing.specs.Moved.{Fewest}
 use Rattle.planner.specs.declared.Small.{Small}
 use Rattle.planner.specs.State.{State}
 use Rattle.planner.specs.Calls.{order, place, call, callMoves}
@@ -23,7 +21,7 @@ use Rattle.planner.proofs.MovedTold.{fewest-told}
 use Rattle.planner.proofs.MovedSums.{moves-append, links-move, moves-last, moves-fit}
 use Rattle.plant_file.specs.PlantFile.{fileN, fileT, fileLinks, fileOrder, fileRefusal}
 use Rattle.plan.specs.Plan.{callsAfter, stateAfter, movesAfter}
-use Rattle.plan.specs.After.{planAfterRefusal, planMovesAfter}
+use Rattle.plan.specs.After.{planMovesAfter}
 use Rattle.plan.specs.Claim.{placingMoves, placingKeeps, SumOfFewest, FileMoves}
 use Rattle.plan.proofs.CallsInTurn.{place-last}
 use Rattle.plan.proofs.Refusing.{plan-places}

@@ -10,7 +10,6 @@ use borrow.Author.Tests.{eq-eqb, ne-eqb}
 use Rattle.packing.specs.Plant.{at, linked}
 use Rattle.packing.specs.Holders.{held}
 use Rattle.packing.specs.Moved.{Kept, moved, Fewest}
-use Rattle.packing.specs.Refusals.{byNumber}
 use Rattle.packing.proofs.Tests.{clash, not-i, or-r}
 use Rattle.packing.proofs.Sums.{count-some}
 use Rattle.packing.proofs.Moved.{moved-none, fewest}

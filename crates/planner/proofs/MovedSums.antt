@@ -1,6 +1,6 @@
 -- The sum of the numbers moved over a list of calls.
 use Prim.Native.Nat.{ℕ, zero, suc, _+_, _-_, _*_, _<_, _≤_}
-use mathlib.Core.Path.{_≡_, refl, sym, ap, _∙_}
+use mathlib.Core.Path.{_≡_, refl, sym, ap}
 use mathlib.Core.List.{List, [], _∷_, _++_}
 use native.Mathlib.Nat.{zero-add}
 use native.Mathlib.Omega.{arith}
@@ -10,7 +10,7 @@ use Rattle.packing.specs.Plant.{GATEWAYS, at}
 use Rattle.packing.proofs.Tests.{by-bool}
 use Rattle.packing.proofs.Moved.{moved-bound}
 use Rattle.planner.specs.State.{State}
-use Rattle.planner.specs.Calls.{Call, link, order, place, conditions, callRefusal, changed, call, callMoves}
+use Rattle.planner.specs.Calls.{Call, link, place, conditions, callRefusal, call, callMoves}
 use Rattle.planner.specs.Run.{run, runMoves, linkCalls, placeCalls}
 use Rattle.planner.specs.Moved.{NobodyMoved}
 use Rattle.planner.specs.Records.{PlaceGives, RefusedUnchanged}

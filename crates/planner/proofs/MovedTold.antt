@@ -1,13 +1,12 @@
 -- The number moved is the least by the limits, links and order told, whatever calls made the record.
 use Prim.Native.Nat.{ℕ, _<_}
-use mathlib.Core.Path.{_≡_, sym, subst, _∙_}
+use mathlib.Core.Path.{sym, _∙_}
 use mathlib.Core.List.{List}
 use native.Mathlib.Omega.{arith}
 use Rattle.packing.specs.Plant.{at, linked}
-use Rattle.packing.specs.Moved.{Fewest}
 use Rattle.packing.proofs.Below.{fewest-limits}
 use Rattle.planner.specs.State.{limitOf}
-use Rattle.planner.specs.Calls.{place, call, callMoves}
+use Rattle.planner.specs.Calls.{place, call}
 use Rattle.planner.specs.Told.{Told, refuses}
 use Rattle.planner.specs.Claims.{FewestMovedOf, FewestMovedTold}
 use Rattle.planner.proofs.Conditions.{place-next}

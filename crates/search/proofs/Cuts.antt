@@ -1,18 +1,18 @@
 -- Cuts of the queue (02, change 4): whatever other holders hold all that was held, and v, among the gateways from the place of a turn on one is held otherwise.
-use Prim.Native.Nat.{ℕ, suc, _<_, _≤_}
+use Prim.Native.Nat.{ℕ, _<_, _≤_}
 use mathlib.Core.Path.{_≡_, refl, sym, ap, _∙_}
 use mathlib.Core.Bool.{Bool, true, false, not, _&&_, _||_}
 use mathlib.Core.List.{List, [], _∷_, _++_}
 use native.Mathlib.Omega.{arith}
 use lib.Dec.{eqb, ltb}
 use lib.ListN.{length, List·getD-append}
-use borrow.Author.Tests.{eqb-true, eq-eqb, ne-eqb, ltb-true, ltb-false}
+use borrow.Author.Tests.{eqb-true, eq-eqb, ltb-true, ltb-false}
 use Rattle.packing.specs.Count.{count, sumOver, any}
 use Rattle.packing.specs.Plant.{at, linked}
-use Rattle.packing.specs.Holders.{held, holds, Feasible}
+use Rattle.packing.specs.Holders.{held, Feasible}
 use Rattle.packing.specs.Lists.{memberOf}
 use Rattle.packing.specs.Moved.{Kept, differs}
-use Rattle.packing.proofs.Tests.{by-bool, clash, and-l, and-r, and-i, or-l, or-r, not-i, not-test, any-intro, any-elim, any-ext}
+use Rattle.packing.proofs.Tests.{by-bool, clash, and-l, and-r, and-i, or-l, or-r, not-i, any-intro, any-elim, any-ext}
 use Rattle.packing.proofs.Lists.{member-at}
 use Rattle.packing.proofs.Sums.{count-mono, count-ext, count-split, count-some}
 use Rattle.packing.proofs.Hall.{hall, hall-met}

@@ -2,26 +2,24 @@
 -- A gateway at place i whose holder was seen from the gateway at place a joined during a's turn, so the cut at a has a change among the places from a up to i.
 -- Along the chain from the gateway that found the place free back to v these stretches are apart, and the last cut stands at that gateway itself.
 use Prim.Native.Nat.{ℕ, suc, _+_, _<_, _≤_}
-use mathlib.Core.Path.{_≡_, refl, sym, ap, _∙_}
+use mathlib.Core.Path.{_≡_, sym, _∙_}
 use mathlib.Core.Bool.{true}
 use mathlib.Core.List.{List, [], _∷_, _++_}
 use native.Mathlib.Omega.{arith}
 use lib.ListN.{length, set, List·getD-append}
 use lib.Seq.{getD-set-same}
-use Rattle.packing.specs.Count.{count}
 use Rattle.packing.specs.Plant.{at, linked}
 use Rattle.packing.specs.Holders.{holds, Feasible}
 use Rattle.packing.specs.Moved.{Kept, moved, differs, differing, LeastMoved}
-use Rattle.packing.proofs.Tests.{and-r}
 use Rattle.packing.proofs.Lists.{member-at}
 use Rattle.packing.proofs.Moved.{moved-none}
-use Rattle.packing.proofs.Sums.{count-mono, count-bound}
-use Rattle.search.specs.Search.{found, more, seen, heldBy, walk, shift, settled, placedHolders}
+use Rattle.packing.proofs.Sums.{count-bound}
+use Rattle.search.specs.Search.{found, seen, heldBy, walk, shift, settled, placedHolders}
 use Rattle.search.specs.Pre.{takings, Placeable}
 use Rattle.search.proofs.Queue.{append-at, heldBy-out}
 use Rattle.search.proofs.States.{by-state, unseen-below, mark-keeps, placeable-startable}
 use Rattle.search.proofs.Walking.{Looks, Stopped, walk-stops}
-use Rattle.search.proofs.Reach.{Reach, Reached, reached-start, reached-joined, reached-closed, reached-stops}
+use Rattle.search.proofs.Reach.{Reached, reached-start, reached-joined, reached-closed, reached-stops}
 use Rattle.search.proofs.Shifting.{shift-moved, shift-takings}
 use Rattle.search.proofs.Placing.{SeenBefore, stopped-chain, stopped-below, stopped-seer, found-chain}
 use Rattle.search.proofs.Cuts.{changes, changes-more, changes-all, changes-front, cut}

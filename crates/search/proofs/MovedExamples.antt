@@ -1,17 +1,16 @@
 -- The number moved, computed, where the least is 3, where other holders tie, and where the nearest place free is not the first that a depth-first search comes to. T = 2.
-use Prim.Native.Nat.{ℕ, _<_, _≤_}
-use mathlib.Core.Path.{_≡_, refl, ap}
+use Prim.Native.Nat.{ℕ}
+use mathlib.Core.Path.{_≡_, refl}
 use mathlib.Core.Logic.{⊎-elim}
-use mathlib.Core.Bool.{Bool, true, false, not, cond, _&&_, _||_}
-use mathlib.Core.List.{List, [], _∷_, _++_}
-use native.Mathlib.Omega.{arith}
-use lib.Dec.{eqb, ltb, leb}
+use mathlib.Core.Bool.{Bool, true, false, not, cond, _||_}
+use mathlib.Core.List.{List, [], _∷_}
+use lib.Dec.{eqb, leb}
 use borrow.Author.Tests.{leb-true, not-true}
 use Rattle.packing.specs.Count.{sum, count, all}
 use Rattle.packing.specs.Lists.{listWhere}
 use Rattle.packing.specs.Plant.{NONE, at, common, linked, neighbours}
 use Rattle.packing.specs.Holders.{held, holds, Feasible}
-use Rattle.packing.specs.Moved.{Kept, moved, differs, differing, LeastMoved, Fewest}
+use Rattle.packing.specs.Moved.{Kept, moved, differs, differing, LeastMoved}
 use Rattle.packing.proofs.Tests.{clash, all-elim, or-cases}
 use Rattle.sound.specs.Sound.{holdersWithin}
 use Rattle.sound.specs.Searchable.{searchable}

@@ -1,26 +1,25 @@
 -- What a walk reaches. Its invariant says of each queued gateway where it came from; what holds when the queue runs out, and when a place free is found, follows.
 use Prim.Native.Nat.{ℕ, zero, suc, _+_, _<_, _≤_}
 use mathlib.Core.Path.{_≡_, refl, sym, _∙_}
-use mathlib.Core.Logic.{_⊎_, inl, inr, ⊎-elim}
-use mathlib.Core.Bool.{Bool, true, false, false≢true}
-use mathlib.Core.List.{List, [], _∷_, _++_}
-use native.Mathlib.Nat.{not-suc-le-zero, zero-add}
+use mathlib.Core.Logic.{_⊎_, inl, inr}
+use mathlib.Core.Bool.{Bool, true, false}
+use mathlib.Core.List.{List, _++_}
+use native.Mathlib.Nat.{not-suc-le-zero}
 use native.Mathlib.Omega.{arith}
-use lib.Dec.{eqb, ltb}
+use lib.Dec.{ltb}
 use lib.ListN.{length, set, replicate, length-append, List·getD-append}
 use lib.Seq.{getD-set-same}
-use borrow.Author.Tests.{eqb-true, eq-eqb, lt-ltb, ltb-true, ltb-false}
-use Rattle.packing.specs.Plant.{NONE, at, linked, neighbours}
+use borrow.Author.Tests.{lt-ltb, ltb-true, ltb-false}
+use Rattle.packing.specs.Plant.{NONE, at, linked}
 use Rattle.packing.specs.Holders.{held, holds}
-use Rattle.packing.proofs.Tests.{by-bool, below-suc, clash, or-cases, or-l, or-r}
+use Rattle.packing.proofs.Tests.{by-bool, below-suc, clash, or-l, or-r}
 use Rattle.packing.proofs.Lists.{member-append, member-at}
-use Rattle.packing.proofs.Links.{neighbours-linked}
 use Rattle.packing.specs.Lists.{memberOf}
-use Rattle.search.specs.Search.{Search, found, more, seen, heldBy, visit, turns, walk}
+use Rattle.search.specs.Search.{found, more, seen, heldBy, walk}
 use Rattle.search.specs.Pre.{Going, Startable}
 use Rattle.search.proofs.Queue.{member-place, append-at, heldBy-in, heldBy-out}
 use Rattle.search.proofs.Walking.{Looks, Stopped, RanOut, walk-stops, walk-ends}
-use Rattle.search.proofs.States.{gateway-some, unseen-below, unseen-start, seen-marked, seen-kept, seen-cases, mark-keeps, look-cases, by-state, going-start, going-joined, visit-found, turns-zero, turns-found, turns-out, turns-step}
+use Rattle.search.proofs.States.{gateway-some, unseen-below, unseen-start, seen-marked, seen-kept, seen-cases, mark-keeps, by-state, going-start, going-joined}
 
 -- What stands at place i of the queue joined it: its holder is seen, from a gateway that stands before it.
 pub record Joins (n : ℕ) (hs queue from : List ℕ) (i : ℕ) : Type 0 where

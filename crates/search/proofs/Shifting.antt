@@ -1,7 +1,7 @@
 -- The shift: the loop that makes it, and what it leaves.
 use Prim.Native.Nat.{ℕ, zero, suc, _+_, _-_, _<_, _≤_}
 use mathlib.Core.Path.{_≡_, refl, sym, ap, _∙_}
-use mathlib.Core.Bool.{Bool, true, false, not, _&&_, _||_, and-comm, and-false, or-true, or-false}
+use mathlib.Core.Bool.{Bool, true, false, not, _&&_, _||_, and-false, or-true, or-false}
 use mathlib.Core.List.{List}
 use native.Mathlib.Nat.{sub-zero, zero-add, not-suc-le-zero}
 use native.Mathlib.Omega.{arith}

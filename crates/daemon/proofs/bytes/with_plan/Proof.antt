@@ -1,4 +1,3 @@
-use native.Mathlib.Omega.{arith}
 use mathlib.Core.Path.{sym}
 use lib.Seq.{length-take-le}
 use Rattle.daemon.proofs.LowFirst.{numbers-places, bytes-places, four-places, plan-written}
