@@ -66,10 +66,12 @@ extern "C" {
  *    6   the order repeats a number or has one not below n
  *   10   out_len is below 3n + 4, for a plant of 0 gateways too
  *
- * The number moved. The plan places the gateways one after the other, and a gateway that is kept may make
- * others change their holder. For each placing the gateways whose holder changed are counted, the new one
- * included; it is 0 for one that is left. That is the fewest that any holders that hold it and all kept
- * before it, along links and within T, could change. The number moved is the sum over all placings.
+ * The number moved. The plan is made by placing the gateways one after the other, in the order: each is
+ * given a holder, or left. So that the next one finds a place, others may change their holder. Each
+ * placing counts the gateways whose holder changed, the new one included, and 0 where it is left; the
+ * number moved is the sum over all placings. For each placing it is the least possible: no other holders
+ * of the gateways kept before and the new one, along links and within T, differ from those before at
+ * fewer gateways. The sum is at most 1,048,576.
  *
  * What it uses. The call is reentrant and keeps nothing: the library has no writable data and allocates
  * none. Calls may run at once in any threads, each with an out of its own; they may share a file that

@@ -8,7 +8,7 @@ use lib.Dec.{eqb, ltb}
 use lib.ListN.{length, drop, length-append, List·getD-append}
 use lib.Seq.{getD-append-add}
 use Rattle.packing.specs.Lists.{written}
-use Rattle.packing.specs.Plant.{GATEWAYS, at}
+use Rattle.packing.specs.Plant.{at}
 use Rattle.packing.specs.Pairs.{EarlierLeads}
 use Rattle.packing.proofs.Below.{leads-below}
 use Rattle.packing.proofs.Lists.{written-past}
@@ -18,11 +18,11 @@ use Rattle.plant_file.specs.PlantFile.{number, fileN, fileOrder, fileRefusal}
 use Rattle.plant_file.specs.Encode.{lowFirst}
 use Rattle.plant_file.proofs.Encode.{low-long, number-low}
 use Rattle.plan.specs.Plan.{movesAfter, fileLeaders, fileChoke}
-use Rattle.plan.specs.Claim.{SumOfFewest}
+use Rattle.plan.specs.Claim.{SumOfFewest, MovesFit}
 use Rattle.plan.specs.After.{fileLeadersAfter, fileChokeAfter}
 use Rattle.plan.proofs.Refusing.{after-none}
 use Rattle.plan.proofs.After.{leaders-long, choke-long, choke-at, choke-bit, plan-so-far-below, lists-so-far, lists-pairs}
-use Rattle.plan.proofs.FileMoves.{moves-few, moves-least}
+use Rattle.plan.proofs.FileMoves.{file-moves-fit, moves-least}
 use Rattle.plan.proofs.FilePlan.{leaders-all, choke-all, plan-below, lists-plan}
 use Rattle.daemon.specs.Groups.{fourBytes, bytesFor, planBytes, groupsRefusal, groupsOut, bytesAfter, groupsAfterRefusal, groupsAfterOut}
 use Rattle.daemon.specs.Claim.{leaderAt, chokeAt, movedAt, BytesPlan, BytesRefused, BytesSoFar, BytesPairs, BytesMoves, BytesStay, BytesAfterRefused, BytesAfterAll}
@@ -30,7 +30,7 @@ use Rattle.daemon.proofs.LowFirst.{four-long}
 use Rattle.daemon.proofs.Groups.{bytes-after-all}
 
 -- four bytes, low byte first, are the number that they were taken from
-low-first : (x : ℕ) → x ≤ GATEWAYS * GATEWAYS → {a b c d : ℕ} → a ≡ x % 256 → b ≡ (x / 256) % 256 → c ≡ (x / 65536) % 256 → d ≡ (x / 16777216) % 256 → a + 256 * b + 65536 * c + 16777216 * d ≡ x
+low-first : (x : ℕ) → x ≤ 1048576 → {a b c d : ℕ} → a ≡ x % 256 → b ≡ (x / 256) % 256 → c ≡ (x / 65536) % 256 → d ≡ (x / 16777216) % 256 → a + 256 * b + 65536 * c + 16777216 * d ≡ x
 low-first x few e f g h = omega arith
 
 -- the bytes of n leaders, n choke bytes and a number, and what stands behind them
@@ -75,7 +75,7 @@ module _ (n : ℕ) (leaders choke : List ℕ) (x : ℕ) (out : List ℕ) (led : 
   moved-byte : (i b : ℕ) → at behind i ≡ b → at all (3 * n + i) ≡ b
   moved-byte i b e = rw (bytes-are, ← thrice, getD-append-add (lowFirst leaders ++ choke) behind i 0) e
 
-  moved-bytes : x ≤ GATEWAYS * GATEWAYS → movedAt n all ≡ x
+  moved-bytes : x ≤ 1048576 → movedAt n all ≡ x
   unfolding behind fourBytes
   moved-bytes few = low-first x few (rw zeroth at (moved-byte 0 (x % 256) refl)) (moved-byte 1 ((x / 256) % 256) refl) (moved-byte 2 ((x / 65536) % 256) refl) (moved-byte 3 ((x / 16777216) % 256) refl)
     where
@@ -109,7 +109,8 @@ module _ (file : List ℕ) (k : ℕ) (out : List ℕ) (z : groupsAfterRefusal fi
   choke-after v l = rw out-is (choke-bytes (fileN file) (fileLeadersAfter file k) (fileChokeAfter file k) (movesAfter file k) out led choked v l)
 
   moved-after : movedAt (fileN file) (groupsAfterOut file k out) ≡ movesAfter file k
-  moved-after = rw out-is (moved-bytes (fileN file) (fileLeadersAfter file k) (fileChokeAfter file k) (movesAfter file k) out led choked (moves-few file k))
+  unfolding MovesFit
+  moved-after = rw out-is (moved-bytes (fileN file) (fileLeadersAfter file k) (fileChokeAfter file k) (movesAfter file k) out led choked (file-moves-fit file k))
 
   past-after : drop (bytesFor (fileN file)) (groupsAfterOut file k out) ≡ drop (bytesFor (fileN file)) out
   past-after = rw out-is (past-bytes (fileN file) (fileLeadersAfter file k) (fileChokeAfter file k) (movesAfter file k) out led choked)

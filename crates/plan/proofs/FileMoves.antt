@@ -1,5 +1,5 @@
 -- How many gateways the placings of an accepted file move: the claim of specs/Claim.antt.
-use Prim.Native.Nat.{ℕ, zero, suc, _+_, _*_, _<_, _≤_}
+use Prim.Native.Nat.{ℕ, zero, suc, _+_, _<_, _≤_}
 use mathlib.Core.Path.{_≡_, refl, sym, ap, _∙_}
 use mathlib.Core.Bool.{true, false}
 use mathlib.Core.List.{List, _∷_}
@@ -7,7 +7,7 @@ use native.Mathlib.Numerals.{add-one}
 use native.Mathlib.Omega.{arith}
 use lib.ListN.{length}
 use Rattle.packing.specs.Count.{sum}
-use Rattle.packing.specs.Plant.{GATEWAYS, at, common, linked}
+use Rattle.packing.specs.Plant.{at, common, linked}
 use Rattle.packing.specs.Moved.{Fewest}
 use Rattle.planner.specs.declared.Small.{Small}
 use Rattle.planner.specs.State.{State}
@@ -22,7 +22,7 @@ use Rattle.planner.proofs.MovedSums.{moves-append, links-move, moves-last, move
 use Rattle.plant_file.specs.PlantFile.{fileN, fileT, fileLinks, fileOrder, fileRefusal}
 use Rattle.plan.specs.Plan.{callsAfter, stateAfter, movesAfter}
 use Rattle.plan.specs.After.{planMovesAfter}
-use Rattle.plan.specs.Claim.{placingMoves, placingKeeps, SumOfFewest, FileMoves}
+use Rattle.plan.specs.Claim.{placingMoves, placingKeeps, SumOfFewest, FileMoves, MovesFit}
 use Rattle.plan.proofs.CallsInTurn.{place-last}
 use Rattle.plan.proofs.Refusing.{plan-places}
 use Rattle.plan.proofs.ToldByFile.{placedTold}
@@ -48,8 +48,9 @@ moves-are file k =
     )
 
 -- the sum has 32 bits, whatever the file
-pub moves-few : (file : List ℕ) (k : ℕ) → movesAfter file k ≤ GATEWAYS * GATEWAYS
-moves-few file k = rw (moves-are file k) (moves-fit (filled file) k)
+pub file-moves-fit : MovesFit
+unfolding MovesFit
+file-moves-fit file k = rw (moves-are file k) (moves-fit (filled file) k)
 
 -- one placing more
 state-next : (file : List ℕ) (k : ℕ) → stateAfter file (k + 1) ≡ call (stateAfter file k) place .state

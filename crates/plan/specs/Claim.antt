@@ -15,7 +15,7 @@ use Rattle.packing.specs.Moved.{moved, Fewest}
 use Rattle.packing.specs.SoFar.{SoFar}
 use Rattle.search.specs.ChokeSet.{chokeByte}
 use Rattle.plant_file.specs.PlantFile.{fileN, fileT, fileLinks, fileOrder}
-use Rattle.plan.specs.Plan.{stateAfter, planRefusal, planLeaders, planChoke}
+use Rattle.plan.specs.Plan.{stateAfter, movesAfter, planRefusal, planLeaders, planChoke}
 use Rattle.plan.specs.After.{planAfterRefusal, planMovesAfter, planLeadersAfter, planChokeAfter}
 
 -- a grouping of the plant that the file describes
@@ -74,6 +74,10 @@ pub record SumOfFewest (file : List ℕ) (k total : ℕ) : Type 0 where
 unfoldable pub FileMoves : Type 0
 FileMoves =
     (file : List ℕ) (k leadersLen chokeLen : ℕ) → planAfterRefusal file k leadersLen chokeLen ≡ 0 → SumOfFewest file k (planMovesAfter file k leadersLen chokeLen)
+
+-- .. and it is at most 1,048,576, whatever the file: so four bytes are enough for it.
+unfoldable pub MovesFit : Type 0
+MovesFit = (file : List ℕ) (k : ℕ) → movesAfter file k ≤ 1048576
 
 -- With n placings it is the plan, whatever is handed in.
 unfoldable pub AfterAll : Type 0
