@@ -35,18 +35,18 @@ low-first x few e f g h = omega arith
 
 -- the bytes of n leaders, n choke bytes and a number, and what stands behind them
 module _ (n : ℕ) (leaders choke : List ℕ) (x : ℕ) (out : List ℕ) (led : length leaders ≡ n) (choked : length choke ≡ n) where
-  all : List ℕ
-  all = written (bytesFor n) (lowFirst leaders ++ choke ++ fourBytes x) out
+  answer : List ℕ
+  answer = written (bytesFor n) (lowFirst leaders ++ choke ++ fourBytes x) out
 
   -- behind the leaders, and behind the choke bytes
   behind : List ℕ
   behind = fourBytes x ++ drop (bytesFor n) out
 
-  bytes-are : all ≡ lowFirst leaders ++ choke ++ behind
-  unfolding written all behind
+  bytes-are : answer ≡ lowFirst leaders ++ choke ++ behind
+  unfolding written answer behind
   bytes-are = append-assoc (lowFirst leaders ++ choke) (fourBytes x) (drop (bytesFor n) out)
 
-  leaders-first : all ≡ lowFirst leaders ++ (choke ++ behind)
+  leaders-first : answer ≡ lowFirst leaders ++ (choke ++ behind)
   leaders-first = bytes-are ∙ append-assoc (lowFirst leaders) choke behind
 
   twice : length (lowFirst leaders) ≡ 2 * n
@@ -56,7 +56,7 @@ module _ (n : ℕ) (leaders choke : List ℕ) (x : ℕ) (out : List ℕ) (led : 
   thrice = omega (arith, length-append (lowFirst leaders) choke, twice)
 
   -- the two bytes of a leader are that leader, ..
-  leader-bytes : (v : ℕ) → v < n → at leaders v ≡ leaderAt all v
+  leader-bytes : (v : ℕ) → v < n → at leaders v ≡ leaderAt answer v
   unfolding number
   leader-bytes v l =
       rw (
@@ -66,24 +66,24 @@ module _ (n : ℕ) (leaders choke : List ℕ) (x : ℕ) (out : List ℕ) (led : 
       ) (sym (number-low leaders v))
 
   -- .. a choke byte is that byte, ..
-  choke-bytes : (v : ℕ) → v < n → at choke v ≡ chokeAt n all v
+  choke-bytes : (v : ℕ) → v < n → at choke v ≡ chokeAt n answer v
   choke-bytes v l =
       rw (leaders-first, ← twice, getD-append-add (lowFirst leaders) (choke ++ behind) v 0)
       (sym (List·getD-append choke behind 0 v (omega arith)))
 
   -- .. and the four bytes are the number, if it has 32 bits
-  moved-byte : (i b : ℕ) → at behind i ≡ b → at all (3 * n + i) ≡ b
+  moved-byte : (i b : ℕ) → at behind i ≡ b → at answer (3 * n + i) ≡ b
   moved-byte i b e = rw (bytes-are, ← thrice, getD-append-add (lowFirst leaders ++ choke) behind i 0) e
 
-  moved-bytes : x ≤ 1048576 → movedAt n all ≡ x
+  moved-bytes : x ≤ 1048576 → movedAt n answer ≡ x
   unfolding behind fourBytes
   moved-bytes few = low-first x few (rw zeroth at (moved-byte 0 (x % 256) refl)) (moved-byte 1 ((x / 256) % 256) refl) (moved-byte 2 ((x / 65536) % 256) refl) (moved-byte 3 ((x / 16777216) % 256) refl)
     where
       zeroth : 3 * n + 0 ≡ 3 * n
       zeroth = omega arith
 
-  past-bytes : drop (bytesFor n) all ≡ drop (bytesFor n) out
-  unfolding all
+  past-bytes : drop (bytesFor n) answer ≡ drop (bytesFor n) out
+  unfolding answer
   past-bytes = written-past (bytesFor n) (lowFirst leaders ++ choke ++ fourBytes x) out (omega (arith, length-append (lowFirst leaders ++ choke) (fourBytes x), thrice, four-long x))
 
 -- an accepted call for k placings
@@ -98,8 +98,8 @@ module _ (file : List ℕ) (k : ℕ) (out : List ℕ) (z : groupsAfterRefusal fi
   choked : length (fileChokeAfter file k) ≡ fileN file
   choked = choke-long file (after-fine .0) k (after-fine .1)
 
-  out-is : groupsAfterOut file k out ≡ all (fileN file) (fileLeadersAfter file k) (fileChokeAfter file k) (movesAfter file k) out led choked
-  unfolding groupsAfterOut bytesAfter all
+  out-is : groupsAfterOut file k out ≡ answer (fileN file) (fileLeadersAfter file k) (fileChokeAfter file k) (movesAfter file k) out led choked
+  unfolding groupsAfterOut bytesAfter answer
   out-is = rw z
 
   leader-after : (v : ℕ) → v < fileN file → at (fileLeadersAfter file k) v ≡ leaderAt (groupsAfterOut file k out) v

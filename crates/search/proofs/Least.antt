@@ -26,26 +26,26 @@ use Rattle.search.proofs.Cuts.{changes, changes-more, changes-all, chan
 
 -- from the place that a gateway came from to its own, one more is changed
 Stretches : List ℕ → (List ℕ → ℕ → ℕ) → List ℕ → List ℕ → Type 0
-Stretches hs m queue from = (i : ℕ) → i < length queue → 1 ≤ i → SeenBefore hs queue from (m queue) i
+Stretches hs number queue from = (i : ℕ) → i < length queue → 1 ≤ i → SeenBefore hs queue from (number queue) i
 
 module _ {n : ℕ} (limit : ℕ → ℕ) (ls : List ℕ) {hs : List ℕ} {v : ℕ} (p : Placeable n hs v) (f : Feasible n limit (linked ls) (at hs)) (h' : ℕ → ℕ) (other : Kept n limit (linked ls) (at hs) h' v) where
   -- how many of the first i places are changed
-  m : List ℕ → ℕ → ℕ
-  m = changes n (differs n (at hs) h')
+  changedTo : List ℕ → ℕ → ℕ
+  changedTo = changes n (differs n (at hs) h')
 
   -- what is known during the turn of place k
   Apart : ℕ → List ℕ → List ℕ → Type 0
-  Apart k queue from = Reached n limit ls hs (v ∷ []) k queue from × Stretches hs m queue from
+  Apart k queue from = Reached n limit ls hs (v ∷ []) k queue from × Stretches hs changedTo queue from
 
   apart-joined : (k : ℕ) (queue from : List ℕ) → Apart k queue from → (x u : ℕ) → Looks ls queue from k x u → limit u ≤ holds n (at hs) u → Apart k (queue ++ heldBy n hs u) (set from u x)
-  unfolding Apart Stretches m
+  unfolding Apart Stretches changedTo
   apart-joined k queue from (r, s) x u l most =
       (reached-joined n limit ls hs (v ∷ []) k queue from r x u l most, λ i inside one. append-at queue (heldBy n hs u) i inside (λ q e. old i one q e) (λ j q e g. new i j q e g))
     where
       queue' : List ℕ
       queue' = queue ++ heldBy n hs u
 
-      old : (i : ℕ) → 1 ≤ i → i < length queue → at queue' i ≡ at queue i → SeenBefore hs queue' (set from u x) (m queue') i
+      old : (i : ℕ) → 1 ≤ i → i < length queue → at queue' i ≡ at queue i → SeenBefore hs queue' (set from u x) (changedTo queue') i
       old i one q e =
           let t = s i q one in
           record {
@@ -55,7 +55,7 @@ module _ {n : ℕ} (limit : ℕ → ℕ) (ls : List ℕ) {hs : List ℕ} {v : �
             rises = rw (changes-front n (differs n (at hs) h') queue (heldBy n hs u) (t .place) (omega (arith, t .before)), changes-front n (differs n (at hs) h') queue (heldBy n hs u) i (omega arith)) (t .rises);
           }
 
-      new : (i j : ℕ) → j < length (heldBy n hs u) → i ≡ length queue + j → at queue' i ≡ at (heldBy n hs u) j → SeenBefore hs queue' (set from u x) (m queue') i
+      new : (i j : ℕ) → j < length (heldBy n hs u) → i ≡ length queue + j → at queue' i ≡ at (heldBy n hs u) j → SeenBefore hs queue' (set from u x) (changedTo queue') i
       new i j q e g =
           let by : at hs (at (heldBy n hs u) j) ≡ u = heldBy-out n hs u (at (heldBy n hs u) j) (member-at (heldBy n hs u) j q) .1 in
           let below : u < length from = rw (r .0 .going .marks) (unseen-below from u (r .0 .going .marks) (l .unseen)) in
@@ -82,11 +82,11 @@ module _ {n : ℕ} (limit : ℕ → ℕ) (ls : List ℕ) {hs : List ℕ} {v : �
 
   -- the shift of a chain of k steps moves k + 1, and there are as many stretches
   least-found : {u x : ℕ} {from : List ℕ} → walk n limit ls hs (v ∷ []) ≡ found u x from → moved n (at hs) (at (shift n v from u x hs)) ≤ differing n (at hs) h'
-  unfolding Apart m Stretches differing
+  unfolding Apart changedTo Stretches differing
   least-found {u} {x} {from} e =
       let w = apart-stops e in
       let (r, s) = w .there in
-      let (k, most, c) = stopped-chain limit ls p w (r .0) (m (w .queue)) s in
+      let (k, most, c) = stopped-chain limit ls p w (r .0) (changedTo (w .queue)) s in
       let below = stopped-below limit ls p w (r .0) in
       let last = cut limit ls p f h' other (w .place) (w .queue) (w .marks) r (omega (arith, w .looks .inside)) in
       let all = changes-all n (differs n (at hs) h') (w .queue) (length (w .queue)) in

@@ -1,5 +1,6 @@
 -- Laws of the search: of lists and states; of the table of what is held (Rows, SameTable, Moves); of the loops (Gathering, Joining, Looks, Turns, and the rounds of Shifting);
--- of what a walk reaches, what a shift leaves, what placing does, and what it does not depend on (Repeats, Limits).
+-- of what holds through a walk and what it reaches (Walking, Reach), what a shift leaves, what placing does, and what it does not depend on (Repeats, Limits);
+-- of the number moved: cuts of the queue, that no other holders differ at fewer gateways, and the statements (Cuts, Least, Moved).
 -- Laws of the choke set: of the lists and the loops that write them (Unheld, Seen), and of the walk itself. Tested has what the public calls test.
 pub mod Examples
 pub mod Queue

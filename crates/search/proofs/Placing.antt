@@ -28,21 +28,21 @@ pub alone : (v x : ℕ) → memberOf (v ∷ []) x ≡ true → x ≡ v
 unfolding memberOf
 alone v x m = ⊎-elim (λ q. sym (eqb-true v x q)) (λ q. absurd (false≢true q)) (or-cases (eqb v x) false m)
 
--- What stands at place i had its holder seen from a gateway that stands before it; m is a number that rises between the two.
-pub record SeenBefore (hs queue from : List ℕ) (m : ℕ → ℕ) (i : ℕ) : Type 0 where
+-- What stands at place i had its holder seen from a gateway that stands before it; some number of the place rises between the two.
+pub record SeenBefore (hs queue from : List ℕ) (number : ℕ → ℕ) (i : ℕ) : Type 0 where
   pub place : ℕ
   pub before : place < i
   pub seer : at from (at hs (at queue i)) ≡ at queue place
-  pub rises : m place < m i
+  pub rises : number place < number i
 
 module _ {n : ℕ} (limit : ℕ → ℕ) (ls : List ℕ) {hs : List ℕ} {v : ℕ} (p : Placeable n hs v) where
   -- a search for v that found a place free
   module _
-      {At : ℕ → List ℕ → List ℕ → Type 0} {u x : ℕ} {from : List ℕ} (f : Stopped n limit ls hs At u x from) (r : Reach n limit ls hs (v ∷ []) (f .queue) (f .marks)) (m : ℕ → ℕ)
-      (steps : (i : ℕ) → i < length (f .queue) → 1 ≤ i → SeenBefore hs (f .queue) (f .marks) m i)
+      {At : ℕ → List ℕ → List ℕ → Type 0} {u x : ℕ} {from : List ℕ} (f : Stopped n limit ls hs At u x from) (r : Reach n limit ls hs (v ∷ []) (f .queue) (f .marks)) (number : ℕ → ℕ)
+      (steps : (i : ℕ) → i < length (f .queue) → 1 ≤ i → SeenBefore hs (f .queue) (f .marks) number i)
     where
-      -- from each place of the queue, the gateways that holders were seen from lead to v, in no more steps than m says
-      queued-chain : (b i : ℕ) → i < b → i < length (f .queue) → (k : ℕ) × (k ≤ m i) × Chain n ls v from (p .inside) hs k (at (f .queue) i)
+      -- from each place of the queue, the gateways that holders were seen from lead to v, in no more steps than that number
+      queued-chain : (b i : ℕ) → i < b → i < length (f .queue) → (k : ℕ) × (k ≤ number i) × Chain n ls v from (p .inside) hs k (at (f .queue) i)
       unfolding Chain
       queued-chain zero i l inside = absurd (not-suc-le-zero l)
       queued-chain (suc b) i l inside =
@@ -51,14 +51,14 @@ module _ {n : ℕ} (limit : ℕ → ℕ) (ls : List ℕ) {hs : List ℕ} {v : �
           queued-cases r i inside (λ k. clash _ (eq-eqb _ _ (alone v _ k)) e)
           (λ j.
           let y : ℕ = at (f .queue) i in
-          let t : SeenBefore hs (f .queue) (f .marks) m i = steps i inside (omega (arith, j .before)) in
+          let t : SeenBefore hs (f .queue) (f .marks) number i = steps i inside (omega (arith, j .before)) in
           let a = r .along (at hs y) (ltb-true _ _ (j .isHeld)) (j .isSeen) in
           let kept : at from (at hs y) ≡ at (f .marks) (at hs y) = ap (λ (l : List ℕ). at l (at hs y)) (f .marked) ∙ mark-keeps (f .marks) u x (at hs y) (f .looks .unseen) (j .isSeen) in
           let c = queued-chain b (t .place) (omega (arith, t .before)) (omega (arith, t .before)) in
           (suc (c .0), omega (arith, c .1, t .rises), (eqb-false y v e, r .going .below i inside, j .isHeld, rw (kept, a .seer) (a .link), rw (kept ∙ t .seer) (c .2)))))
 
       -- .. and so they do from the one that the place free was seen from
-      pub stopped-chain : (k : ℕ) × (k ≤ m (f .place)) × Chain n ls v from (p .inside) hs k x
+      pub stopped-chain : (k : ℕ) × (k ≤ number (f .place)) × Chain n ls v from (p .inside) hs k x
       stopped-chain = let c = queued-chain (suc (f .place)) (f .place) (omega arith) (f .looks .inside) in (c .0, c .1, rw (f .looks .seer) at (c .2))
 
   -- by the places themselves
