@@ -27,7 +27,7 @@ use Rattle.planner.proofs.Agree.{Agrees, run-append, call-agrees, run-a
 use Rattle.planner.proofs.Demands.{tells-n}
 
 -- an accepted placing is a way of placing the next
-pub placing-of : (s : State) → callRefusal s place ≡ 0
+placing-of : (s : State) → callRefusal s place ≡ 0
     → Placing (s .small .n) (limitOf s) (linked (linksOf s)) (at (s .holders)) (at (changed s place .holders)) (at (s .order) (s .small .k))
 unfolding changed conditions limitOf
 placing-of s z =

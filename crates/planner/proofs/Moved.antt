@@ -1,19 +1,20 @@
 -- The number moved, of any record: specs/Moved.antt.
-use Prim.Native.Nat.{ℕ, zero, suc, _<_, _≤_}
-use mathlib.Core.Path.{_≡_, refl, sym, ap, _∙_}
-use mathlib.Core.Logic.{⊎-elim}
-use mathlib.Core.Bool.{true, false, not}
-use mathlib.Core.List.{List}
+use Prim.Native.Nat.{_<_}
+use mathlib.Core.Path.{_≡_, sym, ap, _∙_}
+use mathlib.Core.Bool.{Bool, true, false}
 use native.Mathlib.Omega.{arith}
 use lib.Dec.{eqb}
-use borrow.Author.Tests.{eq-eqb, ne-eqb}
+use borrow.Author.Tests.{eqb-true, eqb-false}
 use Rattle.packing.specs.Plant.{at, linked}
 use Rattle.packing.specs.Holders.{held}
-use Rattle.packing.specs.Moved.{Kept, moved, Fewest}
-use Rattle.packing.proofs.Tests.{clash, not-i, or-r}
-use Rattle.packing.proofs.Sums.{count-some}
-use Rattle.packing.proofs.Moved.{moved-none, fewest}
-use Rattle.search.proofs.Least.{placed-least}
+use Rattle.packing.specs.Moved.{Fewest}
+use Rattle.packing.proofs.Tests.{by-bool}
+use Rattle.packing.proofs.Moved.{moved-none}
+use Rattle.search.specs.Search.{placeable, holdersAfter}
+use Rattle.search.specs.Pre.{Placeable}
+use Rattle.search.specs.Moved.{movedBy, NoneMoved, NewCounted, LeastPlaced}
+use Rattle.search.proofs.Tested.{placeable-holds, holders-placed}
+use Rattle.search.proofs.Moved.{none-moved, new-counted, least-placed}
 use Rattle.sound.specs.Facts.{SoundMeans}
 use Rattle.sound.proofs.Facts.{sound-means-facts}
 use Rattle.planner.specs.State.{State, linksOf, limitOf, soundState}
@@ -21,37 +22,52 @@ use Rattle.planner.specs.Calls.{Call, link, order, place, read, conditio
 use Rattle.planner.specs.Turns.{SoundFacts}
 use Rattle.planner.specs.Kept.{heldIn, OthersKeep}
 use Rattle.planner.specs.Moved.{nextOf, NobodyMoved, NewOneMoved, FewestMoved}
-use Rattle.planner.proofs.Next.{next-placeable}
-use Rattle.planner.specs.Records.{RefusedUnchanged}
+use Rattle.planner.proofs.Next.{SoundState, next-placeable}
+use Rattle.planner.specs.Records.{PlaceGives, RefusedUnchanged}
 use Rattle.planner.proofs.Conditions.{place-allowed, place-next}
-use Rattle.planner.proofs.Records.{accepted-sound, refused-call}
-use Rattle.planner.proofs.Kept.{placing-of, others-keep}
+use Rattle.planner.proofs.Records.{accepted-sound, place-gives, refused-call}
+use Rattle.planner.proofs.Kept.{others-keep}
 
 -- a call that leaves the holders as they are moves nobody
 same-holders : (s : State) (c : Call) → call s c .state .holders ≡ s .holders → callMoves s c ≡ 0
 unfolding callMoves
 same-holders s c e = rw e (moved-none (s .small .n) (at (s .holders)))
 
--- the next of a record that takes a placing
-next-below : (s : State) → callRefusal s place ≡ 0 → nextOf s < s .small .n
-unfolding conditions
-next-below s z = let (sound, next) = accepted-sound s place z in next-placeable s sound (place-allowed (s .small .n) (s .small .k) next) .inside
+-- a record that takes a placing: the next may be placed, and the search's statements are about the holders after it
+module _ (s : State) (z : callRefusal s place ≡ 0) where
+  sound : SoundState s
+  sound = accepted-sound s place z .0
 
--- a placing that gives the next no holder left it
-left-nobody : (s : State) → callRefusal s place ≡ 0 → held (s .small .n) (at (changed s place .holders)) (nextOf s) ≡ false → moved (s .small .n) (at (s .holders)) (at (changed s place .holders)) ≡ 0
-left-nobody s z e =
-    ⊎-elim
-    (λ (kept : Kept (s .small .n) (limitOf s) (linked (linksOf s)) (at (s .holders)) (at (changed s place .holders)) (nextOf s)).
-    clash (held (s .small .n) (at (changed s place .holders)) (nextOf s)) (kept .holding (nextOf s) (next-below s z) ∙ or-r (heldIn s (nextOf s)) (eqb (nextOf s) (nextOf s)) (eq-eqb (nextOf s) (nextOf s) refl)) e)
-    (λ left. ap (moved (s .small .n) (at (s .holders))) (left .unchanged) ∙ moved-none (s .small .n) (at (s .holders))) (placing-of s z)
+  next : Placeable (s .small .n) (s .holders) (nextOf s)
+  unfolding conditions
+  next = next-placeable s sound (place-allowed (s .small .n) (s .small .k) (accepted-sound s place z .1))
 
+  may : placeable (s .small .n) (s .holders) (nextOf s) ≡ true
+  may = placeable-holds next
+
+  after : call s place .state .holders ≡ holdersAfter (s .small .n) (limitOf s) (linksOf s) (s .holders) (nextOf s)
+  unfolding call changed
+  after = rw z (sym (holders-placed (limitOf s) (linksOf s) next))
+
+  moves : callMoves s place ≡ movedBy (s .small .n) (limitOf s) (linksOf s) (s .holders) (nextOf s)
+  unfolding callMoves movedBy
+  moves = rw after
+
+  gateways : call s place .state .small .n ≡ s .small .n
+  unfolding PlaceGives call
+  gateways = place-gives s z .gateways
+
+  -- whether it is kept
+  held-next : (b : Bool) → heldIn (call s place .state) (nextOf s) ≡ b → held (s .small .n) (at (holdersAfter (s .small .n) (limitOf s) (linksOf s) (s .holders) (nextOf s))) (nextOf s) ≡ b
+  held-next b e = rw (after, gateways) at e
+
+-- "0 for one left"
 left-zero : (s : State) → heldIn (call s place .state) (nextOf s) ≡ false → callMoves s place ≡ 0
-unfolding RefusedUnchanged call callMoves changed
-left-zero s e = by (callRefusal s place) refl
-  where
-    by : (number : ℕ) → callRefusal s place ≡ number → callMoves s place ≡ 0
-    by zero z = rw z (left-nobody s z (rw z at e))
-    by (suc number) z = same-holders s place (ap (λ (x : State). x .holders) (refused-call s place (λ q. absurd (omega (arith, sym z ∙ q)))))
+unfolding RefusedUnchanged NoneMoved call
+left-zero s e =
+    by-bool (eqb (callRefusal s place) 0)
+    (λ q. let z = eqb-true _ _ q in moves s z ∙ none-moved (s .small .n) (limitOf s) (linksOf s) (s .holders) (nextOf s) .1 (held-next s z false e))
+    (λ q. same-holders s place (ap (λ (x : State). x .holders) (refused-call s place (eqb-false _ _ q))))
 
 pub nobody-moved : NobodyMoved
 unfolding NobodyMoved OthersKeep RefusedUnchanged
@@ -70,32 +86,19 @@ unfolding callRefusal soundState conditions SoundMeans
 accepts s f more =
     rw (sound-means-facts (s .small .n) (s .small .t) (s .small .m) (s .small .k) (s .links) (s .order) (s .holders) .1 f) (sym (place-next (s .small .n) (s .small .k) (λ e. omega arith)))
 
-new-moved : (s : State) (hs : List ℕ) → callRefusal s place ≡ 0 → held (s .small .n) (at hs) (nextOf s) ≡ true → (at (s .holders) (nextOf s) ≡ at hs (nextOf s) → ⊥) × (1 ≤ moved (s .small .n) (at (s .holders)) (at hs))
-unfolding moved conditions
-new-moved s hs z kept =
-    let (sound, next) = accepted-sound s place z in
-    let p = next-placeable s sound (place-allowed (s .small .n) (s .small .k) next) in
-    let other : at (s .holders) (nextOf s) ≡ at hs (nextOf s) → ⊥ = λ q. clash (heldIn s (nextOf s)) (rw q kept) (p .free) in
-    (other, count-some (s .small .n) (λ w. not (eqb (at (s .holders) w) (at hs w))) (nextOf s) (p .inside) (not-i _ (ne-eqb _ _ other)))
-
 pub new-one-moved : NewOneMoved
-unfolding NewOneMoved call callMoves changed
-new-one-moved s f more kept = let z = accepts s f more in rw z (new-moved s (changed s place .holders) z (rw z at kept))
+unfolding NewOneMoved NewCounted
+new-one-moved s f more kept =
+    let z = accepts s f more in
+    rw (after s z, moves s z) (new-counted (s .small .n) (limitOf s) (linksOf s) (s .holders) (nextOf s) (may s z) (held-next s z true kept))
 
 -- "this number is the least possible"
 pub accepted-fewest : (s : State) → callRefusal s place ≡ 0 → held (s .small .n) (at (call s place .state .holders)) (nextOf s) ≡ true
     → Fewest (s .small .n) (limitOf s) (linked (linksOf s)) (at (s .holders)) (at (call s place .state .holders)) (nextOf s) (callMoves s place)
-unfolding call callMoves changed conditions limitOf
-accepted-fewest s z e =
-    let (sound, next) = accepted-sound s place z in
-    let p = next-placeable s sound (place-allowed (s .small .n) (s .small .k) next) in
-    rw z
-    (fewest
-    (⊎-elim
-    (λ (kept : Kept (s .small .n) (limitOf s) (linked (linksOf s)) (at (s .holders)) (at (changed s place .holders)) (nextOf s)). kept)
-    (λ left. clash _ (sym (ap (λ (h : ℕ → ℕ). held (s .small .n) h (nextOf s)) (left .unchanged)) ∙ (rw z at e)) (p .free)) (placing-of s z))
-    (placed-least (limitOf s) (linksOf s) p (sound .feasible)))
+unfolding LeastPlaced limitOf
+accepted-fewest s z kept =
+    rw (after s z, moves s z) (least-placed (s .small .n) (limitOf s) (linksOf s) (s .holders) (nextOf s) (may s z) (sound s z .feasible) (rw (after s z) at kept))
 
 pub fewest-moved : FewestMoved
-unfolding FewestMoved call changed
-fewest-moved s f more kept = let z = accepts s f more in accepted-fewest s z (rw z (rw z at kept))
+unfolding FewestMoved
+fewest-moved s f more kept = let z = accepts s f more in accepted-fewest s z (rw (gateways s z) at kept)

@@ -18,7 +18,7 @@ use Rattle.search.specs.Search.{found, seen, heldBy, walk, shift, settle
 use Rattle.search.specs.Pre.{takings, Placeable}
 use Rattle.search.proofs.Queue.{append-at, heldBy-out}
 use Rattle.search.proofs.States.{by-state, unseen-below, mark-keeps, placeable-startable}
-use Rattle.search.proofs.Walking.{Looks, Stopped, walk-stops}
+use Rattle.search.proofs.Walking.{LooksAt, Stopped, walk-stops}
 use Rattle.search.proofs.Reach.{Reached, reached-start, reached-joined, reached-closed, reached-stops}
 use Rattle.search.proofs.Shifting.{shift-moved, shift-takings}
 use Rattle.search.proofs.Placing.{SeenBefore, stopped-chain, stopped-below, stopped-seer, found-chain}
@@ -37,7 +37,7 @@ module _ {n : ℕ} (limit : ℕ → ℕ) (ls : List ℕ) {hs : List ℕ} {v : �
   Apart : ℕ → List ℕ → List ℕ → Type 0
   Apart k queue from = Reached n limit ls hs (v ∷ []) k queue from × Stretches hs changedTo queue from
 
-  apart-joined : (k : ℕ) (queue from : List ℕ) → Apart k queue from → (x u : ℕ) → Looks ls queue from k x u → limit u ≤ holds n (at hs) u → Apart k (queue ++ heldBy n hs u) (set from u x)
+  apart-joined : (k : ℕ) (queue from : List ℕ) → Apart k queue from → (x u : ℕ) → LooksAt ls queue from k x u → limit u ≤ holds n (at hs) u → Apart k (queue ++ heldBy n hs u) (set from u x)
   unfolding Apart Stretches changedTo
   apart-joined k queue from (r, s) x u l most =
       (reached-joined n limit ls hs (v ∷ []) k queue from r x u l most, λ i inside one. append-at queue (heldBy n hs u) i inside (λ q e. old i one q e) (λ j q e g. new i j q e g))

@@ -18,7 +18,7 @@ use Rattle.packing.specs.Lists.{memberOf}
 use Rattle.search.specs.Search.{found, more, seen, heldBy, walk}
 use Rattle.search.specs.Pre.{Going, Startable}
 use Rattle.search.proofs.Queue.{member-place, append-at, heldBy-in, heldBy-out}
-use Rattle.search.proofs.Walking.{Looks, Stopped, RanOut, walk-stops, walk-ends}
+use Rattle.search.proofs.Walking.{LooksAt, Stopped, Ended, walk-stops, walk-ends}
 use Rattle.search.proofs.States.{gateway-some, unseen-below, unseen-start, seen-marked, seen-kept, seen-cases, mark-keeps, by-state, going-start, going-joined}
 
 -- What stands at place i of the queue joined it: its holder is seen, from a gateway that stands before it.
@@ -137,7 +137,7 @@ module _ (n : ℕ) (limit : ℕ → ℕ) (ls hs start : List ℕ) where
               }
 
   -- the invariant through the walk
-  pub reached-joined : (k : ℕ) (queue from : List ℕ) → Reached n limit ls hs start k queue from → (x u : ℕ) → Looks ls queue from k x u → limit u ≤ holds n (at hs) u
+  pub reached-joined : (k : ℕ) (queue from : List ℕ) → Reached n limit ls hs start k queue from → (x u : ℕ) → LooksAt ls queue from k x u → limit u ≤ holds n (at hs) u
       → Reached n limit ls hs start k (queue ++ heldBy n hs u) (set from u x)
   reached-joined k queue from (r, c) x u l most =
       (reach-full r x u k (l .inside) (l .seer) (l .link) (l .unseen) most, λ i b q w below a. seen-kept from u x w (l .unseen) (c i b (before i b) w below (rw (List·getD-append queue (heldBy n hs u) 0 i (before i b)) at a)))
@@ -155,7 +155,7 @@ module _ (n : ℕ) (limit : ℕ → ℕ) (ls hs start : List ℕ) where
   pub reached-stops : {u x : ℕ} {from : List ℕ} → Startable n hs start → walk n limit ls hs start ≡ found u x from → Stopped n limit ls hs (Reached n limit ls hs start) u x from
   reached-stops s = walk-stops n limit ls hs (Reached n limit ls hs start) (λ k queue from a. a .0 .going) reached-joined reached-closed (reached-start s)
 
-  reached-ends : {queue from : List ℕ} → Startable n hs start → walk n limit ls hs start ≡ more queue from → RanOut (Reached n limit ls hs start) queue from
+  reached-ends : {queue from : List ℕ} → Startable n hs start → walk n limit ls hs start ≡ more queue from → Ended (Reached n limit ls hs start) queue from
   reached-ends s = walk-ends n limit ls hs (Reached n limit ls hs start) (λ k queue from a. a .0 .going) reached-joined reached-closed (reached-start s)
 
 -- what may start a search is below n

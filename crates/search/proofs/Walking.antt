@@ -19,7 +19,7 @@ use Rattle.search.specs.Pre.{Going}
 use Rattle.search.proofs.States.{gateway-some, unseen-below, seen-marked, seen-kept, look-cases, by-state, visit-found, turns-zero, turns-found, turns-out, turns-step}
 
 -- x, at place p of the queue, looks at u, which it is linked to and nobody has seen
-pub record Looks (ls queue from : List ℕ) (p x u : ℕ) : Type 0 where
+pub record LooksAt (ls queue from : List ℕ) (p x u : ℕ) : Type 0 where
   pub inside : p < length queue
   pub seer : at queue p ≡ x
   pub link : linked ls x u ≡ true
@@ -31,19 +31,19 @@ pub record Stopped (n : ℕ) (limit : ℕ → ℕ) (ls hs : List ℕ) (At : ℕ 
   pub marks : List ℕ
   pub place : ℕ
   pub there : At place queue marks
-  pub looks : Looks ls queue marks place x u
+  pub looks : LooksAt ls queue marks place x u
   pub free : holds n (at hs) u < limit u
   pub marked : from ≡ set marks u x
 
--- a queue that ran out, with all its places taken
-pub record RanOut (At : ℕ → List ℕ → List ℕ → Type 0) (queue from : List ℕ) : Type 0 where
+-- the queue ran out, and all its places are taken
+pub record Ended (At : ℕ → List ℕ → List ℕ → Type 0) (queue from : List ℕ) : Type 0 where
   pub place : ℕ
   pub there : At place queue from
   pub taken : length queue ≤ place
 
 module _
     (n : ℕ) (limit : ℕ → ℕ) (ls hs : List ℕ) (At : ℕ → List ℕ → List ℕ → Type 0) (going : (p : ℕ) (queue from : List ℕ) → At p queue from → Going n hs queue from)
-    (joined : (p : ℕ) (queue from : List ℕ) → At p queue from → (x u : ℕ) → Looks ls queue from p x u → limit u ≤ holds n (at hs) u → At p (queue ++ heldBy n hs u) (set from u x))
+    (joined : (p : ℕ) (queue from : List ℕ) → At p queue from → (x u : ℕ) → LooksAt ls queue from p x u → limit u ≤ holds n (at hs) u → At p (queue ++ heldBy n hs u) (set from u x))
     (closed : (p : ℕ) (queue from : List ℕ) → At p queue from → p < length queue → ((u : ℕ) → linked ls (at queue p) u ≡ true → seen from u ≡ true) → At (suc p) queue from)
   where
     -- after looks at the neighbours us of x, at place p
@@ -70,7 +70,7 @@ module _
         (after-one x p from (set from u x) u us (visit n limit hs x us (more (queue ++ heldBy n hs u) (set from u x))) (λ w. seen-kept from u x w e) (marked e)
         (visit-after x p us (joined p queue from a x u (looks e) most) (omega (arith, length-append queue (heldBy n hs u))) (List·getD-append queue (heldBy n hs u) 0 p inside ∙ seer) later)))
       where
-        looks : seen from u ≡ false → Looks ls queue from p x u
+        looks : seen from u ≡ false → LooksAt ls queue from p x u
         looks e = record { inside = inside; seer = seer; link = links u (or-l (eqb u u) (memberOf us u) (eq-eqb u u refl)); unseen = e }
 
         later : (w : ℕ) → memberOf us w ≡ true → linked ls x w ≡ true
@@ -113,7 +113,7 @@ module _
     unfolding Ran
     walk-stops {start} a e = rw e at (walk-after start a)
 
-    pub walk-ends : {start queue from : List ℕ} → At 0 start (replicate n NONE) → walk n limit ls hs start ≡ more queue from → RanOut At queue from
+    pub walk-ends : {start queue from : List ℕ} → At 0 start (replicate n NONE) → walk n limit ls hs start ≡ more queue from → Ended At queue from
     unfolding Ran
     walk-ends {start} {queue} {from} a e =
         let (k, there, end) = rw e at (walk-after start a) in
