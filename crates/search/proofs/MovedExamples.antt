@@ -4,6 +4,7 @@ use mathlib.Core.Path.{_≡_, refl}
 use mathlib.Core.Logic.{⊎-elim}
 use mathlib.Core.Bool.{Bool, true, false, not, cond, _||_}
 use mathlib.Core.List.{List, [], _∷_}
+use native.Mathlib.Omega.{arith}
 use lib.Dec.{eqb, leb}
 use borrow.Author.Tests.{leb-true, not-true}
 use Rattle.packing.specs.Count.{sum, count, all}
@@ -104,7 +105,15 @@ near-kept : Kept 11 (common 2) (linked wide) (at before) (at near) 0
 unfolding sum count all common linked holds holdersWithin alongLinks alike holdsJust wide before near
 near-kept = kept-by 11 2 wide before near 0 refl refl refl
 
--- the claim for these holders, by computing alone: a search that moves three is refused here
+near-differs : differing 11 (at before) (at near) ≡ 2
+unfolding sum count differs differing before near
+near-differs = refl
+
+-- so a search that moves three here does not meet the claim
+three-refused : LeastMoved 11 (common 2) (linked wide) (at before) 0 3 → ⊥
+three-refused claim = absurd (omega (arith, claim (at near) near-kept, near-differs))
+
+-- .. and this one does: the claim for these holders, by computing alone
 nearest : leb (movedBy 11 (common 2) wide before 0) (differing 11 (at before) (at near)) ≡ true
 unfolding sum count all common neighbours holds heldBy listWhere look visit turn turns walk shift settled placedHolders holdersWithin searchable placeable holdersAfter wide before near moved movedBy differs differing
 nearest = refl
