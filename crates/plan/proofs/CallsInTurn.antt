@@ -1,7 +1,7 @@
 -- The calls that a file stands for, one after the other: the loops, and the whole.
-use Prim.Native.Nat.{ℕ, zero, suc, _+_, _*_, _<_, _≤_}
+use Prim.Native.Nat.{ℕ, _+_, _*_, _<_, _≤_}
 use mathlib.Core.Path.{_≡_, refl, sym, ap, _∙_}
-use mathlib.Core.List.{List, [], _∷_}
+use mathlib.Core.List.{List, []}
 use native.Mathlib.Numerals.{add-one}
 use native.Mathlib.Omega.{arith}
 use lib.ListN.{length, take, drop, replicate, length-replicate, drop-of-length-le}
@@ -15,12 +15,10 @@ use Rattle.planner.specs.declared.Answer.{Answer}
 use Rattle.planner.specs.declared.PlaceAnswer.{PlaceAnswer}
 use Rattle.planner.specs.State.{State, stateOf}
 use Rattle.planner.specs.Calls.{answerOf, openCall, link, order, place, call, callMoves, placeAnswerOf, readLeaders, readChoke}
-use Rattle.planner.specs.Run.{afterOpen, run, runMoves, linkCalls, placeCalls, plantCalls}
+use Rattle.planner.specs.Run.{afterOpen, run, runMoves, linkCalls, placeCalls}
 use Rattle.planner.specs.Claims.{madeBy}
-use Rattle.planner.proofs.Agree.{run-append}
-use Rattle.planner.specs.Moved.{NobodyMoved}
-use Rattle.planner.proofs.Moved.{nobody-moved}
-use Rattle.planner.proofs.MovedSums.{moves-append, links-move, moves-last, moves-fit}
+use Rattle.planner.proofs.MovedSums.{moves-last, moves-fit}
+use Rattle.planner.proofs.Filled.{filled, plant-run, plant-moves, place-last}
 use Rattle.planner.proofs.Outcomes.{open-links, link-state, order-state, place-state}
 use Rattle.plant_file.specs.declared.reader.Step.{Step}
 use Rattle.plant_file.specs.declared.reader.Step.the-variants.{Link, End}
@@ -93,11 +91,6 @@ pub record Places (n : ℕ) (first now : State) (moved i : ℕ) : Type 0 where
   pub is : now ≡ run first (placeCalls i)
   pub moves : moved ≡ runMoves first (placeCalls i)
 
-pub place-last : (s : State) (i : ℕ) → run s (placeCalls (suc i)) ≡ call (run s (placeCalls i)) place .state
-unfolding run placeCalls
-place-last s zero = refl
-place-last s (suc i) = place-last (call s place .state) i
-
 module _ (n : ℕ) {first : State} where
   pub places-start : Places n first first 0 0
   unfolding run runMoves placeCalls
@@ -127,10 +120,6 @@ module _ (n : ℕ) {first : State} where
       last : Places n first now moved i → n ≤ i → i ≡ n
       last d h = omega arith
 
--- the record after the file's open
-start : List ℕ → List ℕ → List ℕ → List ℕ → State
-start file ls os hs = afterOpen (fileN file) (fileT file) ls os hs
-
 -- open, and all the calls
 module _
     (file : List ℕ) (k : ℕ) (ls os hs : List ℕ) {n t : ℕ} {ls₂ os₁ os₃ hs₁ : List ℕ} {r : Answer} {s₂ s₃ : Small} (en : n ≡ fileN file) (et : t ≡ fileT file)
@@ -138,29 +127,19 @@ module _
     (links : stateOf s₂ ls₂ os₁ hs₁ ≡ run (stateOf (r .small) ls os₁ hs₁) (linkCalls (fileLinks file)))
     (orders : stateOf s₃ ls₂ os₃ hs₁ ≡ call (stateOf s₂ ls₂ os₁ hs₁) (order (fileOrder file)) .state)
   where
-    begun : stateOf (r .small) ls os₁ hs₁ ≡ start file ls os hs
-    unfolding start
+    begun : stateOf (r .small) ls os₁ hs₁ ≡ afterOpen (fileN file) (fileT file) ls os hs
     begun = let opened : stateOf (r .small) ls os₁ hs₁ ≡ afterOpen n t ls os hs = rw (er, eo, eh) (open-links n t ls os hs) in rw (en, et) at opened
 
-    filled : stateOf s₃ ls₂ os₃ hs₁ ≡ call (run (start file ls os hs) (linkCalls (fileLinks file))) (order (fileOrder file)) .state
-    filled = orders ∙ ap (λ (x : State). call x (order (fileOrder file)) .state) (links ∙ ap (λ (x : State). run x (linkCalls (fileLinks file))) begun)
+    full : stateOf s₃ ls₂ os₃ hs₁ ≡ filled (afterOpen (fileN file) (fileT file) ls os hs) (fileLinks file) (fileOrder file)
+    full = orders ∙ ap (λ (x : State). call x (order (fileOrder file)) .state) (links ∙ ap (λ (x : State). run x (linkCalls (fileLinks file))) begun)
 
     pub all-made : {hs₄ : List ℕ} {s₄ : Small} → stateOf s₄ ls₂ os₃ hs₄ ≡ run (stateOf s₃ ls₂ os₃ hs₁) (placeCalls k) → stateOf s₄ ls₂ os₃ hs₄ ≡ madeBy (fileN file) (fileT file) ls os hs (callsAfter file k)
-    unfolding callsAfter plantCalls run start
-    all-made places = places ∙ ap (λ (x : State). run x (placeCalls k)) filled ∙ sym (run-append (start file ls os hs) (linkCalls (fileLinks file)) (order (fileOrder file) ∷ placeCalls k))
+    unfolding callsAfter
+    all-made places = places ∙ ap (λ (x : State). run x (placeCalls k)) full ∙ sym (plant-run (afterOpen (fileN file) (fileT file) ls os hs) (fileLinks file) (fileOrder file) k)
 
-    -- only the placings move gateways
     pub all-moves : {m : ℕ} → m ≡ runMoves (stateOf s₃ ls₂ os₃ hs₁) (placeCalls k) → m ≡ runMoves (afterOpen (fileN file) (fileT file) ls os hs) (callsAfter file k)
-    unfolding callsAfter plantCalls runMoves start NobodyMoved
-    all-moves places =
-        omega (
-          arith,
-          places,
-          ap (λ (x : State). runMoves x (placeCalls k)) filled,
-          moves-append (start file ls os hs) (linkCalls (fileLinks file)) (order (fileOrder file) ∷ placeCalls k),
-          links-move (start file ls os hs) (fileLinks file),
-          nobody-moved (run (start file ls os hs) (linkCalls (fileLinks file))) .3 (fileOrder file),
-        )
+    unfolding callsAfter
+    all-moves places = places ∙ ap (λ (x : State). runMoves x (placeCalls k)) full ∙ sym (plant-moves (afterOpen (fileN file) (fileT file) ls os hs) (fileLinks file) (fileOrder file) k)
 
 -- the record made with lists of 0 is the file's after k placings, and so is what a read of it writes
 module _ (file : List ℕ) (k : ℕ) {ls os hs : List ℕ} (els : ls ≡ replicate ENDS 0) (eos : os ≡ replicate GATEWAYS 0) (ehs : hs ≡ replicate GATEWAYS 0) where

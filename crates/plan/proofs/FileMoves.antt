@@ -2,7 +2,7 @@
 use Prim.Native.Nat.{ℕ, zero, suc, _+_, _<_, _≤_}
 use mathlib.Core.Path.{_≡_, refl, sym, ap, _∙_}
 use mathlib.Core.Bool.{true, false}
-use mathlib.Core.List.{List, _∷_}
+use mathlib.Core.List.{List}
 use native.Mathlib.Numerals.{add-one}
 use native.Mathlib.Omega.{arith}
 use lib.ListN.{length}
@@ -12,49 +12,41 @@ use Rattle.packing.specs.Moved.{Fewest}
 use Rattle.planner.specs.declared.Small.{Small}
 use Rattle.planner.specs.State.{State}
 use Rattle.planner.specs.Calls.{order, place, call, callMoves}
-use Rattle.planner.specs.Run.{afterOpen, run, runMoves, linkCalls, placeCalls, plantCalls}
+use Rattle.planner.specs.Run.{afterOpen, run, runMoves, placeCalls}
 use Rattle.planner.specs.Claims.{FewestMovedOf, FewestMovedTold}
 use Rattle.planner.specs.Moved.{NobodyMoved}
-use Rattle.planner.proofs.Agree.{run-append}
 use Rattle.planner.proofs.Moved.{nobody-moved}
 use Rattle.planner.proofs.MovedTold.{fewest-told}
-use Rattle.planner.proofs.MovedSums.{moves-append, links-move, moves-last, moves-fit}
+use Rattle.planner.proofs.MovedSums.{moves-last, moves-fit}
+use Rattle.planner.proofs.Filled.{filled, plant-run, plant-moves, place-last}
 use Rattle.plant_file.specs.PlantFile.{fileN, fileT, fileLinks, fileOrder, fileRefusal}
 use Rattle.plan.specs.Plan.{callsAfter, stateAfter, movesAfter}
 use Rattle.plan.specs.After.{planMovesAfter}
 use Rattle.plan.specs.Claim.{placingMoves, placingKeeps, SumOfFewest, FileMoves, MovesFit}
-use Rattle.plan.proofs.CallsInTurn.{place-last}
 use Rattle.plan.proofs.Refusing.{plan-places}
 use Rattle.plan.proofs.ToldByFile.{placedTold}
 use Rattle.plan.proofs.After.{ownLinks, own, file-open, file-told, file-agrees}
 
--- the record that the links and the order make
-filled : List ℕ → State
-filled file = call (run (afterOpen (fileN file) (fileT file) ownLinks own own) (linkCalls (fileLinks file))) (order (fileOrder file)) .state
+-- the record that the file's links and order make, and what its placings make of it
+full : List ℕ → State
+full file = filled (afterOpen (fileN file) (fileT file) ownLinks own own) (fileLinks file) (fileOrder file)
 
-state-is : (file : List ℕ) (k : ℕ) → stateAfter file k ≡ run (filled file) (placeCalls k)
-unfolding stateAfter callsAfter plantCalls filled run
-state-is file k = run-append (afterOpen (fileN file) (fileT file) ownLinks own own) (linkCalls (fileLinks file)) (order (fileOrder file) ∷ placeCalls k)
+state-is : (file : List ℕ) (k : ℕ) → stateAfter file k ≡ run (full file) (placeCalls k)
+unfolding stateAfter callsAfter full
+state-is file k = plant-run (afterOpen (fileN file) (fileT file) ownLinks own own) (fileLinks file) (fileOrder file) k
 
-moves-are : (file : List ℕ) (k : ℕ) → movesAfter file k ≡ runMoves (filled file) (placeCalls k)
-unfolding movesAfter callsAfter plantCalls filled runMoves NobodyMoved
-moves-are file k =
-    let start : State = afterOpen (fileN file) (fileT file) ownLinks own own in
-    omega (
-      arith,
-      moves-append start (linkCalls (fileLinks file)) (order (fileOrder file) ∷ placeCalls k),
-      links-move start (fileLinks file),
-      nobody-moved (run start (linkCalls (fileLinks file))) .3 (fileOrder file),
-    )
+moves-are : (file : List ℕ) (k : ℕ) → movesAfter file k ≡ runMoves (full file) (placeCalls k)
+unfolding movesAfter callsAfter full
+moves-are file k = plant-moves (afterOpen (fileN file) (fileT file) ownLinks own own) (fileLinks file) (fileOrder file) k
 
 -- the sum has 32 bits, whatever the file
 pub file-moves-fit : MovesFit
 unfolding MovesFit
-file-moves-fit file k = rw (moves-are file k) (moves-fit (filled file) k)
+file-moves-fit file k = rw (moves-are file k) (moves-fit (full file) k)
 
 -- one placing more
 state-next : (file : List ℕ) (k : ℕ) → stateAfter file (k + 1) ≡ call (stateAfter file k) place .state
-state-next file k = state-is file (k + 1) ∙ rw (add-one k) (place-last (filled file) k) ∙ ap (λ (s : State). call s place .state) (sym (state-is file k))
+state-next file k = state-is file (k + 1) ∙ rw (add-one k) (place-last (full file) k) ∙ ap (λ (s : State). call s place .state) (sym (state-is file k))
 
 module _ (file : List ℕ) (z : fileRefusal file ≡ 0) where
   few : (k : ℕ) → k ≤ fileN file → stateAfter file k .small .n ≡ fileN file
@@ -74,7 +66,7 @@ module _ (file : List ℕ) (z : fileRefusal file ≡ 0) where
       omega (
         arith,
         moves-are file (suc k),
-        moves-last (filled file) k,
+        moves-last (full file) k,
         moves-are file k,
         ap (λ (s : State). callMoves s place) (state-is file k),
         placing-is k (omega arith),

@@ -12,6 +12,7 @@ pub mod Demands
 pub mod Kept
 pub mod Moved
 pub mod MovedSums
+pub mod Filled
 pub mod LeftNext
 pub mod MovedTold
 pub mod Table
