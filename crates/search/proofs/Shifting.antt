@@ -136,14 +136,22 @@ module _ (n : ℕ) (ls : List ℕ) (v : ℕ) (from : List ℕ) (inside : v < n) 
   chain-unique hs (suc j) zero x c d = absurd (c .0 d)
   chain-unique hs (suc j) (suc k) x c d = ap suc (chain-unique hs j k (at from (at hs x)) (c .4) (d .4))
 
+  -- a gateway that is further from v is another one
+  chain-apart : (hs : List ℕ) (j k x y : ℕ) → Chain hs j x → Chain hs k y → k < j → y ≡ x → ⊥
+  chain-apart hs j k x y c d l q = let same : j ≡ k = chain-unique hs j k x c (rw q at d) in omega arith
+
   -- a shorter chain does not pass x, so it stays when x changes its holder
   chain-kept : (hs : List ℕ) (x u j : ℕ) → Chain hs j x → (k y : ℕ) → k < j → Chain hs k y → Chain (set hs x u) k y
   unfolding Chain
   chain-kept hs x u j c zero y l d = d
   chain-kept hs x u j c (suc k) y l d =
-      let other : y ≡ x → ⊥ = λ q. (let same : j ≡ suc k = chain-unique hs j (suc k) x c (unfold Chain in rw q at d) in omega arith) in
-      let same : at (set hs x u) y ≡ at hs y = getD-set-other hs x y u 0 other in
+      let same : at (set hs x u) y ≡ at hs y = getD-set-other hs x y u 0 (chain-apart hs j (suc k) x y c (unfold Chain in d) l) in
       (d .0, d .1, rw same (d .2), rw same (d .3), rw same (chain-kept hs x u j c k (at from (at hs y)) (omega arith) (d .4)))
+
+  -- .. as the chain from the next one does
+  chain-next : (hs : List ℕ) (x u k : ℕ) → Chain hs (suc k) x → Chain (set hs x u) k (at from (at hs x))
+  unfolding Chain
+  chain-next hs x u k c = chain-kept hs x u (suc k) (unfold Chain in c) k (at from (at hs x)) (omega arith) (c .4)
 
   -- the k steps from x do not pass y
   Off : List ℕ → ℕ → ℕ → ℕ → Type 0
@@ -153,17 +161,15 @@ module _ (n : ℕ) (ls : List ℕ) (v : ℕ) (from : List ℕ) (inside : v < n) 
   -- .. where y is further from v than x
   off-shorter : (hs : List ℕ) (j y : ℕ) → Chain hs j y → (k x : ℕ) → k < j → Chain hs k x → Off hs k x y
   unfolding Off Chain
-  off-shorter hs j y d zero x l c = λ q. (let same : zero ≡ j = chain-unique hs zero j x (unfold Chain in c) (rw q d) in omega arith)
-  off-shorter hs j y d (suc k) x l c =
-      (λ q. (let same : suc k ≡ j = chain-unique hs (suc k) j x (unfold Chain in c) (rw q d) in omega arith), off-shorter hs j y d k (at from (at hs x)) (omega arith) (c .4))
+  off-shorter hs j y d zero x l c = chain-apart hs j zero y x d (unfold Chain in c) l
+  off-shorter hs j y d (suc k) x l c = (chain-apart hs j (suc k) y x d (unfold Chain in c) l, off-shorter hs j y d k (at from (at hs x)) (omega arith) (c .4))
 
   -- .. and so it stays when one further from v changes its holder
   off-kept : (hs : List ℕ) (z u j : ℕ) → Chain hs j z → (y k x : ℕ) → k < j → Chain hs k x → Off hs k x y → Off (set hs z u) k x y
   unfolding Off Chain
   off-kept hs z u j d y zero x l c o = o
   off-kept hs z u j d y (suc k) x l c o =
-      let other : x ≡ z → ⊥ = λ q. (let same : suc k ≡ j = chain-unique hs (suc k) j x (unfold Chain in c) (rw q d) in omega arith) in
-      let same : at (set hs z u) x ≡ at hs x = getD-set-other hs z x u 0 other in
+      let same : at (set hs z u) x ≡ at hs x = getD-set-other hs z x u 0 (chain-apart hs j (suc k) z x d (unfold Chain in c) l) in
       (o .0, rw same (off-kept hs z u j d y k (at from (at hs x)) (omega arith) (c .4) (o .1)))
 
   -- who is not passed keeps its holder
@@ -173,7 +179,7 @@ module _ (n : ℕ) (ls : List ℕ) (v : ℕ) (from : List ℕ) (inside : v < n) 
   shift-off (suc fuel) zero hs u x y c o = rw (eq-eqb x v c) (getD-set-other hs x y u 0 (λ q. o (sym q)))
   shift-off (suc fuel) (suc k) hs u x y c o =
       rw (ne-eqb x v (c .0))
-      (shift-off fuel k (set hs x u) (at hs x) (at from (at hs x)) y (chain-kept hs x u (suc k) c k (at from (at hs x)) (omega arith) (c .4))
+      (shift-off fuel k (set hs x u) (at hs x) (at from (at hs x)) y (chain-next hs x u k c)
       (off-kept hs x u (suc k) c y k (at from (at hs x)) (omega arith) (c .4) (o .1)) ∙ getD-set-other hs x y u 0 (λ q. o .0 (sym q)))
 
   -- a gateway that was seen from x does not hold x: else the chain from x came back to x
@@ -193,7 +199,7 @@ module _ (n : ℕ) (ls : List ℕ) (v : ℕ) (from : List ℕ) (inside : v < n) 
       (moved-one n (at hs) (at (set hs x u)) (at (set hs x u)) x inside' (λ w other. taken-other n hs x u long inside' w other) refl
       (λ q. not-its-holder hs zero u x below free seer (unfold Chain in c) (q ∙ taken-here n hs x u long inside')) ∙ ap suc (moved-none n (at (set hs x u))))
   shift-moved (suc fuel) (suc k) hs u x l long below free seer c =
-      let next : Chain (set hs x u) k (at from (at hs x)) = chain-kept hs x u (suc k) c k (at from (at hs x)) (omega arith) (c .4) in
+      let next : Chain (set hs x u) k (at from (at hs x)) = chain-next hs x u k c in
       let stays : at (shift fuel v from (at hs x) (at from (at hs x)) (set hs x u)) x ≡ at (set hs x u) x =
       shift-off fuel k (set hs x u) (at hs x) (at from (at hs x)) x next (off-kept hs x u (suc k) c x k (at from (at hs x)) (omega arith) (c .4) (off-shorter hs (suc k) x c k (at from (at hs x)) (omega arith) (c .4))) in
       rw (ne-eqb x v (c .0))
@@ -211,7 +217,7 @@ module _ (n : ℕ) (ls : List ℕ) (v : ℕ) (from : List ℕ) (inside : v < n) 
   shift-any P step (suc fuel) zero hs u x below c p = rw (eq-eqb x v c) (step hs x u (rw c inside) below p)
   shift-any P step (suc fuel) (suc k) hs u x below c p =
       rw (ne-eqb x v (c .0))
-      (shift-any P step fuel k (set hs x u) (at hs x) (at from (at hs x)) (ltb-true _ _ (c .2)) (chain-kept hs x u (suc k) c k (at from (at hs x)) (omega arith) (c .4)) (step hs x u (c .1) below p))
+      (shift-any P step fuel k (set hs x u) (at hs x) (at from (at hs x)) (ltb-true _ _ (c .2)) (chain-next hs x u k c) (step hs x u (c .1) below p))
 
   -- v has a holder then
   pub shift-held : (fuel k : ℕ) (hs : List ℕ) (u x : ℕ) → k < fuel → n ≤ length hs → u < n → Chain hs k x → held n (at (shift fuel v from u x hs)) v ≡ true
@@ -220,7 +226,7 @@ module _ (n : ℕ) (ls : List ℕ) (v : ℕ) (from : List ℕ) (inside : v < n) 
   shift-held (suc fuel) zero hs u x l long below c = rw (eq-eqb x v c, c, taken-here n hs v u long inside) (lt-ltb u n below)
   shift-held (suc fuel) (suc k) hs u x l long below c =
       rw (ne-eqb x v (c .0))
-      (shift-held fuel k (set hs x u) (at hs x) (at from (at hs x)) (omega arith) (rw length-set long) (ltb-true _ _ (c .2)) (chain-kept hs x u (suc k) c k (at from (at hs x)) (omega arith) (c .4)))
+      (shift-held fuel k (set hs x u) (at hs x) (at from (at hs x)) (omega arith) (rw length-set long) (ltb-true _ _ (c .2)) (chain-next hs x u k c))
 
   -- .. and so many are taken
   pub shift-takings : (fuel k : ℕ) (hs : List ℕ) (u x : ℕ) → k < fuel → Chain hs k x → takings fuel v from u x hs ≡ suc k
@@ -228,7 +234,7 @@ module _ (n : ℕ) (ls : List ℕ) (v : ℕ) (from : List ℕ) (inside : v < n) 
   shift-takings zero k hs u x l c = absurd (not-suc-le-zero l)
   shift-takings (suc fuel) zero hs u x l c = rw (eq-eqb x v c)
   shift-takings (suc fuel) (suc k) hs u x l c =
-      rw (ne-eqb x v (c .0)) (ap suc (shift-takings fuel k (set hs x u) (at hs x) (at from (at hs x)) (omega arith) (chain-kept hs x u (suc k) c k (at from (at hs x)) (omega arith) (c .4))))
+      rw (ne-eqb x v (c .0)) (ap suc (shift-takings fuel k (set hs x u) (at hs x) (at from (at hs x)) (omega arith) (chain-next hs x u k c)))
 
   -- The shift: the holders so far are feasible, and u has a place free.
   pub shift-kept : {limit : ℕ → ℕ} (fuel k : ℕ) (hs : List ℕ) (u x : ℕ) → k < fuel → n ≤ length hs → u < n → Chain hs k x → linked ls x u ≡ true
@@ -244,7 +250,7 @@ module _ (n : ℕ) (ls : List ℕ) (v : ℕ) (from : List ℕ) (inside : v < n) 
   shift-kept {limit} (suc fuel) (suc k) hs u x l long below c link f free =
       let old : at hs x < n = ltb-true _ _ (c .2) in
       let r : Kept n limit (linked ls) (at (set hs x u)) (at (shift fuel v from (at hs x) (at from (at hs x)) (set hs x u))) v =
-      shift-kept fuel k (set hs x u) (at hs x) (at from (at hs x)) (omega arith) (rw length-set long) old (chain-kept hs x u (suc k) c k (at from (at hs x)) (omega arith) (c .4)) (c .3)
+      shift-kept fuel k (set hs x u) (at hs x) (at from (at hs x)) (omega arith) (rw length-set long) old (chain-next hs x u k c) (c .3)
       (taken-feasible n hs x u long (c .1) f free link) (taken-frees n hs x u long (c .1) f free old) in
       rw (ne-eqb x v (c .0))
       (record {
