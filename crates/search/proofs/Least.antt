@@ -13,15 +13,14 @@ use Rattle.packing.specs.Holders.{holds, Feasible}
 use Rattle.packing.specs.Moved.{Kept, moved, differs, differing, LeastMoved}
 use Rattle.packing.proofs.Lists.{member-at}
 use Rattle.packing.proofs.Moved.{moved-none}
-use Rattle.packing.proofs.Sums.{count-bound}
 use Rattle.search.specs.Search.{found, seen, heldBy, walk, shift, settled, placedHolders}
 use Rattle.search.specs.Pre.{takings, Placeable}
 use Rattle.search.proofs.Queue.{append-at, heldBy-out}
 use Rattle.search.proofs.States.{by-state, unseen-below, mark-keeps, placeable-startable}
 use Rattle.search.proofs.Walking.{LooksAt, Stopped, walk-stops}
-use Rattle.search.proofs.Reach.{Reached, reached-start, reached-joined, reached-closed, reached-stops}
-use Rattle.search.proofs.Shifting.{shift-moved, shift-takings}
-use Rattle.search.proofs.Placing.{SeenBefore, stopped-chain, stopped-below, stopped-seer, found-chain}
+use Rattle.search.proofs.Reach.{Reached, reached-start, reached-joined, reached-closed}
+use Rattle.search.proofs.Shifting.{chain-unique, shift-moved, shift-takings}
+use Rattle.search.proofs.Placing.{SeenBefore, stopped-chain, walk-found}
 use Rattle.search.proofs.Cuts.{changes, changes-more, changes-all, changes-front, cut}
 
 -- from the place that a gateway came from to its own, one more is changed
@@ -87,19 +86,22 @@ module _ {n : ℕ} (limit : ℕ → ℕ) (ls : List ℕ) {hs : List ℕ} {v : �
       let w = apart-stops e in
       let (r, s) = w .there in
       let (k, most, c) = stopped-chain limit ls p w (r .0) (changedTo (w .queue)) s in
-      let below = stopped-below limit ls p w (r .0) in
-      let last = cut limit ls p f h' other (w .place) (w .queue) (w .marks) r (omega (arith, w .looks .inside)) in
-      let all = changes-all n (differs n (at hs) h') (w .queue) (length (w .queue)) in
-      omega (arith, shift-moved n ls v from (p .inside) n k hs u x (omega (arith, most, last, all, count-bound n (differs n (at hs) h'))) (p .holders) below (p .free) (stopped-seer limit ls p w (r .0)) c, most, last, all)
+      let g = walk-found limit ls p e in
+      omega (
+        arith,
+        shift-moved n ls v from (p .inside) n (g .steps) hs u x (g .few) (p .holders) (g .below) (p .free) (g .seer) (g .chain),
+        chain-unique n ls v from (p .inside) hs (g .steps) k x (g .chain) c,
+        most,
+        cut limit ls p f h' other (w .place) (w .queue) (w .marks) r (omega (arith, w .looks .inside)),
+        changes-all n (differs n (at hs) h') (w .queue) (length (w .queue)),
+      )
 
 -- where the walk found a place free, each taking moves one
 pub found-moved : {n : ℕ} (limit : ℕ → ℕ) (ls : List ℕ) {hs : List ℕ} {v u x : ℕ} {from : List ℕ} → Placeable n hs v → walk n limit ls hs (v ∷ []) ≡ found u x from
     → takings n v from u x hs ≡ moved n (at hs) (at (shift n v from u x hs))
 found-moved {n} limit ls {hs} {v} {u} {x} {from} p e =
-    let w = reached-stops n limit ls hs (v ∷ []) (placeable-startable p) e in
-    let (k, few, c) = found-chain limit ls p w in
-    shift-takings n ls v from (p .inside) n k hs u x few c
-    ∙ sym (shift-moved n ls v from (p .inside) n k hs u x few (p .holders) (stopped-below limit ls p w (w .there .0)) (p .free) (stopped-seer limit ls p w (w .there .0)) c)
+    let w = walk-found limit ls p e in
+    shift-takings n ls v from (p .inside) n (w .steps) hs u x (w .few) (w .chain) ∙ sym (shift-moved n ls v from (p .inside) n (w .steps) hs u x (w .few) (p .holders) (w .below) (p .free) (w .seer) (w .chain))
 
 -- "this number is the least possible"; one that is left moves nobody
 pub placed-least : {n : ℕ} (limit : ℕ → ℕ) (ls : List ℕ) {hs : List ℕ} {v : ℕ} → Placeable n hs v → Feasible n limit (linked ls) (at hs)

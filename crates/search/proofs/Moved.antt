@@ -15,10 +15,9 @@ use Rattle.packing.proofs.Moved.{moved-none, fewest}
 use Rattle.search.specs.Search.{walk, settled, placeable, placedHolders, holdersAfter}
 use Rattle.search.specs.Moved.{movedBy, NoneMoved, NewCounted, LeastPlaced}
 use Rattle.search.specs.Pre.{Placeable}
-use Rattle.search.proofs.States.{by-state, placeable-startable}
-use Rattle.search.proofs.Reach.{reached-stops}
+use Rattle.search.proofs.States.{by-state}
 use Rattle.search.proofs.Shifting.{shift-held}
-use Rattle.search.proofs.Placing.{found-chain, stopped-below, place-is}
+use Rattle.search.proofs.Placing.{walk-found, place-is}
 use Rattle.search.proofs.Least.{placed-least}
 use Rattle.search.proofs.Tested.{placeable-means, holders-placed}
 
@@ -27,10 +26,8 @@ left-none : {n : ℕ} (limit : ℕ → ℕ) (ls : List ℕ) {hs : List ℕ} {v :
 unfolding placedHolders settled
 left-none {n} limit ls {hs} {v} p e =
     by-state (walk n limit ls hs (v ∷ []))
-    (λ u x from q.
-    let w = reached-stops n limit ls hs (v ∷ []) (placeable-startable p) q in
-    let (k, few, c) = found-chain limit ls p w in
-    clash _ (shift-held n ls v from (p .inside) n k hs u x few (p .holders) (stopped-below limit ls p w (w .there .0)) c) (rw q at e)) (λ queue from q. rw q (moved-none n (at hs)))
+    (λ u x from q. let w = walk-found limit ls p q in clash _ (shift-held n ls v from (p .inside) n (w .steps) hs u x (w .few) (p .holders) (w .below) (w .chain)) (rw q at e))
+    (λ queue from q. rw q (moved-none n (at hs)))
 
 pub none-moved : NoneMoved
 unfolding NoneMoved movedBy holdersAfter

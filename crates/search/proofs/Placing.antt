@@ -11,7 +11,7 @@ use lib.ListN.{length, set, drop}
 use lib.Seq.{drop-set-lt, getD-set-same, getD-set-other, set-out}
 use borrow.Author.Tests.{eqb-true, eqb-false, eq-eqb, lt-ltb, ltb-true, ltb-false}
 use Rattle.packing.specs.Plant.{NONE, at, linked}
-use Rattle.packing.specs.Holders.{held, Feasible}
+use Rattle.packing.specs.Holders.{held, holds, Feasible}
 use Rattle.packing.specs.Moved.{Kept}
 use Rattle.packing.proofs.Tests.{by-bool, clash, or-cases, or-l}
 use Rattle.packing.specs.Lists.{memberOf}
@@ -20,7 +20,7 @@ use Rattle.search.specs.Search.{found, more, seen, walk, settled, placed
 use Rattle.search.specs.Pre.{Placeable}
 use Rattle.search.proofs.States.{by-state, unseen-below, mark-keeps, placeable-startable}
 use Rattle.search.proofs.Walking.{Stopped}
-use Rattle.search.proofs.Reach.{Reach, Reached, queued-cases, walk-exhausted, reached-stops}
+use Rattle.search.proofs.Reach.{Reach, queued-cases, walk-exhausted, reached-stops}
 use Rattle.search.proofs.Shifting.{Chain, shift-any, shift-kept, shift-length}
 
 -- the list of v alone
@@ -34,6 +34,16 @@ pub record SeenBefore (hs queue from : List ℕ) (number : ℕ → ℕ) (i : ℕ
   pub before : place < i
   pub seer : at from (at hs (at queue i)) ≡ at queue place
   pub rises : number place < number i
+
+-- What the shift needs of a search for v that found a place free at u, looked at from x.
+pub record FoundFrom (n : ℕ) (limit : ℕ → ℕ) (ls hs : List ℕ) (v : ℕ) (inside : v < n) (u x : ℕ) (from : List ℕ) : Type 0 where
+  pub steps : ℕ
+  pub few : steps < n
+  pub chain : Chain n ls v from inside hs steps x
+  pub below : u < n
+  pub seer : at from u ≡ x
+  pub link : linked ls x u ≡ true
+  pub free : holds n (at hs) u < limit u
 
 module _ {n : ℕ} (limit : ℕ → ℕ) (ls : List ℕ) {hs : List ℕ} {v : ℕ} (p : Placeable n hs v) where
   -- a search for v that found a place free
@@ -61,27 +71,35 @@ module _ {n : ℕ} (limit : ℕ → ℕ) (ls : List ℕ) {hs : List ℕ} {v : �
       pub stopped-chain : (k : ℕ) × (k ≤ number (f .place)) × Chain n ls v from (p .inside) hs k x
       stopped-chain = let c = queued-chain (suc (f .place)) (f .place) (omega arith) (f .looks .inside) in (c .0, c .1, rw (f .looks .seer) at (c .2))
 
-  -- by the places themselves
-  pub found-chain : {u x : ℕ} {from : List ℕ} → Stopped n limit ls hs (Reached n limit ls hs (v ∷ [])) u x from → (k : ℕ) × (k < n) × Chain n ls v from (p .inside) hs k x
-  found-chain f =
-      let r = f .there .0 in
-      let c = stopped-chain f r (λ i. i) (λ i l k. let j = r .joins i l k in record { place = j .place; before = j .before; seer = j .seer; rises = j .before }) in
-      (c .0, omega (arith, c .1, f .looks .inside, r .going .room), c .2)
-
   -- u is a gateway, and seen from x
-  pub stopped-below : {At : ℕ → List ℕ → List ℕ → Type 0} {u x : ℕ} {from : List ℕ} (f : Stopped n limit ls hs At u x from) → Reach n limit ls hs (v ∷ []) (f .queue) (f .marks) → u < n
+  stopped-below : {At : ℕ → List ℕ → List ℕ → Type 0} {u x : ℕ} {from : List ℕ} (f : Stopped n limit ls hs At u x from) → Reach n limit ls hs (v ∷ []) (f .queue) (f .marks) → u < n
   stopped-below {u = u} f r = unseen-below (f .marks) u (r .going .marks) (f .looks .unseen)
 
-  pub stopped-seer : {At : ℕ → List ℕ → List ℕ → Type 0} {u x : ℕ} {from : List ℕ} (f : Stopped n limit ls hs At u x from) → Reach n limit ls hs (v ∷ []) (f .queue) (f .marks) → at from u ≡ x
+  stopped-seer : {At : ℕ → List ℕ → List ℕ → Type 0} {u x : ℕ} {from : List ℕ} (f : Stopped n limit ls hs At u x from) → Reach n limit ls hs (v ∷ []) (f .queue) (f .marks) → at from u ≡ x
   stopped-seer {u = u} {x} f r = ap (λ (l : List ℕ). at l u) (f .marked) ∙ getD-set-same (f .marks) u x 0 (rw (r .going .marks) (stopped-below f r))
+
+  -- by the places themselves
+  pub walk-found : {u x : ℕ} {from : List ℕ} → walk n limit ls hs (v ∷ []) ≡ found u x from → FoundFrom n limit ls hs v (p .inside) u x from
+  walk-found e =
+      let w = reached-stops n limit ls hs (v ∷ []) (placeable-startable p) e in
+      let r = w .there .0 in
+      let c = stopped-chain w r (λ i. i) (λ i l k. let j = r .joins i l k in record { place = j .place; before = j .before; seer = j .seer; rises = j .before }) in
+      record {
+        steps = c .0;
+        few = omega (arith, c .1, w .looks .inside, r .going .room);
+        chain = c .2;
+        below = stopped-below w r;
+        seer = stopped-seer w r;
+        link = w .looks .link;
+        free = w .free;
+      }
 
   -- v is kept where the walk found a place free
   place-kept : {u x : ℕ} {from : List ℕ} → Feasible n limit (linked ls) (at hs) → walk n limit ls hs (v ∷ []) ≡ found u x from → Kept n limit (linked ls) (at hs) (at (placedHolders n limit ls hs v)) v
   unfolding placedHolders settled
   place-kept {u} {x} {from} f e =
-      let w = reached-stops n limit ls hs (v ∷ []) (placeable-startable p) e in
-      let c = found-chain w in
-      rw e (shift-kept n ls v from (p .inside) n (c .0) hs u x (c .1) (p .holders) (stopped-below w (w .there .0)) (c .2) (w .looks .link) f (w .free))
+      let w = walk-found e in
+      rw e (shift-kept n ls v from (p .inside) n (w .steps) hs u x (w .few) (p .holders) (w .below) (w .chain) (w .link) f (w .free))
 
   -- v is left where the queue ran out
   place-left : {queue from : List ℕ} → Feasible n limit (linked ls) (at hs) → walk n limit ls hs (v ∷ []) ≡ more queue from → Left n limit (linked ls) (at hs) (at (placedHolders n limit ls hs v)) v
@@ -112,9 +130,8 @@ module _ {n : ℕ} (limit : ℕ → ℕ) (ls : List ℕ) {hs : List ℕ} {v : �
   placed-any P step start =
       by-state (walk n limit ls hs (v ∷ []))
       (λ u x from e.
-      let w = reached-stops n limit ls hs (v ∷ []) (placeable-startable p) e in
-      let c = found-chain w in
-      rw e (shift-any n ls v from (p .inside) P step n (c .0) hs u x (stopped-below w (w .there .0)) (c .2) start))
+      let w = walk-found e in
+      rw e (shift-any n ls v from (p .inside) P step n (w .steps) hs u x (w .below) (w .chain) start))
       (λ queue from e. rw e start)
 
   -- "Entries past these lengths never change"

@@ -129,7 +129,7 @@ module _ (n : ℕ) (ls : List ℕ) (v : ℕ) (from : List ℕ) (inside : v < n) 
   Chain hs zero x = x ≡ v
   Chain hs (suc k) x = (x ≡ v → ⊥) × (x < n) × (held n (at hs) x ≡ true) × (linked ls (at from (at hs x)) (at hs x) ≡ true) × Chain hs k (at from (at hs x))
 
-  chain-unique : (hs : List ℕ) (j k x : ℕ) → Chain hs j x → Chain hs k x → j ≡ k
+  pub chain-unique : (hs : List ℕ) (j k x : ℕ) → Chain hs j x → Chain hs k x → j ≡ k
   unfolding Chain
   chain-unique hs zero zero x c d = refl
   chain-unique hs zero (suc k) x c d = absurd (d .0 c)
