@@ -43,10 +43,11 @@ pub(crate) fn answer(label: &[u8], a: Answer) {
 
 // The same of a placing, with the number moved.
 pub(crate) fn placed(label: &[u8], a: PlaceAnswer) {
-    refusal(label, a.refusal);
-    bar();
-    let s = a.small;
-    small(s);
+    let same = Answer {
+        refusal: a.refusal,
+        small: a.small,
+    };
+    answer(label, same);
     text(b" | moved");
     number(a.moved as u64);
 }

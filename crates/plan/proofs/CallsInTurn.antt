@@ -16,7 +16,7 @@ use Rattle.planner.specs.declared.PlaceAnswer.{PlaceAnswer}
 use Rattle.planner.specs.State.{State, stateOf}
 use Rattle.planner.specs.Calls.{answerOf, openCall, link, order, place, call, callMoves, placeAnswerOf, readLeaders, readChoke}
 use Rattle.planner.specs.Run.{afterOpen, run, runMoves, linkCalls, placeCalls}
-use Rattle.planner.specs.Claims.{madeBy}
+use Rattle.planner.specs.Claims.{madeBy, movesBy}
 use Rattle.planner.proofs.MovedSums.{moves-last, moves-fit}
 use Rattle.planner.proofs.Filled.{filled, plant-run, plant-moves, place-last}
 use Rattle.planner.proofs.Outcomes.{open-links, link-state, order-state, place-state}
@@ -137,7 +137,7 @@ module _
     unfolding callsAfter
     all-made places = places ∙ ap (λ (x : State). run x (placeCalls k)) full ∙ sym (plant-run (afterOpen (fileN file) (fileT file) ls os hs) (fileLinks file) (fileOrder file) k)
 
-    pub all-moves : {m : ℕ} → m ≡ runMoves (stateOf s₃ ls₂ os₃ hs₁) (placeCalls k) → m ≡ runMoves (afterOpen (fileN file) (fileT file) ls os hs) (callsAfter file k)
+    pub all-moves : {m : ℕ} → m ≡ runMoves (stateOf s₃ ls₂ os₃ hs₁) (placeCalls k) → m ≡ movesBy (fileN file) (fileT file) ls os hs (callsAfter file k)
     unfolding callsAfter
     all-moves places = places ∙ ap (λ (x : State). runMoves x (placeCalls k)) full ∙ sym (plant-moves (afterOpen (fileN file) (fileT file) ls os hs) (fileLinks file) (fileOrder file) k)
 
@@ -147,12 +147,12 @@ module _ (file : List ℕ) (k : ℕ) {ls os hs : List ℕ} (els : ls ≡ replica
   unfolding stateAfter
   file-made made = made ∙ rw (els, eos, ehs)
 
-  file-moves : {m : ℕ} → m ≡ runMoves (afterOpen (fileN file) (fileT file) ls os hs) (callsAfter file k) → m ≡ movesAfter file k
+  file-moves : {m : ℕ} → m ≡ movesBy (fileN file) (fileT file) ls os hs (callsAfter file k) → m ≡ movesAfter file k
   unfolding movesAfter
   file-moves moves = moves ∙ rw (els, eos, ehs)
 
   pub all-read : (s : Small) (ls' os' hs' leaders choke : List ℕ) {m : ℕ} {leaders' choke' : List ℕ}
-      → stateOf s ls' os' hs' ≡ madeBy (fileN file) (fileT file) ls os hs (callsAfter file k) → m ≡ runMoves (afterOpen (fileN file) (fileT file) ls os hs) (callsAfter file k)
+      → stateOf s ls' os' hs' ≡ madeBy (fileN file) (fileT file) ls os hs (callsAfter file k) → m ≡ movesBy (fileN file) (fileT file) ls os hs (callsAfter file k)
       → leaders' ≡ readLeaders (stateOf s ls' os' hs') leaders choke → choke' ≡ readChoke (stateOf s ls' os' hs') leaders choke
       → (leaders' ≡ readLeaders (stateAfter file k) leaders choke) × ((choke' ≡ readChoke (stateAfter file k) leaders choke) × (m ≡ movesAfter file k))
   all-read s ls' os' hs' leaders choke made moves e f =

@@ -82,7 +82,7 @@ module _ (file : List ℕ) (z : fileRefusal file ≡ 0) where
     unfolding NobodyMoved
     left-none e =
         sym (placing-is j (omega arith))
-        ∙ nobody-moved (stateAfter file j) .1 (rw (← state-next file j, few (j + 1) (omega arith), next-is) e)
+        ∙ nobody-moved (stateAfter file j) .left (rw (← state-next file j, few (j + 1) (omega arith), next-is) e)
 
     by-calls : FewestMovedOf (fileN file) (placedTold file (length ownLinks) j) (stateAfter file j)
     unfolding FewestMovedTold stateAfter

@@ -8,8 +8,8 @@ use Rattle.packing.specs.Plant.{GATEWAYS, ENDS}
 use Rattle.packing.specs.Refusals.{byNumber}
 use Rattle.planner.specs.State.{State}
 use Rattle.planner.specs.Calls.{Call, readLeaders, readChoke}
-use Rattle.planner.specs.Run.{afterOpen, runMoves, plantCalls}
-use Rattle.planner.specs.Claims.{madeBy}
+use Rattle.planner.specs.Run.{plantCalls}
+use Rattle.planner.specs.Claims.{madeBy, movesBy}
 use Rattle.plant_file.specs.PlantFile.{fileN, fileT, fileLinks, fileOrder, fileThenShort}
 
 -- the list of calls that the file stands for, with k placings: each link, the order, k times place
@@ -22,7 +22,7 @@ stateAfter file k = madeBy (fileN file) (fileT file) (replicate ENDS 0) (replica
 
 -- 02, change 4: how many gateways they move, placing after placing
 unfoldable pub movesAfter : List ℕ → ℕ → ℕ
-movesAfter file k = runMoves (afterOpen (fileN file) (fileT file) (replicate ENDS 0) (replicate GATEWAYS 0) (replicate GATEWAYS 0)) (callsAfter file k)
+movesAfter file k = movesBy (fileN file) (fileT file) (replicate ENDS 0) (replicate GATEWAYS 0) (replicate GATEWAYS 0) (callsAfter file k)
 
 -- .. once all n are placed
 unfoldable pub fileState : List ℕ → State

@@ -5,8 +5,8 @@ ghost use mathlib.Core.Path.{_≡_};
 ghost use Rattle.planner.specs.State.{stateOf};
 ghost use Rattle.planner.specs.Calls as calls;
 ghost use Rattle.planner.specs.Calls.{call, readLeaders, readChoke};
-ghost use Rattle.planner.specs.Run.{afterOpen, run, runMoves, linkCalls, placeCalls};
-ghost use Rattle.planner.specs.Claims.{madeBy};
+ghost use Rattle.planner.specs.Run.{run, runMoves, linkCalls, placeCalls};
+ghost use Rattle.planner.specs.Claims.{madeBy, movesBy};
 ghost use Rattle.plant_file.specs.PlantFile.{fileN, fileT, fileLinks, fileOrder, fileRefusal};
 ghost use Rattle.plant_file.specs.Reader.{linkAt};
 ghost use Rattle.plan.specs.Plan.{callsAfter, stateAfter, movesAfter};
@@ -87,7 +87,7 @@ fn make(
 ) -> Made
     requires { ⌜ fileRefusal (now file) ≡ 0 ⌝ }
     ensures state { λ r. ⌜ stateOf (r .small) (now (links .exit)) (now (order .exit)) (now (holders .exit)) ≡ madeBy (fileN (now (file .entry))) (fileT (now (file .entry))) (now (links .entry)) (now (order .entry)) (now (holders .entry)) (callsAfter (now (file .entry)) placings) ⌝ }
-    ensures moved { λ r. ⌜ r .moved ≡ runMoves (afterOpen (fileN (now (file .entry))) (fileT (now (file .entry))) (now (links .entry)) (now (order .entry)) (now (holders .entry))) (callsAfter (now (file .entry)) placings) ⌝ }
+    ensures moved { λ r. ⌜ r .moved ≡ movesBy (fileN (now (file .entry))) (fileT (now (file .entry))) (now (links .entry)) (now (order .entry)) (now (holders .entry)) (callsAfter (now (file .entry)) placings) ⌝ }
 {
     let n = plant_file::gateways(file);
     let opened = Small::open(n, plant_file::limit(file), links, order, holders).small;

@@ -37,7 +37,7 @@ pub struct Planned {
     pub moved: u32,
 }
 
-// The leader list and the choke bytes after so many placings. Nothing is written on refusal.
+// The leader list and the choke bytes after so many placings, and how many gateways these move. Nothing is written on refusal.
 pub fn plan_lists_after(
     file: &[u8],
     placings: u32,

@@ -23,7 +23,7 @@ module _ (s : State) (links numbers : List ℕ) (k : ℕ) where
   -- only the placings move gateways
   pub plant-moves : runMoves s (plantCalls links numbers k) ≡ runMoves (filled s links numbers) (placeCalls k)
   unfolding plantCalls runMoves NobodyMoved
-  plant-moves = omega (arith, moves-append s (linkCalls links) (order numbers ∷ placeCalls k), links-move s links, nobody-moved (run s (linkCalls links)) .3 numbers)
+  plant-moves = omega (arith, moves-append s (linkCalls links) (order numbers ∷ placeCalls k), links-move s links, nobody-moved (run s (linkCalls links)) .ordered numbers)
 
 -- one placing more
 pub place-last : (s : State) (i : ℕ) → run s (placeCalls (suc i)) ≡ call (run s (placeCalls i)) place .state

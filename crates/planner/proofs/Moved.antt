@@ -72,13 +72,14 @@ left-zero s e =
 pub nobody-moved : NobodyMoved
 unfolding NobodyMoved OthersKeep RefusedUnchanged
 nobody-moved s =
-    let (links, orders, reads) = others-keep s in (
-      λ c h. same-holders s c (ap (λ (x : State). x .holders) (refused-call s c h)),
-      left-zero s,
-      λ a b. same-holders s (link a b) (links a b),
-      λ numbers. same-holders s (order numbers) (orders numbers),
-      λ leaders choke. same-holders s (read leaders choke) (reads leaders choke),
-    )
+    let (links, orders, reads) = others-keep s in
+    record {
+      refused = λ c h. same-holders s c (ap (λ (x : State). x .holders) (refused-call s c h));
+      left = left-zero s;
+      linked = λ a b. same-holders s (link a b) (links a b);
+      ordered = λ numbers. same-holders s (order numbers) (orders numbers);
+      looked = λ leaders choke. same-holders s (read leaders choke) (reads leaders choke);
+    }
 
 -- a sound record that is not fully placed takes a placing
 accepts : (s : State) → SoundFacts s → s .small .k < s .small .n → callRefusal s place ≡ 0

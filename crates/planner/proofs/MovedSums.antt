@@ -29,7 +29,7 @@ pub links-move : (s : State) (l : List ℕ) → runMoves s (linkCalls l) ≡ 0
 unfolding runMoves linkCalls NobodyMoved
 links-move s [] = refl
 links-move s (a ∷ []) = refl
-links-move s (a ∷ b ∷ rest) = omega (arith, nobody-moved s .2 a b, links-move (call s (link a b) .state) rest)
+links-move s (a ∷ b ∷ rest) = omega (arith, nobody-moved s .linked a b, links-move (call s (link a b) .state) rest)
 
 -- one placing more
 pub moves-last : (s : State) (i : ℕ) → runMoves s (placeCalls (suc i)) ≡ runMoves s (placeCalls i) + callMoves (run s (placeCalls i)) place
@@ -41,7 +41,7 @@ moves-last s (suc i) = omega (arith, moves-last (call s place .state) i)
 refused-moves : (s : State) (i : ℕ) → (callRefusal s place ≡ 0 → ⊥) → runMoves s (placeCalls i) ≡ 0
 unfolding runMoves placeCalls call NobodyMoved RefusedUnchanged
 refused-moves s zero h = refl
-refused-moves s (suc i) h = omega (arith, nobody-moved s .0 place h, ap (λ (x : State). runMoves x (placeCalls i)) (refused-call s place h), refused-moves s i h)
+refused-moves s (suc i) h = omega (arith, nobody-moved s .refused place h, ap (λ (x : State). runMoves x (placeCalls i)) (refused-call s place h), refused-moves s i h)
 
 -- an accepted one moves no more than there are gateways
 accepted-move : (s : State) → callRefusal s place ≡ 0

@@ -12,8 +12,8 @@ use Rattle.packing.specs.Grouping.{isAlone}
 use Rattle.packing.specs.Choke.{stranded}
 use Rattle.planner.specs.State.{State}
 use Rattle.planner.specs.Calls.{Call, link, order, place, read, call, readLeaders, readChoke}
-use Rattle.planner.specs.Run.{linkCalls, placeCalls, afterOpen, runMoves}
-use Rattle.planner.specs.Claims.{madeBy, leadersRead, chokeRead}
+use Rattle.planner.specs.Run.{linkCalls, placeCalls}
+use Rattle.planner.specs.Claims.{madeBy, movesBy, leadersRead, chokeRead}
 
 -- a plant: n, T, its links two numbers each, and the call of order where 01 names one. Where it names none, no call of order is made: open's order stands.
 pub record Plant : Type 0 where
@@ -45,7 +45,7 @@ aloneOf p k = count (p .n) (isAlone (leadersRead (after p k) (replicate (p .n) 0
 
 -- how many gateways its calls move up to then
 unfoldable pub movesOf : Plant → ℕ → ℕ
-movesOf p k = runMoves (afterOpen (p .n) (p .t) (replicate (length (p .links)) 0) (replicate (p .n) 0) (replicate (p .n) 0)) (linkCalls (p .links) ++ p .ordering ++ placeCalls k)
+movesOf p k = movesBy (p .n) (p .t) (replicate (length (p .links)) 0) (replicate (p .n) 0) (replicate (p .n) 0) (linkCalls (p .links) ++ p .ordering ++ placeCalls k)
 
 unfoldable pub sameList : List ℕ → List ℕ → Bool
 sameList [] [] = true

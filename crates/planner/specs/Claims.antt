@@ -18,7 +18,7 @@ use Rattle.planner.specs.Refusals.{openRefusal}
 use Rattle.planner.specs.State.{State}
 use Rattle.planner.specs.Calls.{Call, place, read, call, callMoves, readLeaders, readChoke}
 use Rattle.planner.specs.Told.{Told, beginning, refuses, tell, toldNumbers}
-use Rattle.planner.specs.Run.{afterOpen, run, runNumbers}
+use Rattle.planner.specs.Run.{afterOpen, run, runMoves, runNumbers}
 
 -- what the calls tell, and the record they make, after an open that was handed n, t and the lists ls, os, hs
 abbrev pub toldBy : ℕ → ℕ → List ℕ → List Call → Told
@@ -26,6 +26,10 @@ toldBy n t ls calls = tell (beginning n t (length ls)) calls
 
 abbrev pub madeBy : ℕ → ℕ → List ℕ → List ℕ → List ℕ → List Call → State
 madeBy n t ls os hs calls = run (afterOpen n t ls os hs) calls
+
+-- .. and how many gateways they move
+abbrev pub movesBy : ℕ → ℕ → List ℕ → List ℕ → List ℕ → List Call → ℕ
+movesBy n t ls os hs calls = runMoves (afterOpen n t ls os hs) calls
 
 -- the leader list and the choke bytes that a read writes
 abbrev pub leadersRead : State → List ℕ → List ℕ → ℕ → ℕ

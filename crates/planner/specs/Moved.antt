@@ -15,14 +15,16 @@ abbrev pub nextOf : State → ℕ
 nextOf s = at (s .order) (s .small .k)
 
 -- "0 for one left or a refusal", and for every call but place
+pub record MovesNobody (s : State) : Type 0 where
+  pub refused : (c : Call) → (call s c .refusal ≡ 0 → ⊥) → callMoves s c ≡ 0
+  pub left : heldIn (call s place .state) (nextOf s) ≡ false → callMoves s place ≡ 0
+  pub linked : (a b : ℕ) → callMoves s (link a b) ≡ 0
+  pub ordered : (numbers : List ℕ) → callMoves s (order numbers) ≡ 0
+  pub looked : (leaders choke : List ℕ) → callMoves s (read leaders choke) ≡ 0
+
+-- .. of any record, sound or not
 unfoldable pub NobodyMoved : Type 0
-NobodyMoved =
-    (s : State)
-    → ((c : Call) → (call s c .refusal ≡ 0 → ⊥) → callMoves s c ≡ 0)
-    × (heldIn (call s place .state) (nextOf s) ≡ false → callMoves s place ≡ 0)
-    × ((a b : ℕ) → callMoves s (link a b) ≡ 0)
-    × ((numbers : List ℕ) → callMoves s (order numbers) ≡ 0)
-    × ((leaders choke : List ℕ) → callMoves s (read leaders choke) ≡ 0)
+NobodyMoved = (s : State) → MovesNobody s
 
 -- "the new one included": the holder of one that is kept changed
 unfoldable pub NewOneMoved : Type 0
