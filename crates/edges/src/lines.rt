@@ -43,11 +43,14 @@ pub(crate) fn answer(label: &[u8], a: Answer) {
 
 // The same of a placing, with the number moved.
 pub(crate) fn placed(label: &[u8], a: PlaceAnswer) {
-    let same = Answer {
-        refusal: a.refusal,
-        small: a.small,
-    };
-    answer(label, same);
+    let small = a.small;
+    answer(
+        label,
+        Answer {
+            refusal: a.refusal,
+            small,
+        },
+    );
     text(b" | moved");
     number(a.moved as u64);
 }
