@@ -20,6 +20,10 @@ extern "C" {
 #define PLAN_GROUPS_OUT(n) ((size_t)3 * (size_t)(n) + 4)
 #define PLAN_GROUPS_OUT_MAX PLAN_GROUPS_OUT(PLAN_GROUPS_GATEWAYS_MAX)
 
+/* The same for the two sets of why_alone. */
+#define WHY_ALONE_OUT(n) ((size_t)4 * (size_t)(n) + 4)
+#define WHY_ALONE_OUT_MAX WHY_ALONE_OUT(PLAN_GROUPS_GATEWAYS_MAX)
+
 /* The bytes of the longest plant file; a longer one is refused. */
 #define PLAN_GROUPS_FILE_MAX \
     ((size_t)10 + 4 * (size_t)PLAN_GROUPS_LINKS_MAX + 2 * (size_t)PLAN_GROUPS_GATEWAYS_MAX)
@@ -114,6 +118,43 @@ uint32_t plan_groups(const uint8_t *file, size_t file_len, uint8_t *out, size_t 
  * alone (README.md) holds where placings = n, and need not hold before.
  */
 uint32_t plan_groups_after(const uint8_t *file, size_t file_len, uint32_t placings, uint8_t *out, size_t out_len);
+
+/*
+ * Shows why a gateway is alone in the plan of plan_groups: two sets of gateways.
+ *
+ *   gateway    the number of a gateway that plan_groups leaves alone.
+ *   out        WHY_ALONE_OUT(n), that is 4n + 4, bytes are needed for n gateways; WHY_ALONE_OUT_MAX are
+ *              enough for every plant.
+ *
+ * What comes back:
+ *   0        accepted: with a and b for the numbers of gateways in the first and in the second set, the
+ *            first 4 + 2a + 2b bytes of out are written, and none past them. Numbers have two bytes, low
+ *            byte first:
+ *            out[0], out[1]         a;
+ *            out[2], out[3]         b;
+ *            from out[4] on         the a gateways of the first set, ascending;
+ *            from out[4 + 2a] on    the b gateways of the second set, ascending.
+ *   else     the number of the refusal, and nothing is written.
+ *
+ * What the sets say:
+ *   - The first holds the gateway itself. All others in it are covered by plan_groups, and stand before the
+ *     gateway in the order.
+ *   - No two gateways of the first are linked.
+ *   - The second is exactly the gateways linked to one of the first.
+ *   - a = T * b + 1.
+ * So no grouping covers all of the first set: its gateways can only be in groups with those of the second,
+ * and each of these can bring in T of them at most. One has to stay alone, and in the first set the gateway
+ * is the last in the order. With b = 0 the gateway has no link at all.
+ *
+ * Other pairs of sets may say the same of a gateway; these are the smallest that the plan itself leads to:
+ * those that the choke set's walk reaches when it starts from this gateway only.
+ *
+ * All else is as for plan_groups: what is lent, what is used, and the file's refusals. Two stand behind them:
+ *
+ *   30   gateway is not below n, or plan_groups does not leave it alone
+ *   10   out_len is below 4n + 4
+ */
+uint32_t why_alone(const uint8_t *file, size_t file_len, uint32_t gateway, uint8_t *out, size_t out_len);
 
 #ifdef __cplusplus
 }

@@ -16,4 +16,5 @@ pub mod Below
 pub mod Prefixes
 pub mod SoFar
 pub mod Barrier
+pub mod Violator
 pub mod Links

@@ -11,3 +11,4 @@ pub mod Holders
 pub mod Moved
 pub mod SoFar
 pub mod Choke
+pub mod Violator
