@@ -31,4 +31,6 @@ pub mod Limits
 pub mod Unheld
 pub mod Seen
 pub mod ChokeLaws
+pub mod FromOne
+pub mod ReachedTests
 pub mod ChokeExamples

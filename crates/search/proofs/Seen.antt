@@ -40,7 +40,7 @@ walked-seen (Found u x) queue from e v = ap (λ (t : Search). seenIn t v) e
 walked-seen (RanOut tail) queue from e v = ap (λ (t : Search). seenIn t v) e
 
 -- a list of zeros is the common limit of 0
-zero-limits : at (replicate GATEWAYS 0) ≡ common 0
+pub zero-limits : at (replicate GATEWAYS 0) ≡ common 0
 unfolding common
 zero-limits = fun-ext (λ u. zero-at GATEWAYS u)
 

@@ -42,19 +42,19 @@ module _
     (s : Settleable n hs v rows queue from)
     (d : ForEach rows (λ k l. Walkable k l (set queue 0 v) 1 from) (λ k l. Is w queue' from' (walk k limit ls l (take 1 (set queue 0 v)))))
   where
-    walked : Is w queue' from' (walk n limit ls hs (v ∷ []))
-    walked = rw (first-set queue v (omega (arith, s .space .places, s .free .inside))) at (d n hs (settle-table s) (settle-walkable s))
+    pub settle-walked : Is w queue' from' (walk n limit ls hs (v ∷ []))
+    settle-walked = rw (first-set queue v (omega (arith, s .space .places, s .free .inside))) at (d n hs (settle-table s) (settle-walkable s))
 
     pub settle-kept : {u x r : ℕ} {hs' : List ℕ} → w ≡ Found u x → hs' ≡ shift n v from' u x hs → r ≡ takings n v from' u x hs
         → (hs' ≡ placedHolders n limit ls hs v) × (r ≡ moved n (at hs) (at (placedHolders n limit ls hs v)))
     unfolding placedHolders settled
     settle-kept {u} {x} q e g =
-        let is : Is (Found u x) queue' from' (walk n limit ls hs (v ∷ [])) = rw q at walked in
+        let is : Is (Found u x) queue' from' (walk n limit ls hs (v ∷ [])) = rw q at settle-walked in
         rw (found-state is) (e, g ∙ found-moved limit ls (s .free) (found-state is))
 
     pub settle-left : {tail : ℕ} → w ≡ RanOut tail → (hs ≡ placedHolders n limit ls hs v) × (0 ≡ moved n (at hs) (at (placedHolders n limit ls hs v)))
     unfolding placedHolders settled
-    settle-left {tail} q = let is : Is (RanOut tail) queue' from' (walk n limit ls hs (v ∷ [])) = rw q at walked in rw (more-state is) (refl, sym (moved-none n (at hs)))
+    settle-left {tail} q = let is : Is (RanOut tail) queue' from' (walk n limit ls hs (v ∷ [])) = rw q at settle-walked in rw (more-state is) (refl, sym (moved-none n (at hs)))
 
 -- The arrays to work in: zeros for the queue, and the first n of the marks of nobody.
 module _ {n : ℕ} {all : List ℕ} (unseen : all ≡ replicate GATEWAYS NONE) where

@@ -1,7 +1,8 @@
-// Finds a holder for a gateway (01, "Placing"), on plain lists and numbers. The choke set, which takes the same walk, is module choke.
+// Finds a holder for a gateway (01, "Placing"), on plain lists and numbers. The choke set, which takes the same walk, is module choke; who the walk from one gateway reaches, module reached.
 mod bytes;
 pub mod choke;
 mod held;
+pub mod reached;
 mod shift;
 mod start;
 mod walk;

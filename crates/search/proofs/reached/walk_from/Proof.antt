@@ -1,0 +1,50 @@
+use Rattle.search.proofs.Settling.{settle-some}
+use Rattle.search.proofs.ReachedTests.{from-settles, from-marks}
+use borrow.Author.Needs.{needs}
+use Rattle.search.proofs.reached.walk_from.Statement.{statement}
+use Rattle.search.proofs.reached.walk_from.Tie as tie
+
+gather-requires : tie.Need-gather-requires
+gather-requires c κs = search needs
+
+zeros-requires : tie.Need-zeros-requires
+zeros-requires c κs = search needs
+
+array-write-queue : tie.Need-array-write-queue
+array-write-queue c = search needs
+
+bytes-requires : tie.Need-bytes-requires
+bytes-requires c κs = search needs
+
+slice-aggregate-walk : tie.Need-slice-aggregate-walk
+slice-aggregate-walk c = search needs
+
+slice-aggregate-walk-2 : tie.Need-slice-aggregate-walk-2
+slice-aggregate-walk-2 c = search needs
+
+walk-requires : tie.Need-walk-requires
+walk-requires c κs = let zeros = c .before .before .before .before .before in
+    settle-some (from-settles (zeros .before .before .before .before .before .pre) (zeros .zeros .ensures) (zeros .before .gather .ensures))
+
+same-length : tie.Need-same-length
+same-length c = search needs
+
+returns : tie.Need-returns
+returns c = let walked = c .before .before .before in
+    let made = walked .before .before .before .before .before in
+    let zeros = made .before in
+    from-marks (zeros .before .before .before .before .before .pre) (zeros .zeros .ensures) (zeros .before .gather .ensures) _ _ (walked .walk .ensures) (made .bytes .ensures) (walked .walk .kept .1 .1 .1 .1 .1 .0)
+
+pub walk-from-spec : {M : Type 1} → statement M
+walk-from-spec =
+    tie.close
+    (tie.spec
+    gather-requires
+    zeros-requires
+    array-write-queue
+    bytes-requires
+    slice-aggregate-walk
+    slice-aggregate-walk-2
+    walk-requires
+    same-length
+    returns)
