@@ -16,10 +16,10 @@ use Rattle.packing.specs.Pairs.{Earlier}
 use Rattle.packing.specs.Holders.{held, holds, Feasible}
 use Rattle.packing.specs.Violator.{sumOf, LinkedTo, Violator}
 use Rattle.packing.proofs.Tests.{clash, and-l, and-r, and-i, or-l, or-r, not-i, not-test}
-use Rattle.packing.proofs.Sums.{count-mono, count-ext, count-split, count-some, count-find, count-unique}
-use Rattle.packing.proofs.Lists.{listWhere-length, listWhere-in, listWhere-out, listWhere-ascending, lists-where}
+use Rattle.packing.proofs.Sums.{count-mono, count-split, count-some, count-find, count-unique}
+use Rattle.packing.proofs.Lists.{listWhere-length, listWhere-in, listWhere-out, listWhere-ascending}
 use Rattle.packing.proofs.Hall.{hall}
-use Rattle.packing.proofs.Tight.{Tight, Blocked}
+use Rattle.packing.proofs.Tight.{Blocked}
 use Rattle.packing.proofs.TightPairs.{tight-holds}
 use Rattle.packing.proofs.Groupings.{Sym, Loopless, groupHolder, grouping-holds, grouping-feasible}
 use Rattle.packing.proofs.Prefixes.{IsOrder}

@@ -20,6 +20,7 @@ use Rattle.packing.proofs.SoFar.{all-placed, so-far-below}
 use Rattle.packing.proofs.Below.{difference-below, difference-limits, leads-below}
 use Rattle.stars.specs.Stars.{leaderList}
 use Rattle.search.specs.ChokeSet.{inChoke, chokeByte}
+use Rattle.planner.specs.Refusals.{openRefusal}
 use Rattle.planner.specs.State.{State, limitOf}
 use Rattle.planner.specs.Calls.{Call, order, read, callRefusal, call, readLeaders, readChoke}
 use Rattle.planner.specs.Told.{Told, beginning, refuses}
@@ -96,13 +97,17 @@ module _ (p : Told) (ls os hs : List ℕ) (a : Agrees p (stateTold p ls os hs)) 
         (difference-limits (p .n) (limitOf (stateTold p ls os hs)) (p .limit) (linked (p .links)) (a .limits) (inChoke (p .n) (p .links) hs) _ (rw (a .links) at (choke-unheld (a .made) full)))
 
 -- A claim about what was told and a record of its small part, with n for the n told, is one about any list of calls after an accepted open.
-any-read : (claim : (n : ℕ) (told : Told) (made : State) (leaders choke : List ℕ) → Type 0)
+pub after-calls : (claim : (n : ℕ) (told : Told) (made : State) → Type 0) → ((p : Told) (ls os hs : List ℕ) → Agrees p (stateTold p ls os hs) → claim (p .n) p (stateTold p ls os hs))
+    → (n t : ℕ) (ls os hs : List ℕ) → openRefusal n t os hs ≡ 0 → (calls : List Call) → claim n (toldBy n t ls calls) (madeBy n t ls os hs calls)
+after-calls claim proved n t ls os hs ok calls =
+    subst (λ (i : ℕ). claim i (toldBy n t ls calls) (madeBy n t ls os hs calls)) (tells-n n t ls calls)
+    (by-told (claim (toldBy n t ls calls .n) (toldBy n t ls calls)) (run-agrees (open-agrees n t ls os hs ok) calls) (proved (toldBy n t ls calls)))
+
+-- .. with a read accepted after it
+pub any-read : (claim : (n : ℕ) (told : Told) (made : State) (leaders choke : List ℕ) → Type 0)
     → ((p : Told) (ls os hs : List ℕ) → Agrees p (stateTold p ls os hs) → (leaders choke : List ℕ) → refuses p (read leaders choke) ≡ 0 → claim (p .n) p (stateTold p ls os hs) leaders choke)
     → AnyRead claim
-any-read claim proved n t ls os hs ok calls leaders choke z =
-    subst (λ (i : ℕ). claim i (toldBy n t ls calls) (madeBy n t ls os hs calls) leaders choke) (tells-n n t ls calls)
-    (by-told (λ s. claim (toldBy n t ls calls .n) (toldBy n t ls calls) s leaders choke) (run-agrees (open-agrees n t ls os hs ok) calls)
-    (λ ls' os' hs' a. proved (toldBy n t ls calls) ls' os' hs' a leaders choke z))
+any-read claim = after-calls (λ n told made. (leaders choke : List ℕ) → refuses told (read leaders choke) ≡ 0 → claim n told made leaders choke)
 
 -- .. once all are placed
 once-read : (claim : (n : ℕ) (told : Told) (made : State) (leaders choke : List ℕ) → Type 0)

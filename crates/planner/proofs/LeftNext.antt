@@ -1,6 +1,6 @@
 -- The sentence under Placing: the next gateway is left exactly if nothing covers it together with all kept before it.
 use Prim.Native.Nat.{ℕ, _<_}
-use mathlib.Core.Path.{_≡_, sym, subst, _∙_}
+use mathlib.Core.Path.{_≡_, sym, _∙_}
 use mathlib.Core.Logic.{_↔_, ⊎-elim}
 use mathlib.Core.Bool.{Bool, true, false}
 use mathlib.Core.List.{List}
@@ -16,12 +16,12 @@ use Rattle.stars.specs.Stars.{leaderList}
 use Rattle.planner.specs.State.{State, linksOf, limitOf}
 use Rattle.planner.specs.Calls.{place, changed, call}
 use Rattle.planner.specs.Told.{Told, refuses}
-use Rattle.planner.specs.Claims.{toldBy, madeBy, GroupingTold, BeforePlacing, NextLeft, CoversKept, LeftExactly, LeftExactlyOf, LeftExactlyByHolders, LeftExactlyByHoldersOf}
+use Rattle.planner.specs.Claims.{GroupingTold, BeforePlacing, NextLeft, CoversKept, LeftExactly, LeftExactlyOf, LeftExactlyByHolders, LeftExactlyByHoldersOf}
 use Rattle.planner.proofs.Conditions.{place-next}
 use Rattle.planner.proofs.Made.{Made, next-placing, made-place}
-use Rattle.planner.proofs.Agree.{Agrees, stateTold, by-told, same-number, run-agrees, open-agrees}
+use Rattle.planner.proofs.Agree.{Agrees, stateTold, same-number}
 use Rattle.planner.proofs.Optimal.{links-symmetric, links-loopless, limit-one, sound-grouping, leaders-cover}
-use Rattle.planner.proofs.Demands.{tells-n}
+use Rattle.planner.proofs.Demands.{after-calls}
 
 -- v and all held before it in the order, by the holders h
 abbrev KeptAnd : (n k : ℕ) (order h : ℕ → ℕ) (cover : ℕ → Bool) → Type 0
@@ -115,16 +115,10 @@ module _ (p : Told) (ls os hs : List ℕ) (a : Agrees p (stateTold p ls os hs)) 
         (by-told-order (held (p .n) (at after)) (kept-together (a .made) more e)))) (λ e. e),
   )
 
--- A claim about what was told and a record of its small part is one about any list of calls after an accepted open.
-module _ (claim : (n : ℕ) (told : Told) (made : State) → Type 0)
-    (proved : (p : Told) (ls os hs : List ℕ) → Agrees p (stateTold p ls os hs) → p .placed < p .n → claim (p .n) p (stateTold p ls os hs))
-  where
-    pub before-placing : BeforePlacing claim
-    before-placing n t ls os hs ok calls more =
-        let same = tells-n n t ls calls in
-        subst (λ (i : ℕ). claim i (toldBy n t ls calls) (madeBy n t ls os hs calls)) same
-        (by-told (claim (toldBy n t ls calls .n) (toldBy n t ls calls)) (run-agrees (open-agrees n t ls os hs ok) calls)
-        (λ ls' os' hs' a. proved (toldBy n t ls calls) ls' os' hs' a (rw same more)))
+-- .. so before any placing, whatever calls made the record
+pub before-placing : (claim : (n : ℕ) (told : Told) (made : State) → Type 0)
+    → ((p : Told) (ls os hs : List ℕ) → Agrees p (stateTold p ls os hs) → p .placed < p .n → claim (p .n) p (stateTold p ls os hs)) → BeforePlacing claim
+before-placing claim = after-calls (λ n told made. told .placed < n → claim n told made)
 
 pub left-exactly : LeftExactly
 unfolding LeftExactly

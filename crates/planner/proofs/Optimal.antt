@@ -29,7 +29,7 @@ module _ {s : State} (sound : SoundState s) where
   pub links-loopless : Loopless (s .small .n) (linked (linksOf s))
   links-loopless x p = not-test (linked (linksOf s) x x) (λ e. sound .ends x x e .2 refl)
 
-  limit-two : (u : ℕ) → u < s .small .n → 2 ≤ limitOf s u
+  pub limit-two : (u : ℕ) → u < s .small .n → 2 ≤ limitOf s u
   unfolding limitOf common
   limit-two u p = sound .low
 

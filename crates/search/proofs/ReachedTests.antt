@@ -1,16 +1,15 @@
 -- The tests and loops that write what the walk from one gateway reaches.
 use Prim.Native.Nat.{ℕ, _<_, _≤_}
 use mathlib.Core.Path.{_≡_, refl, sym, ap, _∙_}
-use mathlib.Core.Bool.{Bool, true, false, not, cond, _&&_}
+use mathlib.Core.Bool.{Bool, true, false, not, _&&_}
 use mathlib.Core.List.{List, [], _∷_}
 use native.Mathlib.Omega.{arith}
-use lib.Dec.{eqb, leb}
+use lib.Dec.{leb}
 use lib.ListN.{length, set, take, replicate, length-replicate}
-use borrow.Author.Tests.{eq-eqb, ne-eqb, le-ltb, lt-ltb, leb-true, not-true, not-false}
-use Rattle.packing.specs.Count.{pick, count}
+use borrow.Author.Tests.{eq-eqb, ne-eqb, le-ltb, lt-ltb, leb-true, le-leb, not-true, not-false}
+use Rattle.packing.specs.Count.{count}
 use Rattle.packing.specs.Lists.{listWhere, written, Lent}
 use Rattle.packing.specs.Plant.{NONE, GATEWAYS, at, common}
-use Rattle.packing.specs.Holders.{held}
 use Rattle.packing.proofs.Tests.{and-l, and-r}
 use Rattle.packing.proofs.Sums.{count-bound}
 use Rattle.packing.proofs.Lists.{listWhere-length, listWhere-ext}
@@ -19,13 +18,13 @@ use Rattle.search.specs.declared.Walked.{Walked}
 use Rattle.search.specs.declared.reached.Reached.{Reached}
 use Rattle.search.specs.Table.{heldTable}
 use Rattle.search.specs.Pre.{ForEach, Is, Placeable, Walkable, Settleable}
-use Rattle.search.specs.ChokeSet.{chokeWalk, walkSaw, seenIn}
+use Rattle.search.specs.ChokeSet.{chokeWalk, walkSaw}
 use Rattle.search.specs.Reached.{queuedFrom, seenFrom, setWritten, reachable, reachedAnswer, queuedWritten, seenWritten}
 use Rattle.search.specs.ReachedPre.{Unmarked, Marked, joined, Sets, bothCounted}
 use Rattle.search.proofs.Rows.{take-replicate}
-use Rattle.search.proofs.Settling.{settle-some, settle-walked, place-marks}
+use Rattle.search.proofs.Settling.{settle-walked}
 use Rattle.search.proofs.Seen.{walked-seen, zero-limits}
-use Rattle.search.proofs.Tested.{placeable-means}
+use Rattle.search.proofs.Tested.{placeable-means, placeable-holds}
 use Rattle.search.proofs.FromOne.{queued-joined}
 
 -- whether x joined the queue, test by test
@@ -69,6 +68,10 @@ module _ (n : ℕ) (hs : List ℕ) (v room room' : ℕ) where
   reachable-means e =
       let both : (placeable n hs v && leb n room) ≡ true = and-l (placeable n hs v && leb n room) (leb n room') e in
       (placeable-means n hs v (and-l (placeable n hs v) (leb n room) both), leb-true n room (and-r (placeable n hs v) (leb n room) both), leb-true n room' (and-r (placeable n hs v && leb n room) (leb n room') e))
+
+  pub reachable-holds : Placeable n hs v → n ≤ room → n ≤ room' → reachable n hs v room room' ≡ true
+  unfolding reachable
+  reachable-holds p l l' = rw (placeable-holds p, le-leb n room l, le-leb n room' l')
 
   module _ {b : Bool} (e : b ≡ placeable n hs v) where
     pub reachable-not : not b ≡ true → false ≡ reachable n hs v room room'
@@ -114,3 +117,10 @@ module _ (n : ℕ) (hs : List ℕ) (v : ℕ) (queued seen₀ : List ℕ) {b : Bo
       → (r ≡ reachedAnswer n ls hs v (length queued) (length seen₀)) × ((queued' ≡ queuedWritten n ls hs v queued seen₀) × (seen' ≡ seenWritten n ls hs v queued seen₀))
   unfolding queuedWritten seenWritten
   reached-writes ls f is = let may : reachable n hs v (length queued) (length seen₀) ≡ true = sym e ∙ not-false b f in rw may is
+
+-- where the sets may be written, they are
+pub reached-done : (n : ℕ) (ls hs : List ℕ) (v : ℕ) (queued seen₀ : List ℕ) {r : Reached} {queued' seen' : List ℕ} → Placeable n hs v → n ≤ length queued → n ≤ length seen₀
+    → (r ≡ reachedAnswer n ls hs v (length queued) (length seen₀)) × ((queued' ≡ queuedWritten n ls hs v queued seen₀) × (seen' ≡ seenWritten n ls hs v queued seen₀))
+    → (r ≡ bothCounted n ls hs v) × ((queued' ≡ setWritten n (queuedFrom n ls hs v) queued) × (seen' ≡ setWritten n (seenFrom n ls hs v) seen₀))
+unfolding queuedWritten seenWritten
+reached-done n ls hs v queued seen₀ p l l' is = rw (reachable-holds n hs v (length queued) (length seen₀) p l l') at is

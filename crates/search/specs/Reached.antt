@@ -1,7 +1,7 @@
 -- 02, change 5: "Both sets are those that the choke set's walk reaches when it starts from this gateway only, written ascending, and their two counts come back".
 -- v is the gateway, ls are the plant's links, hs the holders.
 use Prim.Native.Nat.{ℕ}
-use mathlib.Core.Bool.{Bool, true, false, cond, _&&_}
+use mathlib.Core.Bool.{Bool, cond, _&&_}
 use mathlib.Core.List.{List, [], _∷_}
 use lib.Dec.{leb}
 use lib.ListN.{length}

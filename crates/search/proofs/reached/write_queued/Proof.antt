@@ -2,7 +2,7 @@ use borrow.Author.Needs.{needs}
 use Prim.Native.Nat.{_-_}
 use mathlib.Core.Logic.{⊎-elim}
 use native.Mathlib.Omega.{arith}
-use Rattle.packing.proofs.Lists.{Gathered, gather-start, gather-place, gather-more, gather-same, gather-end}
+use Rattle.packing.proofs.Lists.{Gathered, gather-start, gather-more, gather-same, gather-end}
 use Rattle.search.specs.ReachedPre.{joined}
 use Rattle.search.proofs.ReachedTests.{set-room}
 use Rattle.search.proofs.reached.write_queued.Statement.{statement}

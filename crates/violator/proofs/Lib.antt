@@ -1,0 +1,4 @@
+-- Laws of the look: its tests and what it gives by them, its refusals in words, and the claim.
+pub mod WhyTests
+pub mod Turns
+pub mod Claim

@@ -1,0 +1,39 @@
+-- 02, change 5: "For records made by accepted calls all of it is proved." And what holds of any record. proofs/Claim.antt proves it.
+use Prim.Native.Nat.{ℕ, _+_, _*_}
+use mathlib.Core.Path.{_≡_}
+use mathlib.Core.List.{List}
+use lib.ListN.{length, drop}
+use Rattle.packing.specs.Plant.{at, linked}
+use Rattle.packing.specs.Holders.{held}
+use Rattle.packing.specs.Violator.{Violator}
+use Rattle.planner.specs.State.{State}
+use Rattle.planner.specs.Refusals.{openRefusal}
+use Rattle.planner.specs.Calls.{Call}
+use Rattle.planner.specs.Told.{Told}
+use Rattle.planner.specs.Claims.{toldBy, madeBy}
+use Rattle.violator.specs.WhyAlone.{whyRefusal, firstCount, secondCount, whyFirst, whySecond, firstSet, secondSet}
+
+-- What is claimed of the two sets by the limits, the links and the order told; kept is who has a holder in the record made. With T for every gateway the counts say it too.
+pub record WhyAloneOf (n t : ℕ) (told : Told) (made : State) (v : ℕ) (first second : List ℕ) : Type 0 where
+  pub violator : Violator n (told .limit) (linked (told .links)) (at (told .order)) (held n (at (made .holders))) v (firstSet made v first second) (secondSet made v first second)
+  pub counts : firstCount made v (length first) (length second) ≡ t * secondCount made v (length first) (length second) + 1
+
+-- An open accepted, any list of calls, whatever number is placed, and a call accepted for v with any two lists.
+unfoldable pub WhyAlone : Type 0
+WhyAlone =
+    (n t : ℕ) (ls os hs : List ℕ) → openRefusal n t os hs ≡ 0 → (calls : List Call)
+    → (v : ℕ) (first second : List ℕ) → whyRefusal (madeBy n t ls os hs calls) v (length first) (length second) ≡ 0
+    → WhyAloneOf n t (toldBy n t ls calls) (madeBy n t ls os hs calls) v first second
+
+-- Any record, sound or not. As many entries as were counted are written to each list, and none past them; ..
+unfoldable pub WhyPast : Type 0
+WhyPast =
+    (s : State) (v : ℕ) (first second : List ℕ)
+    → (drop (firstCount s v (length first) (length second)) (whyFirst s v first second) ≡ drop (firstCount s v (length first) (length second)) first)
+    × (drop (secondCount s v (length first) (length second)) (whySecond s v first second) ≡ drop (secondCount s v (length first) (length second)) second)
+
+-- .. "on a refusal these are 0", and nothing is written.
+unfoldable pub WhyRefused : Type 0
+WhyRefused =
+    (s : State) (v : ℕ) (first second : List ℕ) → (whyRefusal s v (length first) (length second) ≡ 0 → ⊥)
+    → (firstCount s v (length first) (length second) ≡ 0) × (secondCount s v (length first) (length second) ≡ 0) × (whyFirst s v first second ≡ first) × (whySecond s v first second ≡ second)

@@ -1,0 +1,4 @@
+-- 02, change 5: why a gateway is alone.
+pub mod WhyAlone
+pub mod Turns
+pub mod Claim
