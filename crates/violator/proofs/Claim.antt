@@ -1,13 +1,12 @@
 -- What the two sets say, for records made by calls; and what holds of any record.
-use Prim.Native.Nat.{ℕ, zero, suc, _+_, _*_, _<_, _≤_}
+use Prim.Native.Nat.{ℕ, zero, suc, _+_, _*_, _<_}
 use mathlib.Core.Path.{_≡_, refl, sym, ap, _∙_}
 use mathlib.Core.Bool.{Bool, false, not}
 use mathlib.Core.List.{List}
 use native.Mathlib.Omega.{arith}
 use lib.ListN.{length, take, drop}
-use borrow.Author.Tests.{not-false}
 use Rattle.packing.specs.Count.{count}
-use Rattle.packing.specs.Lists.{listWhere, written}
+use Rattle.packing.specs.Lists.{listWhere}
 use Rattle.packing.specs.Plant.{at, linked}
 use Rattle.packing.specs.Holders.{held}
 use Rattle.packing.specs.Refusals.{byNumber}
@@ -15,7 +14,7 @@ use Rattle.packing.specs.Violator.{sumOf, Violator}
 use Rattle.packing.proofs.Lists.{listWhere-length, written-front, written-past}
 use Rattle.packing.proofs.Refusals.{refuse-none, refused}
 use Rattle.packing.proofs.Violator.{sumOf-common, violator-below}
-use Rattle.search.specs.Reached.{queuedFrom, seenFrom, setWritten}
+use Rattle.search.specs.Reached.{setWritten}
 use Rattle.search.proofs.FromOne.{walk-violator}
 use Rattle.planner.specs.State.{State, linksOf, limitOf, soundState}
 use Rattle.planner.specs.Told.{Told}
@@ -24,9 +23,9 @@ use Rattle.planner.proofs.Made.{Made}
 use Rattle.planner.proofs.Agree.{Agrees, stateTold}
 use Rattle.planner.proofs.Optimal.{links-symmetric, links-loopless, limit-two}
 use Rattle.planner.proofs.Demands.{tells-limit, after-calls}
-use Rattle.violator.specs.WhyAlone.{whyConditions, whyRefusal, inFirst, inSecond, firstCount, secondCount, whyFirst, whySecond, firstSet, secondSet}
-use Rattle.violator.specs.Claim.{WhyAloneOf, WhyAlone, WhyPast, WhyRefused}
-use Rattle.violator.proofs.WhyTests.{PlacedLeft, Allowed, allowed, left-placeable}
+use Rattle.violator.specs.WhyAlone.{whyRefusal, inFirst, inSecond, firstCount, secondCount, whyFirst, whySecond, firstSet, secondSet}
+use Rattle.violator.specs.Claim.{WhyAlone, WhyPast, WhyRefused}
+use Rattle.violator.proofs.WhyTests.{Allowed, allowed, left-placeable}
 use Rattle.violator.proofs.Turns.{says-placed}
 
 -- a set at the front of a list
@@ -91,7 +90,7 @@ why-alone n t ls os hs ok calls v first second z =
     violator : Violator n (p .limit) (linked (p .links)) (at (p .order)) (held n (at (s .holders))) v (firstSet s v first second) (secondSet s v first second)
     violator =
         after-calls (λ n told made. (v : ℕ) (first second : List ℕ) → whyRefusal made v (length first) (length second) ≡ 0
-            → Violator n (told .limit) (linked (told .links)) (at (told .order)) (held n (at (made .holders))) v (firstSet made v first second) (secondSet made v first second))
+        → Violator n (told .limit) (linked (told .links)) (at (told .order)) (held n (at (made .holders))) v (firstSet made v first second) (secondSet made v first second))
         told-violator n t ls os hs ok calls v first second z
 
     sizes : sumOf (p .limit) (secondSet s v first second) ≡ t * secondCount s v (length first) (length second)

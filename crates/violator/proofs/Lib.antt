@@ -2,3 +2,4 @@
 pub mod WhyTests
 pub mod Turns
 pub mod Claim
+pub mod Examples

@@ -2,7 +2,7 @@
 use Prim.Native.Nat.{ℕ, _<_}
 use mathlib.Core.Path.{_≡_, sym, ap, _∙_}
 use mathlib.Core.Logic.{⊎-elim}
-use mathlib.Core.Bool.{Bool, true, false, not, _||_}
+use mathlib.Core.Bool.{true, not, _||_}
 use mathlib.Core.List.{List}
 use native.Mathlib.Omega.{arith}
 use lib.Dec.{eqb, ltb, leb}
@@ -10,7 +10,7 @@ use borrow.Author.Tests.{eqb-true, eq-eqb, leb-true, not-true}
 use Rattle.packing.specs.Plant.{NONE, at}
 use Rattle.packing.specs.Holders.{held}
 use Rattle.packing.specs.Turns.{FirstNamed, named}
-use Rattle.packing.proofs.Tests.{clash, or-cases, not-i-false, any-elim, any-intro}
+use Rattle.packing.proofs.Tests.{clash, or-cases, any-elim, any-intro}
 use Rattle.packing.proofs.Turns.{Says, turn-done, turn-named, says-less, says-most, says-either, says-not}
 use Rattle.sound.proofs.Facts.{sound-facts}
 use Rattle.sound.proofs.Meaning.{means-sound}

@@ -12,11 +12,10 @@ use borrow.Author.Tests.{eq-eqb, ne-eqb, lt-ltb, le-ltb, lt-leb, le-leb, ltb-fal
 use Rattle.packing.specs.Count.{any}
 use Rattle.packing.specs.Plant.{at}
 use Rattle.packing.specs.Holders.{held}
-use Rattle.packing.specs.Refusals.{refuse}
 use Rattle.packing.proofs.Tests.{or-none, or-false-l, or-false-r, any-intro}
 use Rattle.packing.proofs.Refusals.{refuse-none, refused, accepted}
 use Rattle.search.specs.Pre.{Placeable}
-use Rattle.search.specs.Reached.{setWritten, reachedAnswer, queuedWritten, seenWritten}
+use Rattle.search.specs.Reached.{reachedAnswer, queuedWritten, seenWritten}
 use Rattle.search.specs.declared.reached.Reached.{Reached}
 use Rattle.search.proofs.ReachedTests.{reached-done}
 use Rattle.sound.proofs.Searchable.{sound-searchable}
