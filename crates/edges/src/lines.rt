@@ -12,7 +12,7 @@ pub(crate) fn end() {
     io::write_all(1, b"\n");
 }
 
-fn bar() {
+pub(crate) fn bar() {
     io::write_all(1, b" |");
 }
 

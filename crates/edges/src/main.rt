@@ -1,6 +1,7 @@
 // The cases at the edges (01, "At the edges") that are not proved as a table, and an example of each refusal and of each clause of soundness.
 // They stand in the file stdin, a line a case: a label, a bar, a number that says what is called, and the call's own numbers (script.rt, and the comment before each case).
 // Each line printed: the label, the refusal number, the small part as n T m k, and the lists after the call; `kept` says whether they are as they came.
+mod asking;
 mod full;
 mod lines;
 mod linking;

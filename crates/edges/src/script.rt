@@ -1,4 +1,5 @@
 // The script of cases: gone through line by line, its numbers read, each call made.
+use crate::asking;
 use crate::full;
 use crate::linking;
 use crate::membering;
@@ -78,6 +79,8 @@ fn call(label: &[u8], a: &[u16]) {
         12 => membering_large::case(label, a),
         13 => membering_large::most(label, a),
         15 => reading::steps(label, a),
+        16 => asking::case(label, a),
+        17 => asking::steps(label, a),
         _ => full::run(),
     }
 }
