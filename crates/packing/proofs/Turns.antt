@@ -38,6 +38,11 @@ pub turn-passed : (d : ℕ) {Condition : Type 0} (later : Turn) (e : ℕ) → (C
 unfolding FirstNamed
 turn-passed d later e fails f = inr (fails, f)
 
+-- a condition may be said in other words
+pub turn-as : (d : ℕ) {A B : Type 0} (later : Turn) (e : ℕ) → (A → B) → (B → A) → FirstNamed (named d A later) e → FirstNamed (named d B later) e
+unfolding FirstNamed
+turn-as d later e to from f = ⊎-elim (λ p. inl (to (p .0), p .1)) (λ p. inr ((λ b. p .0 (from b)), p .1)) f
+
 -- a turn names one number
 pub named-once : (turn : Turn) (d e : ℕ) → FirstNamed turn d → FirstNamed turn e → d ≡ e
 unfolding FirstNamed

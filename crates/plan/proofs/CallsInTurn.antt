@@ -1,6 +1,6 @@
 -- The calls that a file stands for, one after the other: the loops, and the whole.
 use Prim.Native.Nat.{ℕ, _+_, _*_, _<_, _≤_}
-use mathlib.Core.Path.{_≡_, refl, sym, ap, _∙_}
+use mathlib.Core.Path.{_≡_, refl, sym, ap, subst, _∙_}
 use mathlib.Core.List.{List, []}
 use native.Mathlib.Numerals.{add-one}
 use native.Mathlib.Omega.{arith}
@@ -20,6 +20,8 @@ use Rattle.planner.specs.Claims.{madeBy, movesBy}
 use Rattle.planner.proofs.MovedSums.{moves-last, moves-fit}
 use Rattle.planner.proofs.Filled.{filled, plant-run, plant-moves, place-last}
 use Rattle.planner.proofs.Outcomes.{open-links, link-state, order-state, place-state}
+use Rattle.violator.specs.declared.WhyAnswer.{WhyAnswer}
+use Rattle.violator.specs.WhyAlone.{whyAnswer, whyFirst, whySecond}
 use Rattle.plant_file.specs.declared.reader.Step.{Step}
 use Rattle.plant_file.specs.declared.reader.Step.the-variants.{Link, End}
 use Rattle.plant_file.specs.PlantFile.{fileN, fileT, fileM, fileLinks, fileOrder, fileRefusal}
@@ -27,7 +29,7 @@ use Rattle.plant_file.specs.Reader.{linkAt}
 use Rattle.plant_file.specs.Load.{orderWritten}
 use Rattle.plant_file.proofs.LinksByIndex.{links-long, order-long, step-at}
 use Rattle.plant_file.proofs.Accepted.{file-allowed}
-use Rattle.plan.specs.Plan.{callsAfter, stateAfter, movesAfter}
+use Rattle.plan.specs.Plan.{callsAfter, stateAfter, fileState, movesAfter}
 use Rattle.plan.specs.Pre.{linkStep}
 
 -- one link
@@ -157,3 +159,12 @@ module _ (file : List ℕ) (k : ℕ) {ls os hs : List ℕ} (els : ls ≡ replica
       → (leaders' ≡ readLeaders (stateAfter file k) leaders choke) × ((choke' ≡ readChoke (stateAfter file k) leaders choke) × (m ≡ movesAfter file k))
   all-read s ls' os' hs' leaders choke made moves e f =
       (e ∙ ap (λ (x : State). readLeaders x leaders choke) (file-made made), (f ∙ ap (λ (x : State). readChoke x leaders choke) (file-made made), file-moves moves))
+
+  -- .. and what it answers when it is asked why a gateway is alone
+  pub all-asked : (s : Small) (ls' os' hs' : List ℕ) (v : ℕ) (first second : List ℕ) {a : WhyAnswer} {first' second' : List ℕ} → k ≡ fileN file
+      → stateOf s ls' os' hs' ≡ madeBy (fileN file) (fileT file) ls os hs (callsAfter file k)
+      → (a ≡ whyAnswer (stateOf s ls' os' hs') v (length first) (length second)) × ((first' ≡ whyFirst (stateOf s ls' os' hs') v first second) × (second' ≡ whySecond (stateOf s ls' os' hs') v first second))
+      → (a ≡ whyAnswer (fileState file) v (length first) (length second)) × ((first' ≡ whyFirst (fileState file) v first second) × (second' ≡ whySecond (fileState file) v first second))
+  unfolding fileState
+  all-asked s ls' os' hs' v first second {a} {first'} {second'} all made =
+      subst (λ (x : State). (a ≡ whyAnswer x v (length first) (length second)) × ((first' ≡ whyFirst x v first second) × (second' ≡ whySecond x v first second))) (file-made made ∙ ap (stateAfter file) all)

@@ -5,4 +5,6 @@ pub mod CallsInTurn
 pub mod ToldByFile
 pub mod After
 pub mod FileMoves
+pub mod Asking
 pub mod FilePlan
+pub mod FileWhy

@@ -1,5 +1,5 @@
--- 00, demands 2 and 3, and 02, changes 1, 2 and 4, for a plan made from a file.
-use Prim.Native.Nat.{ℕ, _+_, _<_, _≤_}
+-- 00, demands 2 and 3, and 02, changes 1, 2, 4 and 5, for a plan made from a file.
+use Prim.Native.Nat.{ℕ, _+_, _*_, _<_, _≤_}
 use mathlib.Core.Path.{_≡_}
 use mathlib.Core.Bool.{Bool, true, false, not}
 use mathlib.Core.List.{List}
@@ -13,10 +13,12 @@ use Rattle.packing.specs.Choke.{ChokeDifference}
 use Rattle.packing.specs.Holders.{held}
 use Rattle.packing.specs.Moved.{moved, Fewest}
 use Rattle.packing.specs.SoFar.{SoFar}
+use Rattle.packing.specs.Violator.{Violator}
 use Rattle.search.specs.ChokeSet.{chokeByte}
 use Rattle.plant_file.specs.PlantFile.{fileN, fileT, fileLinks, fileOrder}
-use Rattle.plan.specs.Plan.{stateAfter, movesAfter, planRefusal, planLeaders, planChoke}
+use Rattle.plan.specs.Plan.{stateAfter, movesAfter, planRefusal, planLeaders, planChoke, fileLeaders}
 use Rattle.plan.specs.After.{planAfterRefusal, planMovesAfter, planLeadersAfter, planChokeAfter}
+use Rattle.plan.specs.Why.{fileWhyRefusal, fileFirst, fileSecond}
 
 -- a grouping of the plant that the file describes
 abbrev pub GroupingOf : List ℕ → (ℕ → ℕ) → Type 0
@@ -78,6 +80,16 @@ FileMoves =
 -- .. and it is at most 1,048,576, whatever the file: so four bytes are enough for it.
 unfoldable pub MovesFit : Type 0
 MovesFit = (file : List ℕ) (k : ℕ) → movesAfter file k ≤ 1048576
+
+-- 02, change 5: why v is alone. What is claimed of two lists of gateways for that plant; kept are those that leaders g cover.
+pub record WhyOf (file : List ℕ) (g : ℕ → ℕ) (v : ℕ) (first second : List ℕ) : Type 0 where
+  pub violator : Violator (fileN file) (common (fileT file)) (linked (fileLinks file)) (at (fileOrder file)) (covered g) v first second
+  -- "The first has T times the size of the second, plus one."
+  pub counts : length first ≡ fileT file * length second + 1
+
+-- It holds of the two sets for every accepted file and gateway that is answered, by the leaders of the file's plan.
+unfoldable pub FileWhy : Type 0
+FileWhy = (file : List ℕ) (v firstLen secondLen : ℕ) → fileWhyRefusal file v firstLen secondLen ≡ 0 → WhyOf file (at (fileLeaders file)) v (fileFirst file v) (fileSecond file v)
 
 -- With n placings it is the plan, whatever is handed in.
 unfoldable pub AfterAll : Type 0

@@ -1,15 +1,18 @@
 // The planner's calls that a file stands for, one after the other, on lists with a place for every plant.
 use planner::Small;
 use plant_file::reader::Step;
+use violator::WhyAnswer;
 ghost use mathlib.Core.Path.{_≡_};
+ghost use lib.ListN.{length};
 ghost use Rattle.planner.specs.State.{stateOf};
 ghost use Rattle.planner.specs.Calls as calls;
 ghost use Rattle.planner.specs.Calls.{call, readLeaders, readChoke};
 ghost use Rattle.planner.specs.Run.{run, runMoves, linkCalls, placeCalls};
 ghost use Rattle.planner.specs.Claims.{madeBy, movesBy};
+ghost use Rattle.violator.specs.WhyAlone.{whyAnswer, whyFirst, whySecond};
 ghost use Rattle.plant_file.specs.PlantFile.{fileN, fileT, fileLinks, fileOrder, fileRefusal};
 ghost use Rattle.plant_file.specs.Reader.{linkAt};
-ghost use Rattle.plan.specs.Plan.{callsAfter, stateAfter, movesAfter};
+ghost use Rattle.plan.specs.Plan.{callsAfter, stateAfter, fileState, movesAfter};
 ghost use Rattle.plan.specs.Pre.{linkStep};
 
 // The call for the link at an index.
@@ -109,4 +112,20 @@ pub(crate) fn read_all(file: &[u8], placings: u32, leaders: &mut [u16], choke: &
     let made = make(file, placings, &mut links, &mut order, &mut holders);
     made.small.read(&links, &order, &holders, leaders, choke);
     made.moved
+}
+
+// The record made, all placed, and asked why a gateway is alone.
+pub(crate) fn ask(file: &[u8], gateway: u16, first: &mut [u16], second: &mut [u16]) -> WhyAnswer
+    requires { ⌜ fileRefusal (now file) ≡ 0 ⌝ }
+    ensures answer { λ r. ⌜ r ≡ whyAnswer (fileState (now (file .entry))) gateway (length (now (first .entry))) (length (now (second .entry))) ⌝ }
+    ensures first { λ _. ⌜ now (first .exit) ≡ whyFirst (fileState (now (file .entry))) gateway (now (first .entry)) (now (second .entry)) ⌝ }
+    ensures second { λ _. ⌜ now (second .exit) ≡ whySecond (fileState (now (file .entry))) gateway (now (first .entry)) (now (second .entry)) ⌝ }
+{
+    let mut links = lists::marks::ends();
+    let mut order = lists::marks::zeros();
+    let mut holders = lists::marks::zeros();
+    let placings = plant_file::gateways(file) as u32;
+    let made = make(file, placings, &mut links, &mut order, &mut holders);
+    let small = made.small;
+    violator::why_alone(small, &links, &order, &holders, gateway, first, second)
 }

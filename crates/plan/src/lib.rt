@@ -1,5 +1,6 @@
-// The plan of a plant file, as lists of numbers (01, "The plant file and the listing"), also while the plant is being placed (02, change 1), and how many gateways it moves (02, change 4).
+// The plan of a plant file, as lists of numbers (01, "The plant file and the listing"), also while the plant is being placed (02, change 1), and how many gateways it moves (02, change 4). Why a gateway is alone in it is module why.
 mod calls;
+pub mod why;
 
 ghost use mathlib.Core.Path.{_≡_};
 ghost use lib.ListN.{length};

@@ -1,0 +1,100 @@
+-- Why a gateway is alone in a file's plan: the refusals, and what the call gives by them.
+use Prim.Native.Nat.{ℕ, _≤_}
+use mathlib.Core.Path.{_≡_, refl, sym, ap, _∙_}
+use mathlib.Core.Bool.{Bool, true}
+use mathlib.Core.List.{List}
+use native.Mathlib.Omega.{arith}
+use lib.ListN.{length}
+use Rattle.packing.specs.Lists.{listWhere, written}
+use Rattle.packing.specs.Refusals.{byNumber}
+use Rattle.packing.proofs.Lists.{listWhere-length}
+use Rattle.packing.proofs.Refusals.{refused, first-refused, first-passed}
+use Rattle.search.specs.Reached.{setWritten}
+use Rattle.sound.proofs.Meaning.{means-sound}
+use Rattle.planner.specs.declared.Small.{Small}
+use Rattle.planner.specs.State.{soundState}
+use Rattle.planner.proofs.Conditions.{sound-number}
+use Rattle.violator.specs.declared.WhyAnswer.{WhyAnswer}
+use Rattle.violator.specs.WhyAlone.{whyRefusal, inFirst, inSecond, firstCount, secondCount, whyAnswer, whyFirst, whySecond}
+use Rattle.violator.proofs.WhyTests.{out-of-range}
+use Rattle.plant_file.specs.PlantFile.{fileN, fileRefusal}
+use Rattle.plan.specs.Plan.{fileState}
+use Rattle.plan.specs.Why.{fileWhyRefusal, fileFirst, fileSecond, fileWhy, firstWritten, secondWritten}
+use Rattle.plan.specs.declared.why.Why.{Why}
+use Rattle.plan.proofs.After.{file-agrees}
+
+-- the record of an accepted file: its n, and that it is sound
+module _ (file : List ℕ) (z : fileRefusal file ≡ 0) where
+  pub state-gateways : fileState file .small .n ≡ fileN file
+  unfolding fileState
+  state-gateways = ap (λ (small : Small). small .n) (file-agrees file z (fileN file) (omega arith) .small)
+
+  pub state-sound : soundState (fileState file) ≡ true
+  unfolding soundState fileState
+  state-sound = means-sound _ _ _ _ _ _ _ (file-agrees file z (fileN file) (omega arith) .made .sound)
+
+-- the file's number, and 30 for a number that is no gateway
+module _ (file : List ℕ) (v a b : ℕ) {e : ℕ} (of : e ≡ fileRefusal file) where
+  pub asked-file : (e ≡ 0 → ⊥) → e ≡ fileWhyRefusal file v a b
+  unfolding fileWhyRefusal
+  asked-file h = first-refused _ of h
+
+  pub asked-beyond : {n : ℕ} → e ≡ 0 → n ≡ fileN file → n ≤ v → 30 ≡ fileWhyRefusal file v a b
+  unfolding fileWhyRefusal whyRefusal
+  asked-beyond z is l =
+      let fine : fileRefusal file ≡ 0 = sym of ∙ z in
+      first-passed of z (sound-number refl (state-sound file fine) (out-of-range _ _ _ _ v a b (rw (state-gateways file fine, ← is) l)))
+
+-- a refused call
+pub asked-refused : (file : List ℕ) (v : ℕ) (first second : List ℕ) {e : ℕ} → e ≡ fileWhyRefusal file v (length first) (length second) → (e ≡ 0 → ⊥)
+    → (_≡_ {A = Why} (record { refusal = e; first = 0; second = 0 }) (fileWhy file v (length first) (length second))) × ((first ≡ firstWritten file v first second) × (second ≡ secondWritten file v first second))
+unfolding firstWritten secondWritten
+asked-refused file v first second of h =
+    ((λ i. record { refusal = of i; first = refused (length (fileFirst file v)) 0 of h i; second = refused (length (fileSecond file v)) 0 of h i }), (refused _ first of h, refused _ second of h))
+
+-- a set by its number and by its list
+set-is : (n : ℕ) (p : ℕ → Bool) (out : List ℕ) → setWritten n p out ≡ written (length (listWhere n p)) (listWhere n p) out
+unfolding setWritten
+set-is n p out = rw (listWhere-length n p)
+
+-- one that the record answers
+module _ (file : List ℕ) (v : ℕ) (first second : List ℕ) (z : fileRefusal file ≡ 0) where
+  abbrev number : ℕ
+  number = whyRefusal (fileState file) v (length first) (length second)
+
+  pub same-number : number ≡ fileWhyRefusal file v (length first) (length second)
+  unfolding fileWhyRefusal
+  same-number = first-passed refl z refl
+
+  first-counted : firstCount (fileState file) v (length first) (length second) ≡ byNumber number (length (fileFirst file v)) 0
+  unfolding firstCount fileFirst
+  first-counted = ap (λ (k : ℕ). byNumber number k 0) (sym (listWhere-length _ (inFirst (fileState file) v)) ∙ ap (λ (n : ℕ). length (listWhere n (inFirst (fileState file) v))) (state-gateways file z))
+
+  second-counted : secondCount (fileState file) v (length first) (length second) ≡ byNumber number (length (fileSecond file v)) 0
+  unfolding secondCount fileSecond
+  second-counted = ap (λ (k : ℕ). byNumber number k 0) (sym (listWhere-length _ (inSecond (fileState file) v)) ∙ ap (λ (n : ℕ). length (listWhere n (inSecond (fileState file) v))) (state-gateways file z))
+
+  first-is : whyFirst (fileState file) v first second ≡ firstWritten file v first second
+  unfolding whyFirst firstWritten fileFirst
+  first-is = rw (← same-number, set-is, state-gateways file z)
+
+  second-is : whySecond (fileState file) v first second ≡ secondWritten file v first second
+  unfolding whySecond secondWritten fileSecond
+  second-is = rw (← same-number, set-is, state-gateways file z)
+
+  answer-is : (a : WhyAnswer) → a ≡ whyAnswer (fileState file) v (length first) (length second)
+      → _≡_ {A = Why} (record { refusal = a .refusal; first = a .first; second = a .second }) (fileWhy file v (length first) (length second))
+  answer-is a e =
+      ap (λ (x : WhyAnswer). record { refusal = x .refusal; first = x .first; second = x .second }) e
+      ∙ (λ i. record { refusal = same-number i; first = first-same i; second = second-same i })
+    where
+      first-same : firstCount (fileState file) v (length first) (length second) ≡ byNumber (fileWhyRefusal file v (length first) (length second)) (length (fileFirst file v)) 0
+      first-same = first-counted ∙ ap (λ (e : ℕ). byNumber e (length (fileFirst file v)) 0) same-number
+
+      second-same : secondCount (fileState file) v (length first) (length second) ≡ byNumber (fileWhyRefusal file v (length first) (length second)) (length (fileSecond file v)) 0
+      second-same = second-counted ∙ ap (λ (e : ℕ). byNumber e (length (fileSecond file v)) 0) same-number
+
+  pub asked-answered : {a : WhyAnswer} {first' second' : List ℕ}
+      → (a ≡ whyAnswer (fileState file) v (length first) (length second)) × ((first' ≡ whyFirst (fileState file) v first second) × (second' ≡ whySecond (fileState file) v first second))
+      → (_≡_ {A = Why} (record { refusal = a .refusal; first = a .first; second = a .second }) (fileWhy file v (length first) (length second))) × ((first' ≡ firstWritten file v first second) × (second' ≡ secondWritten file v first second))
+  asked-answered {a} (e, (f, g)) = (answer-is a e, (f ∙ first-is, g ∙ second-is))

@@ -1,0 +1,41 @@
+// Why a gateway is alone in a file's plan, as lists of numbers (02, change 5).
+use crate::calls;
+ghost use mathlib.Core.Path.{_≡_};
+ghost use lib.ListN.{length};
+ghost use Rattle.plan.specs.Why.{fileWhy, firstWritten, secondWritten};
+
+// The refusal's number, or 0 for accepted, and how many gateways each set has, 0 on refusal.
+pub struct Why {
+    pub refusal: u32,
+    pub first: u16,
+    pub second: u16,
+}
+
+// Writes the two sets of a gateway that the plan leaves alone. Nothing is written on refusal.
+pub fn why_lists(file: &[u8], gateway: u32, first: &mut [u16], second: &mut [u16]) -> Why
+    ensures answer { λ r. ⌜ r ≡ fileWhy (now (file .entry)) gateway (length (now (first .entry))) (length (now (second .entry))) ⌝ }
+    ensures first { λ _. ⌜ now (first .exit) ≡ firstWritten (now (file .entry)) gateway (now (first .entry)) (now (second .entry)) ⌝ }
+    ensures second { λ _. ⌜ now (second .exit) ≡ secondWritten (now (file .entry)) gateway (now (first .entry)) (now (second .entry)) ⌝ }
+{
+    let refused = plant_file::refusal(file);
+    if refused != 0 {
+        return Why {
+            refusal: refused,
+            first: 0,
+            second: 0,
+        };
+    }
+    if (plant_file::gateways(file) as u32) <= gateway {
+        return Why {
+            refusal: 30,
+            first: 0,
+            second: 0,
+        };
+    }
+    let asked = calls::ask(file, gateway as u16, first, second);
+    Why {
+        refusal: asked.refusal,
+        first: asked.first,
+        second: asked.second,
+    }
+}
