@@ -1,5 +1,6 @@
 -- Laws of the calls from C.
 pub mod LowFirst
 pub mod Groups
+pub mod Asking
 pub mod Turns
 pub mod Claim

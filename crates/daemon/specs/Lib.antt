@@ -1,5 +1,6 @@
 -- The calls from C: numbers and bytes.
 pub mod Groups
+pub mod Why
 pub mod Turns
 pub mod Claim
 pub mod Pre

@@ -1,4 +1,4 @@
-// A plan as bytes.
+// A plan as bytes, and two sets of gateways.
 ghost use mathlib.Core.Path.{_≡_};
 ghost use Prim.Native.Nat.{_+_, _*_, _≤_, _/_, _%_};
 ghost use mathlib.Core.List.{_++_};
@@ -7,7 +7,8 @@ ghost use lib.Seq.{sets};
 ghost use Rattle.packing.specs.Lists.{written};
 ghost use Rattle.plant_file.specs.Encode.{lowFirst};
 ghost use Rattle.daemon.specs.Groups.{fourBytes, bytesFor};
-ghost use Rattle.daemon.specs.Pre.{Plannable};
+ghost use Rattle.daemon.specs.Why.{setBytes};
+ghost use Rattle.daemon.specs.Pre.{Plannable, Settable};
 
 fn low(x: u16) -> u8
     ensures { λ r. ⌜ r ≡ x % 256 ⌝ }
@@ -21,16 +22,16 @@ fn high(x: u16) -> u8
     (x / 256) as u8
 }
 
-// Numbers, two bytes each, from the front of a list on.
-fn with_numbers(numbers: &[u16], out: &mut [u8])
-    requires { ⌜ 2 * length (now numbers) ≤ length (now out) ⌝ }
-    ensures { λ _. ⌜ now (out .exit) ≡ sets (now (out .entry)) 0 (lowFirst (now (numbers .entry))) ⌝ }
+// Numbers, two bytes each, from a place on.
+fn with_numbers(numbers: &[u16], start: usize, out: &mut [u8])
+    requires { ⌜ start + 2 * length (now numbers) ≤ length (now out) ⌝ }
+    ensures { λ _. ⌜ now (out .exit) ≡ sets (now (out .entry)) start (lowFirst (now (numbers .entry))) ⌝ }
 {
     let mut i: usize = 0;
     while i < numbers.len() {
         let x = numbers[i];
-        out[2 * i] = low(x);
-        out[2 * i + 1] = high(x);
+        out[start + 2 * i] = low(x);
+        out[start + 2 * i + 1] = high(x);
         i += 1;
     }
 }
@@ -63,7 +64,18 @@ pub(crate) fn with_plan(n: usize, leaders: &[u16], choke: &[u8], moved: u32, out
     requires { ⌜ Plannable n (now leaders) (now choke) (now out) ⌝ }
     ensures { λ _. ⌜ now (out .exit) ≡ written (bytesFor n) (lowFirst (take n (now (leaders .entry))) ++ take n (now (choke .entry)) ++ fourBytes moved) (now (out .entry)) ⌝ }
 {
-    with_numbers(&leaders[..n], out);
+    with_numbers(&leaders[..n], 0, out);
     with_bytes(&choke[..n], 2 * n, out);
     with_four(moved, 3 * n, out);
+}
+
+// How many gateways each set has, then the first set, then the second.
+pub(crate) fn with_sets(first: &[u16], second: &[u16], out: &mut [u8])
+    requires { ⌜ Settable (now first) (now second) (now out) ⌝ }
+    ensures { λ _. ⌜ now (out .exit) ≡ written (length (setBytes (now (first .entry)) (now (second .entry)))) (setBytes (now (first .entry)) (now (second .entry))) (now (out .entry)) ⌝ }
+{
+    let counts = [first.len() as u16, second.len() as u16];
+    with_numbers(&counts, 0, out);
+    with_numbers(first, 4, out);
+    with_numbers(second, 4 + 2 * first.len(), out);
 }

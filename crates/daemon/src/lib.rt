@@ -1,4 +1,4 @@
-// The calls from C: the plan of a plant file as one list of bytes (01, "The plant file and the listing"), also while the plant is being placed (02, change 1), with the number moved (02, change 4).
+// The calls from C: the plan of a plant file as one list of bytes (01, "The plant file and the listing"), also while the plant is being placed (02, change 1), with the number moved (02, change 4); and why a gateway is alone (02, change 5).
 mod bytes;
 
 ghost use mathlib.Core.Path.{_≡_};
@@ -9,6 +9,7 @@ ghost use Rattle.packing.specs.Lists.{written};
 ghost use Rattle.packing.specs.Refusals.{byNumber};
 ghost use Rattle.plant_file.specs.PlantFile.{fileN};
 ghost use Rattle.plan.specs.After.{afterRefusal};
+ghost use Rattle.daemon.specs.Why.{aloneRefusal, aloneOut};
 ghost use Rattle.daemon.specs.Groups.{bytesFor, groupsRefusal, groupsOut, bytesAfter, groupsAfterRefusal, groupsAfterOut};
 
 // Where the list is long enough. The file is checked by the plan alone.
@@ -52,4 +53,25 @@ pub extern "C" fn plan_groups(file: &[u8], out: &mut [u8]) -> u32
     ensures out { λ _. ⌜ now (out .exit) ≡ groupsOut (now (file .entry)) (now (out .entry)) ⌝ }
 {
     plan_groups_after(file, plant_file::gateways(file) as u32, out)
+}
+
+// Why a gateway is alone in that plan: two sets of gateways.
+#[no_mangle]
+pub extern "C" fn why_alone(file: &[u8], gateway: u32, out: &mut [u8]) -> u32
+    ensures answer { λ r. ⌜ r ≡ aloneRefusal (now (file .entry)) gateway (length (now (out .entry))) ⌝ }
+    ensures out { λ _. ⌜ now (out .exit) ≡ aloneOut (now (file .entry)) gateway (now (out .entry)) ⌝ }
+{
+    let mut first = lists::marks::zeros();
+    let mut second = lists::marks::zeros();
+    let why = plan::why::why_lists(file, gateway, &mut first, &mut second);
+    if why.refusal != 0 {
+        return why.refusal;
+    }
+    if out.len() < 4 * (plant_file::gateways(file) as usize) + 4 {
+        return 10;
+    }
+    let a = why.first as usize;
+    let b = why.second as usize;
+    bytes::with_sets(&first[..a], &second[..b], out);
+    0
 }

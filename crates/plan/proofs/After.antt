@@ -42,7 +42,7 @@ module _ (file : List ℕ) (z : fileRefusal file ≡ 0) where
   pub file-open : openRefusal (fileN file) (fileT file) own own ≡ 0
   file-open = open-accepted file z own own own-long own-long
 
-  own-room : {l : List ℕ} → l ≡ own → fileN file ≤ length l
+  pub own-room : {l : List ℕ} → l ≡ own → fileN file ≤ length l
   own-room e = rw (e, length-replicate) (file-allowed file z .few)
 
   pub zeros : fileN file ≤ length {A = ℕ} (replicate (fileN file) 0)
@@ -119,7 +119,7 @@ pub record Front (n : ℕ) (front l : List ℕ) : Type 0 where
   pub is : take n l ≡ front
   pub long : n ≡ length (take n l)
 
-written-has : (n : ℕ) (front lent : List ℕ) → length front ≡ n → Front n front (written n front lent)
+pub written-has : (n : ℕ) (front lent : List ℕ) → length front ≡ n → Front n front (written n front lent)
 written-has n front lent e =
     let is = written-front n front lent e in
     record { room = written-room n front lent e; is = is; long = sym (ap length is ∙ e) }

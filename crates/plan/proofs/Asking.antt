@@ -1,27 +1,29 @@
 -- Why a gateway is alone in a file's plan: the refusals, and what the call gives by them.
-use Prim.Native.Nat.{ℕ, _≤_}
+use Prim.Native.Nat.{ℕ, zero, suc, _≤_}
 use mathlib.Core.Path.{_≡_, refl, sym, ap, _∙_}
 use mathlib.Core.Bool.{Bool, true}
 use mathlib.Core.List.{List}
 use native.Mathlib.Omega.{arith}
 use lib.ListN.{length}
+use borrow.Author.Tests.{le-ltb}
 use Rattle.packing.specs.Lists.{listWhere, written}
-use Rattle.packing.specs.Refusals.{byNumber}
+use Rattle.packing.specs.Refusals.{firstOf, byNumber}
+use Rattle.packing.proofs.Sums.{count-bound}
 use Rattle.packing.proofs.Lists.{listWhere-length}
-use Rattle.packing.proofs.Refusals.{refused, first-refused, first-passed}
+use Rattle.packing.proofs.Refusals.{refused, first-refused, first-passed, first-none}
 use Rattle.search.specs.Reached.{setWritten}
 use Rattle.sound.proofs.Meaning.{means-sound}
 use Rattle.planner.specs.declared.Small.{Small}
 use Rattle.planner.specs.State.{soundState}
 use Rattle.planner.proofs.Conditions.{sound-number}
 use Rattle.violator.specs.declared.WhyAnswer.{WhyAnswer}
-use Rattle.violator.specs.WhyAlone.{whyRefusal, inFirst, inSecond, firstCount, secondCount, whyAnswer, whyFirst, whySecond}
+use Rattle.violator.specs.WhyAlone.{whyConditions, whyRefusal, inFirst, inSecond, firstCount, secondCount, whyAnswer, whyFirst, whySecond}
 use Rattle.violator.proofs.WhyTests.{out-of-range}
 use Rattle.plant_file.specs.PlantFile.{fileN, fileRefusal}
 use Rattle.plan.specs.Plan.{fileState}
 use Rattle.plan.specs.Why.{fileWhyRefusal, fileFirst, fileSecond, fileWhy, firstWritten, secondWritten}
 use Rattle.plan.specs.declared.why.Why.{Why}
-use Rattle.plan.proofs.After.{file-agrees}
+use Rattle.plan.proofs.After.{own, own-room, Front, written-has, file-agrees}
 
 -- the record of an accepted file: its n, and that it is sound
 module _ (file : List ℕ) (z : fileRefusal file ≡ 0) where
@@ -98,3 +100,43 @@ module _ (file : List ℕ) (v : ℕ) (first second : List ℕ) (z : fileRefusal 
       → (a ≡ whyAnswer (fileState file) v (length first) (length second)) × ((first' ≡ whyFirst (fileState file) v first second) × (second' ≡ whySecond (fileState file) v first second))
       → (_≡_ {A = Why} (record { refusal = a .refusal; first = a .first; second = a .second }) (fileWhy file v (length first) (length second))) × ((first' ≡ firstWritten file v first second) × (second' ≡ secondWritten file v first second))
   asked-answered {a} (e, (f, g)) = (answer-is a e, (f ∙ first-is, g ∙ second-is))
+
+-- where there is a place for each gateway, the lengths do not matter
+roomy : (file : List ℕ) (v a b : ℕ) → fileRefusal file ≡ 0 → fileN file ≤ a → fileN file ≤ b → whyRefusal (fileState file) v a b ≡ whyRefusal (fileState file) v (fileN file) (fileN file)
+unfolding whyRefusal whyConditions
+roomy file v a b z l m =
+    rw (state-gateways file z, le-ltb a (fileN file) l, le-ltb b (fileN file) m, le-ltb (fileN file) (fileN file) (omega arith))
+
+-- .. so with lists of 1,024 entries the number is that for lists of n
+pub asked-own : (file : List ℕ) (v : ℕ) {a b : List ℕ} → a ≡ own → b ≡ own → fileWhyRefusal file v (length a) (length b) ≡ fileWhyRefusal file v (fileN file) (fileN file)
+unfolding fileWhyRefusal
+asked-own file v {a} {b} ea eb = go (fileRefusal file) refl
+  where
+    go : (e : ℕ) → fileRefusal file ≡ e → firstOf (fileRefusal file) (whyRefusal (fileState file) v (length a) (length b)) ≡ firstOf (fileRefusal file) (whyRefusal (fileState file) v (fileN file) (fileN file))
+    go zero z = ap (firstOf (fileRefusal file)) (roomy file v (length a) (length b) z (own-room file z ea) (own-room file z eb))
+    go (suc e) z = rw z
+
+-- an accepted call: the file is accepted, no set has more gateways than it, and the front of either list is its set
+module _ (file : List ℕ) (v : ℕ) (first second : List ℕ) {r : Why} (of : r ≡ fileWhy file v (length first) (length second)) (z : r .refusal ≡ 0) where
+  answers : fileWhyRefusal file v (length first) (length second) ≡ 0
+  answers = sym (ap (λ (x : Why). x .refusal) of) ∙ z
+
+  pub asked-accepted : fileRefusal file ≡ 0
+  unfolding fileWhyRefusal
+  asked-accepted = first-none (fileRefusal file) _ answers .0
+
+  pub first-few : length (fileFirst file v) ≤ fileN file
+  unfolding fileFirst
+  first-few = omega (arith, listWhere-length (fileN file) (inFirst (fileState file) v), count-bound (fileN file) (inFirst (fileState file) v))
+
+  pub second-few : length (fileSecond file v) ≤ fileN file
+  unfolding fileSecond
+  second-few = omega (arith, listWhere-length (fileN file) (inSecond (fileState file) v), count-bound (fileN file) (inSecond (fileState file) v))
+
+  pub first-front : {l : List ℕ} → l ≡ firstWritten file v first second → Front (r .first) (fileFirst file v) l
+  unfolding firstWritten
+  first-front e = rw (ap (λ (x : Why). x .first) of, e, answers) (written-has (length (fileFirst file v)) (fileFirst file v) first refl)
+
+  pub second-front : {l : List ℕ} → l ≡ secondWritten file v first second → Front (r .second) (fileSecond file v) l
+  unfolding secondWritten
+  second-front e = rw (ap (λ (x : Why). x .second) of, e, answers) (written-has (length (fileSecond file v)) (fileSecond file v) second refl)
