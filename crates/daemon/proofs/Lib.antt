@@ -4,3 +4,4 @@ pub mod Groups
 pub mod Asking
 pub mod Turns
 pub mod Claim
+pub mod WhyClaim

@@ -123,7 +123,7 @@ module _ (n : ℕ) (leaders choke out : List ℕ) (p : Plannable n leaders choke
       (omega (arith, length-append (lowFirst (take n leaders) ++ take n choke) (fourBytes x), both-long, four-long x)) (p .places)
 
 -- two sets: their counts, the first, the second
-module _ (first second out : List ℕ) (p : Settable first second out) where
+module _ (first second : List ℕ) where
   abbrev pub counts : List ℕ
   counts = length first ∷ length second ∷ []
 
@@ -137,8 +137,8 @@ module _ (first second out : List ℕ) (p : Settable first second out) where
   pub bytes-long : length (setBytes first second) ≡ 4 + 2 * length first + 2 * length second
   bytes-long = ap length (sym bytes-are) ∙ omega (arith, length-append (lowFirst counts ++ lowFirst first) (lowFirst second), front-long, low-long second)
 
-  pub sets-are-written : {a b new : List ℕ} → a ≡ sets out 0 (lowFirst counts) → b ≡ sets a 4 (lowFirst first) → new ≡ sets b (4 + 2 * length first) (lowFirst second)
+  pub sets-are-written : (out : List ℕ) → Settable first second out → {a b new : List ℕ} → a ≡ sets out 0 (lowFirst counts) → b ≡ sets a 4 (lowFirst first) → new ≡ sets b (4 + 2 * length first) (lowFirst second)
       → new ≡ written (length (setBytes first second)) (setBytes first second) out
-  sets-are-written e f g =
+  sets-are-written out p e f g =
       rw bytes-are at (parts-written (lowFirst counts) (lowFirst first) (lowFirst second) out 4 (4 + 2 * length first) (length (setBytes first second)) (low-long counts) front-long
       (ap length bytes-are) (omega (arith, bytes-long, p .places)) e f g)

@@ -1,17 +1,19 @@
--- 00, demands 2 and 3, and 02, changes 1, 2 and 4, of the bytes that the calls from C write. proofs/Claim.antt proves it.
+-- 00, demands 2 and 3, and 02, changes 1, 2, 4 and 5, of the bytes that the calls from C write. proofs/Claim.antt proves it.
 use Prim.Native.Nat.{ℕ, _+_, _*_, _<_, _≤_}
 use mathlib.Core.Path.{_≡_}
 use mathlib.Core.List.{List}
 use lib.Dec.{eqb}
 use lib.ListN.{length, drop}
+use Rattle.packing.specs.Lists.{listOf}
 use Rattle.packing.specs.Plant.{at}
 use Rattle.packing.specs.Grouping.{covered}
 use Rattle.packing.specs.Pairs.{EarlierLeads}
 use Rattle.search.specs.ChokeSet.{chokeByte}
-use Rattle.plant_file.specs.PlantFile.{fileN, fileLinks, fileOrder}
+use Rattle.plant_file.specs.PlantFile.{number, fileN, fileLinks, fileOrder}
 use Rattle.plan.specs.Plan.{stateAfter}
-use Rattle.plan.specs.Claim.{PlanOf, PlanSoFar, SumOfFewest}
+use Rattle.plan.specs.Claim.{PlanOf, PlanSoFar, SumOfFewest, WhyOf}
 use Rattle.daemon.specs.Groups.{groupsRefusal, groupsOut, groupsAfterRefusal, groupsAfterOut}
+use Rattle.daemon.specs.Why.{aloneRefusal, aloneOut}
 
 -- "n leaders of two bytes, then n choke bytes", "numbers low byte first": gateway v's leader and its choke byte, as a caller reads them
 abbrev pub leaderAt : List ℕ → ℕ → ℕ
@@ -72,3 +74,26 @@ unfoldable pub BytesAfterAll : Type 0
 BytesAfterAll =
     (file out : List ℕ)
     → (groupsAfterRefusal file (fileN file) (length out) ≡ groupsRefusal file (length out)) × (groupsAfterOut file (fileN file) out ≡ groupsOut file out)
+
+-- 02, change 5: two counts, the first set, the second set, two bytes for each number, as a caller of why_alone reads them
+abbrev pub firstCountAt : List ℕ → ℕ
+firstCountAt out = number out 0
+
+abbrev pub secondCountAt : List ℕ → ℕ
+secondCountAt out = number out 2
+
+abbrev pub firstAt : List ℕ → List ℕ
+firstAt out = listOf (firstCountAt out) (λ i. number out (4 + 2 * i))
+
+abbrev pub secondAt : List ℕ → List ℕ
+secondAt out = listOf (secondCountAt out) (λ i. number out (4 + 2 * firstCountAt out + 2 * i))
+
+-- An accepted call: the sets that the bytes say are why v is alone (plan/specs/Claim.antt), where plan_groups' bytes for the same file say who is kept. Nothing past them is written.
+unfoldable pub BytesWhy : Type 0
+BytesWhy =
+    (file : List ℕ) (v : ℕ) (out : List ℕ) → aloneRefusal file v (length out) ≡ 0
+    → ((plan : List ℕ) → groupsRefusal file (length plan) ≡ 0 → WhyOf file (leaderAt (groupsOut file plan)) v (firstAt (aloneOut file v out)) (secondAt (aloneOut file v out)))
+    × (drop (4 + 2 * firstCountAt (aloneOut file v out) + 2 * secondCountAt (aloneOut file v out)) (aloneOut file v out) ≡ drop (4 + 2 * firstCountAt (aloneOut file v out) + 2 * secondCountAt (aloneOut file v out)) out)
+
+unfoldable pub BytesWhyRefused : Type 0
+BytesWhyRefused = (file : List ℕ) (v : ℕ) (out : List ℕ) → (aloneRefusal file v (length out) ≡ 0 → ⊥) → aloneOut file v out ≡ out

@@ -1,10 +1,15 @@
 -- 01, "First to be named": the file's numbers, "then 10". 02, change 4: "Its list must now be 3n + 4 long, under number 10."
-use Prim.Native.Nat.{ℕ, _+_, _*_, _<_}
+use Prim.Native.Nat.{ℕ, _+_, _*_, _<_, _≤_}
+use mathlib.Core.Path.{_≡_}
+use mathlib.Core.Logic.{_⊎_}
 use mathlib.Core.List.{List}
+use lib.ListN.{replicate}
 use Rattle.packing.specs.Turns.{done, named, FirstNamed}
 use Rattle.plant_file.specs.PlantFile.{fileN}
 use Rattle.plant_file.specs.Turns.{fileTurn}
-use Rattle.daemon.specs.Groups.{groupsRefusal, groupsAfterRefusal}
+use Rattle.daemon.specs.Groups.{groupsRefusal, groupsOut, groupsAfterRefusal}
+use Rattle.daemon.specs.Why.{aloneRefusal}
+use Rattle.daemon.specs.Claim.{leaderAt}
 
 unfoldable pub GroupsExactly : Type 0
 GroupsExactly = (file : List ℕ) (outLen : ℕ) → FirstNamed (fileTurn file (named 10 (outLen < 3 * fileN file + 4) done)) (groupsRefusal file outLen)
@@ -13,3 +18,9 @@ GroupsExactly = (file : List ℕ) (outLen : ℕ) → FirstNamed (fileTurn file (
 unfoldable pub GroupsAfterExactly : Type 0
 GroupsAfterExactly =
     (file : List ℕ) (k outLen : ℕ) → FirstNamed (fileTurn file (named 24 (fileN file < k) (named 10 (outLen < 3 * fileN file + 4) done))) (groupsAfterRefusal file k outLen)
+
+-- 02, change 5: "30, the gateway is out of range, unplaced, or kept": not one that plan_groups leaves alone, by the bytes that it writes to a list of just the length needed; then 10
+unfoldable pub WhyExactly : Type 0
+WhyExactly =
+    (file : List ℕ) (v outLen : ℕ)
+    → FirstNamed (fileTurn file (named 30 ((fileN file ≤ v) ⊎ (leaderAt (groupsOut file (replicate (3 * fileN file + 4) 0)) v ≡ 65535 → ⊥)) (named 10 (outLen < 4 * fileN file + 4) done))) (aloneRefusal file v outLen)

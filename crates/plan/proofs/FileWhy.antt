@@ -2,7 +2,7 @@
 use Prim.Native.Nat.{ℕ, zero, suc, _+_, _<_}
 use mathlib.Core.Path.{_≡_, refl, sym, ap, _∙_}
 use mathlib.Core.Logic.{_⊎_, inl, inr, ⊎-elim}
-use mathlib.Core.Bool.{not, _||_}
+use mathlib.Core.Bool.{Bool, not, _||_}
 use mathlib.Core.List.{List}
 use native.Mathlib.Omega.{arith}
 use lib.Dec.{eqb, ltb, leb}
@@ -17,7 +17,7 @@ use Rattle.packing.specs.Turns.{FirstNamed, named}
 use Rattle.packing.proofs.Tests.{by-bool}
 use Rattle.packing.proofs.Prefixes.{order-place}
 use Rattle.packing.proofs.Refusals.{first-none}
-use Rattle.packing.proofs.Turns.{turn-done, turn-named, turn-as, says-less, says-most, says-same, says-either, says-not}
+use Rattle.packing.proofs.Turns.{turn-done, turn-named, turn-as, named-once, says-less, says-most, says-same, says-either, says-not}
 use Rattle.packing.proofs.Violator.{sumOf-common, violator-below}
 use Rattle.planner.specs.Calls.{read, readLeaders}
 use Rattle.planner.specs.Told.{Told, refuses}
@@ -29,7 +29,6 @@ use Rattle.violator.specs.Claim.{WhyAloneOf, WhyAlone}
 use Rattle.violator.proofs.Turns.{why-asked}
 use Rattle.violator.proofs.Claim.{why-alone, first-is, second-is}
 use Rattle.plant_file.specs.PlantFile.{fileN, fileT, fileRefusal}
-use Rattle.plant_file.specs.Turns.{fileTurn}
 use Rattle.plant_file.proofs.Accepted.{file-allowed}
 use Rattle.plant_file.proofs.Turns.{file-then}
 use Rattle.plan.specs.Plan.{callsAfter, stateAfter, fileState, planLeaders, fileLeaders}
@@ -109,17 +108,31 @@ file-why file v a b passes =
     let (z, asked) = first-none (fileRefusal file) _ passes in
     sets-why file z v (replicate a 0) (replicate b 0) (rw (length-replicate {A = ℕ} a 0, length-replicate {A = ℕ} b 0) asked)
 
--- A refused file gives its own number, whatever would be named after it.
-pub file-why-exactly : FileWhyExactly
-unfolding FileWhyExactly fileWhyRefusal
-file-why-exactly file v a b = go (fileRefusal file) refl
-  where
-    -- the numbers after the file's, by tests
-    otherwise : FirstNamed (named 30 (NotAlone file v) (shortTurn (fileN file) a b)) (refuse (leb (fileN file) v || not (eqb (at (fileLeaders file) v) NONE)) 30 (refuse (ltb a (fileN file) || ltb b (fileN file)) 10 0))
-    otherwise =
-        turn-named _ 30 _ _ (says-either _ _ (says-most (fileN file) v) (says-not _ (says-same (at (fileLeaders file) v) NONE)))
-        (λ _. turn-named _ 10 0 _ (says-either _ _ (says-less a (fileN file)) (says-less b (fileN file))) (λ _. turn-done))
+-- The claim goes by the leaders below n.
+pub why-below : (file : List ℕ) (g h : ℕ → ℕ) (v : ℕ) (first second : List ℕ) → ((x : ℕ) → x < fileN file → g x ≡ h x) → WhyOf file g v first second → WhyOf file h v first second
+why-below file g h v first second same w =
+    record { violator = violator-below (λ u l. refl) (λ i l. refl) (λ x l. ap (λ (y : ℕ). not (eqb y NONE)) (same x l)) (w .violator); counts = w .counts }
 
-    go : (e : ℕ) → fileRefusal file ≡ e → FirstNamed (fileTurn file (named 30 (NotAlone file v) (shortTurn (fileN file) a b))) (firstOf (fileRefusal file) (whyRefusal (fileState file) v a b))
-    go zero z = file-then file _ _ (asked-exactly file z v a b)
-    go (suc e) z = rw z (rw z at (file-then file _ _ otherwise))
+-- The number by tests: the file's; 30, where v is no gateway or the plan does not leave it alone; 10.
+module _ (file : List ℕ) (v : ℕ) where
+  unfoldable pub notAlone : Bool
+  notAlone = leb (fileN file) v || not (eqb (at (fileLeaders file) v) NONE)
+
+  tests-named : (a b : ℕ) → FirstNamed (named 30 (NotAlone file v) (shortTurn (fileN file) a b)) (refuse notAlone 30 (refuse (ltb a (fileN file) || ltb b (fileN file)) 10 0))
+  unfolding notAlone
+  tests-named a b =
+      turn-named _ 30 _ _ (says-either _ _ (says-most (fileN file) v) (says-not _ (says-same (at (fileLeaders file) v) NONE)))
+      (λ _. turn-named _ 10 0 _ (says-either _ _ (says-less a (fileN file)) (says-less b (fileN file))) (λ _. turn-done))
+
+  pub why-number : (a b : ℕ) → fileWhyRefusal file v a b ≡ firstOf (fileRefusal file) (refuse notAlone 30 (refuse (ltb a (fileN file) || ltb b (fileN file)) 10 0))
+  unfolding fileWhyRefusal
+  why-number a b = go (fileRefusal file) refl
+    where
+      go : (e : ℕ) → fileRefusal file ≡ e
+          → firstOf (fileRefusal file) (whyRefusal (fileState file) v a b) ≡ firstOf (fileRefusal file) (refuse notAlone 30 (refuse (ltb a (fileN file) || ltb b (fileN file)) 10 0))
+      go zero z = ap (firstOf (fileRefusal file)) (named-once (named 30 (NotAlone file v) (shortTurn (fileN file) a b)) _ _ (asked-exactly file z v a b) (tests-named a b))
+      go (suc e) z = rw z
+
+pub file-why-exactly : FileWhyExactly
+unfolding FileWhyExactly
+file-why-exactly file v a b = rw (why-number file v a b) (file-then file _ _ (tests-named file v a b))
