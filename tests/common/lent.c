@@ -8,6 +8,7 @@
 #include <unistd.h>
 
 #include "plan_groups.h"
+#include "why.h"
 
 enum { GUARDS = 64, GUARD = 0xC3 };
 
@@ -89,9 +90,9 @@ static struct lending lend_both(const uint8_t *file, size_t len, size_t out_len,
     return l;
 }
 
-static const char *fault_of(const struct lending *l, const uint8_t *file, uint32_t number)
+/* written is how many bytes the answer has; a refused call has none. */
+static const char *fault_of(const struct lending *l, const uint8_t *file, size_t written)
 {
-    size_t written = number == 0 ? answer_size(get_number(file + 5)) : 0;
     if (memcmp(l->in.at, file, l->in.len) != 0)
         return "the file's bytes changed";
     if (!guards_hold(&l->in))
@@ -99,28 +100,40 @@ static const char *fault_of(const struct lending *l, const uint8_t *file, uint32
     if (!guards_hold(&l->out))
         return "bytes beside the out area changed";
     if (!unwritten_from(&l->out, written))
-        return number == 0 ? "bytes past 3n + 4 changed" : "a refused call wrote";
+        return written > 0 ? "bytes past the answer changed" : "a refused call wrote";
     return NULL;
 }
 
 /* What the call gave, what it did that it must not do, and a copy of the out area. */
-static void look(const struct lending *l, const uint8_t *file, uint32_t number, struct outcome *o)
+static void look(const struct lending *l, const uint8_t *file, uint32_t number, size_t written, struct outcome *o)
 {
     o->number = number;
-    o->fault = fault_of(l, file, number);
+    o->fault = fault_of(l, file, written);
     memcpy(o->out, l->out.at, l->out.len);
+}
+
+static void look_at_plan(const struct lending *l, const uint8_t *file, uint32_t number, struct outcome *o)
+{
+    look(l, file, number, number == 0 ? answer_size(get_number(file + 5)) : 0, o);
 }
 
 void lent_call(const uint8_t *file, size_t len, size_t out_len, enum side side, struct outcome *o)
 {
     struct lending l = lend_both(file, len, out_len, side);
-    look(&l, file, plan_groups(l.in.at, len, l.out.at, out_len), o);
+    look_at_plan(&l, file, plan_groups(l.in.at, len, l.out.at, out_len), o);
 }
 
 void lent_call_after(const uint8_t *file, size_t len, uint32_t placings, size_t out_len, enum side side, struct outcome *o)
 {
     struct lending l = lend_both(file, len, out_len, side);
-    look(&l, file, plan_groups_after(l.in.at, len, placings, l.out.at, out_len), o);
+    look_at_plan(&l, file, plan_groups_after(l.in.at, len, placings, l.out.at, out_len), o);
+}
+
+void lent_call_why(const uint8_t *file, size_t len, uint32_t gateway, size_t out_len, enum side side, struct outcome *o)
+{
+    struct lending l = lend_both(file, len, out_len, side);
+    uint32_t number = why_alone(l.in.at, len, gateway, l.out.at, out_len);
+    look(&l, file, number, number == 0 && out_len >= 4 ? why_size(l.out.at) : 0, o);
 }
 
 void lent_plan(const struct plant *p, enum side side, struct outcome *o)
@@ -135,4 +148,11 @@ void lent_plan_after(const struct plant *p, int k, enum side side, struct outcom
     static uint8_t file[MAX_FILE];
     size_t len = plant_write(p, file);
     lent_call_after(file, len, (uint32_t)k, PLAN_GROUPS_OUT(p->n), side, o);
+}
+
+void lent_why(const struct plant *p, uint32_t gateway, enum side side, struct outcome *o)
+{
+    static uint8_t file[MAX_FILE];
+    size_t len = plant_write(p, file);
+    lent_call_why(file, len, gateway, WHY_ALONE_OUT(p->n), side, o);
 }

@@ -1,4 +1,4 @@
-/* Both calls on areas that are watched: whatever they touch outside them, or must not write, is noticed. */
+/* The calls on areas that are watched: whatever they touch outside them, or must not write, is noticed. */
 #ifndef LENT_H
 #define LENT_H
 
@@ -25,8 +25,12 @@ void lent_call(const uint8_t *file, size_t len, size_t out_len, enum side side, 
 /* Calls plan_groups_after in the same way. */
 void lent_call_after(const uint8_t *file, size_t len, uint32_t placings, size_t out_len, enum side side, struct outcome *o);
 
-/* The calls for a plant, with an out area just long enough; the second after k placings. */
+/* Calls why_alone in the same way. */
+void lent_call_why(const uint8_t *file, size_t len, uint32_t gateway, size_t out_len, enum side side, struct outcome *o);
+
+/* The calls for a plant, with an out area just long enough; the second after k placings, the third for a gateway. */
 void lent_plan(const struct plant *p, enum side side, struct outcome *o);
 void lent_plan_after(const struct plant *p, int k, enum side side, struct outcome *o);
+void lent_why(const struct plant *p, uint32_t gateway, enum side side, struct outcome *o);
 
 #endif

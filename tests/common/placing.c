@@ -142,6 +142,14 @@ int placing_one(const struct plant *p, int v, int *holder)
     return place(p, &near, v, holder);
 }
 
+/* Walks on from what stands in the queue; nobody holds fewer than 0, so that nothing is taken. */
+static void walk(struct search *s, int *seen)
+{
+    search(s, 0);
+    for (int u = 0; u < s->plant->n; u++)
+        seen[u] = s->seen_from[u] != NOBODY;
+}
+
 void placing_choke(const struct plant *p, const int *holder, int *choke)
 {
     static struct neighbours near;
@@ -149,7 +157,19 @@ void placing_choke(const struct plant *p, const int *holder, int *choke)
     gather(p, &near);
     begin(&s, p, &near, holder);
     join(&s, NOBODY);
-    search(&s, 0); /* nobody holds fewer than 0, so that nothing is taken */
-    for (int v = 0; v < p->n; v++)
-        choke[v] = s.seen_from[v] != NOBODY;
+    walk(&s, choke);
+}
+
+void placing_walk(const struct plant *p, const int *holder, int v, int *queued, int *seen)
+{
+    static struct neighbours near;
+    static struct search s;
+    gather(p, &near);
+    begin(&s, p, &near, holder);
+    s.queue[s.tail++] = v;
+    walk(&s, seen);
+    for (int x = 0; x < p->n; x++)
+        queued[x] = 0;
+    for (int i = 0; i < s.tail; i++)
+        queued[s.queue[i]] = 1;
 }

@@ -21,4 +21,10 @@ void placing_each(const struct plant *p, int *moved);
 /* For any holders: choke[v] is 1 where v is in the choke set, else 0. */
 void placing_choke(const struct plant *p, const int *holder, int *choke);
 
+/*
+ * The same walk from v only, which nobody holds: queued[x] is 1 where x is v or joined the queue, seen[u] where u was seen
+ * as a neighbour; else they are 0.
+ */
+void placing_walk(const struct plant *p, const int *holder, int v, int *queued, int *seen);
+
 #endif
