@@ -1,6 +1,6 @@
 #include "chains.h"
 
-void chain_make(struct plant *p, int hubs, int limit)
+static void make(struct plant *p, int hubs, int limit, bool full)
 {
     int leaves = hubs * limit, one_more = hubs + leaves;
     plant_open(p, one_more + 1, limit);
@@ -8,11 +8,24 @@ void chain_make(struct plant *p, int hubs, int limit)
         plant_link(p, i / limit, hubs + i);
     for (int hub = 0; hub < hubs; hub++) {
         int first = hubs + limit * hub;
-        plant_link(p, first, hub + 1 < hubs ? hub + 1 : first + 1);
+        if (hub + 1 < hubs)
+            plant_link(p, first, hub + 1);
+        else if (!full)
+            plant_link(p, first, first + 1);
     }
     plant_link(p, 0, one_more);
     for (int i = 0; i <= one_more; i++)
         p->order[i] = (hubs + i) % (one_more + 1);
+}
+
+void chain_make(struct plant *p, int hubs, int limit)
+{
+    make(p, hubs, limit, false);
+}
+
+void chain_make_full(struct plant *p, int hubs, int limit)
+{
+    make(p, hubs, limit, true);
 }
 
 /* A leaf looks at its first link first. */

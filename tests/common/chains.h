@@ -1,4 +1,4 @@
-/* Plants whose placings move many, and how many is known. */
+/* Plants whose placings or walks go far, and how far is known. */
 #ifndef CHAINS_H
 #define CHAINS_H
 
@@ -10,6 +10,9 @@
  * The hubs come last, and each finds a place at its first leaf. There are hubs * (limit + 1) + 1 gateways.
  */
 void chain_make(struct plant *p, int hubs, int limit);
+
+/* The same but that no leaf of the last hub can move, so that nobody can and the one more is left: the last gateway. */
+void chain_make_full(struct plant *p, int hubs, int limit);
 
 /*
  * Two to that power of hubs in a line, T leaves between each two neighbours, and T more at hub 0 alone. Leaves that join
