@@ -41,7 +41,8 @@ static void gateways(void)
 {
     for (int n = 0; n <= 3; n++) {
         whole(n, 2, 0);
-        expect(0, "n", n);
+        expect_plan(0, "n", n);
+        expect_why(n == 0 ? 30 : 0, "n", n);
     }
     whole(1023, 2, 0);
     expect(0, "n", 1023);
@@ -190,13 +191,31 @@ static void out_lengths(void)
         size_t needed = 3 * (size_t)sizes[i] + 4;
         whole(sizes[i], 2, 0);
         for (out_len = needed < NEAR ? 0 : needed - NEAR; out_len < needed; out_len++)
-            expect(10, "the out area has", (int)out_len);
-        expect(0, "the out area has", (int)out_len);
+            expect_plan(10, "the out area has", (int)out_len);
+        expect_plan(0, "the out area has", (int)out_len);
     }
     base();
     put_number(order_at(0), N);
     out_len = 3 * N + 3;
+    why_len = 4 * N + 3;
     expect(6, "6 before 10", 0);
+}
+
+/* The sets of a gateway without a link take six bytes, and yet no length below 4n + 4 is enough. */
+static void why_lengths(void)
+{
+    static const int sizes[] = {1, 2, 5, 40, 1024};
+    for (int i = 0; i < 5; i++) {
+        size_t needed = 4 * (size_t)sizes[i] + 4, step = needed / 16 + 1;
+        whole(sizes[i], 2, 0);
+        for (why_len = needed % step; why_len < needed; why_len += step)
+            expect_why(10, "the out area has", (int)why_len);
+        expect_why(0, "the out area has", (int)why_len);
+        why_len = needed - 1;
+        expect_why(10, "the out area has", (int)why_len);
+        gateway = (uint32_t)sizes[i];
+        expect_why(30, "30 before 10", sizes[i]);
+    }
 }
 
 static void expect_placings(uint32_t count, int number, int n)
@@ -222,6 +241,33 @@ static void placing_counts(void)
     }
 }
 
+static void expect_gateway(uint32_t number, int refusal, int n)
+{
+    gateway = number;
+    expect_why(refusal, "the gateway asked for, n", n);
+}
+
+/* The last has no link and the first two are linked. None past the last, as with the placings. */
+static void gateway_numbers(void)
+{
+    static const int sizes[] = {4, 5, 255, 256, 300, 1024};
+    for (int i = 0; i < 6; i++) {
+        uint32_t n = (uint32_t)sizes[i];
+        const uint32_t past[] = {n, n + 1, n + 255, 65535, 65536, 65535 + n, 65536 + n, 1u << 31, (1u << 31) + n - 1,
+                                 UINT32_MAX - 1, UINT32_MAX};
+        whole(sizes[i], 2, 3);
+        expect_gateway(n - 1, 0, sizes[i]);
+        expect_gateway(0, 30, sizes[i]);
+        expect_gateway(1, 30, sizes[i]);
+        for (size_t j = 0; j < sizeof past / sizeof past[0]; j++)
+            expect_gateway(past[j], 30, sizes[i]);
+    }
+    whole(0, 2, 0);
+    expect_gateway(0, 30, 0);
+    expect_gateway(65535, 30, 0);
+    expect_gateway(UINT32_MAX, 30, 0);
+}
+
 int main(void)
 {
     short_files();
@@ -237,6 +283,8 @@ int main(void)
     repeated_links();
     orders();
     placing_counts();
+    gateway_numbers();
     out_lengths();
+    why_lengths();
     return tally_end();
 }

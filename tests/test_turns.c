@@ -14,7 +14,9 @@ static void spoil_equal(void) { put_link(2, 1, 1); }
 static void spoil_again(void) { put_link(3, 1, 0); }
 static void spoil_order(void) { put_number(file + HEADER + 4 * LINKS, N - 1); }
 static void spoil_placings(void) { placings = N + 1; }
-static void spoil_out(void) { out_len--; }
+static void spoil_gateway(void) { gateway = N; }
+static void ask_a_covered_one(void) { gateway = 0; }
+static void spoil_out(void) { out_len--, why_len--; }
 static void spoil_header(void) { len = HEADER - 1; }
 
 static const struct {
@@ -23,7 +25,7 @@ static const struct {
 } faults[] = {
     {9, spoil_header}, {7, spoil_magic}, {8, spoil_version}, {1, spoil_n}, {2, spoil_limit}, {12, spoil_m},
     {9, spoil_length}, {3, spoil_end}, {4, spoil_equal}, {20, spoil_again}, {6, spoil_order}, {24, spoil_placings},
-    {10, spoil_out},
+    {30, spoil_gateway}, {30, ask_a_covered_one}, {10, spoil_out},
 };
 
 enum { FAULTS = sizeof faults / sizeof faults[0] };
@@ -41,16 +43,19 @@ static int spoil(int bits)
     return first;
 }
 
-/* Any of the faults together give the first in turn. plan_groups takes no placings, and is not asked with their fault. */
+/* Any of the faults together give the first in turn. A call is not asked with a fault of what it does not take. */
 static void turns(void)
 {
     for (int bits = 0; bits < 1 << FAULTS; bits++) {
         base();
         int first = spoil(bits);
-        if (placings > N)
+        bool bad_placings = placings > N, bad_gateway = gateway != N - 1;
+        if (!bad_placings && !bad_gateway)
+            expect_plan(first, "faults together", bits);
+        else if (!bad_gateway)
             expect_after(first, "faults together", bits);
-        else
-            expect(first, "faults together", bits);
+        if (!bad_placings)
+            expect_why(first, "faults together", bits);
     }
 }
 

@@ -2,6 +2,8 @@
 
 #include <string.h>
 
+#include "placing.h"
+
 struct header {
     int version, n, limit, m;
 };
@@ -104,4 +106,22 @@ int file_refusal_after(const uint8_t *file, size_t len, uint32_t placings, size_
 int file_refusal(const uint8_t *file, size_t len, size_t out_len, struct plant *p)
 {
     return file_refusal_after(file, len, 0, out_len, p); /* 0 is never above n */
+}
+
+/* Whether there is such a gateway and the papers' placing leaves it. */
+static bool is_left(const struct plant *p, uint32_t gateway)
+{
+    int holder[MAX_GATEWAYS];
+    placing_first(p, p->n, holder);
+    return gateway < (uint32_t)p->n && holder[gateway] == NOBODY;
+}
+
+int file_refusal_why(const uint8_t *file, size_t len, uint32_t gateway, size_t out_len, struct plant *p)
+{
+    int refusal = own_refusal(file, len, p);
+    if (refusal != 0)
+        return refusal;
+    if (!is_left(p, gateway))
+        return 30;
+    return out_len < 4 * (size_t)p->n + 4 ? 10 : 0;
 }

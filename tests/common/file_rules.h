@@ -1,4 +1,4 @@
-/* Document 01's rules for a plant file, in its turn: which number any bytes are refused with. */
+/* Document 01's rules for a plant file, in its turn, and those of 02: which number any bytes are refused with. */
 #ifndef FILE_RULES_H
 #define FILE_RULES_H
 
@@ -9,5 +9,8 @@ int file_refusal(const uint8_t *file, size_t len, size_t out_len, struct plant *
 
 /* The same for a call after so many placings. */
 int file_refusal_after(const uint8_t *file, size_t len, uint32_t placings, size_t out_len, struct plant *p);
+
+/* The same for a call that asks why a gateway is alone. */
+int file_refusal_why(const uint8_t *file, size_t len, uint32_t gateway, size_t out_len, struct plant *p);
 
 #endif

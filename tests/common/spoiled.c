@@ -7,8 +7,8 @@
 #include "tally.h"
 
 uint8_t file[MAX_FILE + MORE];
-size_t len, out_len;
-uint32_t placings;
+size_t len, out_len, why_len;
+uint32_t placings, gateway;
 
 static struct plant unused;
 static struct outcome outcome;
@@ -53,7 +53,9 @@ void whole(int n, int limit, int m)
         put_number(order_at(i), i);
     len = (size_t)HEADER + 4 * (size_t)m + 2 * (size_t)n;
     out_len = 3 * (size_t)n + 4;
+    why_len = 4 * (size_t)n + 4;
     placings = (uint32_t)n;
+    gateway = n > 0 ? (uint32_t)n - 1 : 0;
 }
 
 void base(void)
@@ -64,8 +66,9 @@ void base(void)
 static void compare(const char *call, int by_rules, int number, const char *what, int which)
 {
     bool ok = (int)outcome.number == number && by_rules == number && outcome.fault == NULL;
-    tally(ok, "%s (%d), %u placings: %s gives %u, the rules %d, expected %d; %s", what, which, (unsigned)placings, call,
-          (unsigned)outcome.number, by_rules, number, outcome.fault ? outcome.fault : "bounds kept");
+    tally(ok, "%s (%d), %u placings, gateway %u: %s gives %u, the rules %d, expected %d; %s", what, which,
+          (unsigned)placings, (unsigned)gateway, call, (unsigned)outcome.number, by_rules, number,
+          outcome.fault ? outcome.fault : "bounds kept");
 }
 
 void expect_after(int number, const char *what, int which)
@@ -77,7 +80,7 @@ void expect_after(int number, const char *what, int which)
     }
 }
 
-void expect(int number, const char *what, int which)
+void expect_plan(int number, const char *what, int which)
 {
     int by_rules = file_refusal(file, len, out_len, &unused);
     for (int side = AT_START; side <= AT_END; side++) {
@@ -85,4 +88,19 @@ void expect(int number, const char *what, int which)
         compare("plan_groups", by_rules, number, what, which);
     }
     expect_after(number, what, which);
+}
+
+void expect_why(int number, const char *what, int which)
+{
+    int by_rules = file_refusal_why(file, len, gateway, why_len, &unused);
+    for (int side = AT_START; side <= AT_END; side++) {
+        lent_call_why(file, len, gateway, why_len, side, &outcome);
+        compare("why_alone", by_rules, number, what, which);
+    }
+}
+
+void expect(int number, const char *what, int which)
+{
+    expect_plan(number, what, which);
+    expect_why(number, what, which);
 }

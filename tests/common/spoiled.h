@@ -4,12 +4,14 @@
 
 #include "plant.h"
 
-/* What base makes: N gateways and LINKS links 0-1, 0-2, 1-2, 0-3, 1-3. */
+/* What base makes: N gateways and LINKS links 0-1, 0-2, 1-2, 0-3, 1-3. The last two have no link. */
 enum { N = 6, LINKS = 5, MORE = 4096 };
 
 extern uint8_t file[MAX_FILE + MORE];
 extern size_t len, out_len;
 extern uint32_t placings; /* for plan_groups_after */
+extern uint32_t gateway;  /* for why_alone */
+extern size_t why_len;    /* its out_len */
 
 /* Where a link's or the order's numbers stand in the file. */
 uint8_t *link_at(int i);
@@ -17,7 +19,10 @@ uint8_t *order_at(int i);
 
 void put_link(int i, int a, int b);
 
-/* A file of any n, T and m with the lengths that fit, and n placings: links 0-1, 0-2, 1-2, 0-3, .. and order 0, 1, .. */
+/*
+ * A file of any n, T and m with the lengths that fit: links 0-1, 0-2, 1-2, 0-3, .. and order 0, 1, .. There are n placings,
+ * and the gateway asked for is the last, which is alone where it has no link.
+ */
 void whole(int n, int limit, int m);
 
 /* The accepted file that most examples spoil. */
@@ -27,6 +32,12 @@ void base(void);
 void expect_after(int number, const char *what, int which);
 
 /* Two tests more: plan_groups gives it as well. */
+void expect_plan(int number, const char *what, int which);
+
+/* Two tests: why_alone and the rules both give the number. */
+void expect_why(int number, const char *what, int which);
+
+/* All three calls give it. */
 void expect(int number, const char *what, int which);
 
 #endif
