@@ -5,9 +5,11 @@
 #include "file_rules.h"
 #include "judge.h"
 #include "lent.h"
+#include "placing.h"
 #include "tally.h"
+#include "why.h"
 
-enum { FILES = 12000, ROOM = 8192, NUMBERS = 25, WAYS = 12 };
+enum { FILES = 12000, ROOM = 8192, NUMBERS = 31, WAYS = 12 };
 
 static uint8_t file[ROOM];
 static size_t len;
@@ -134,7 +136,7 @@ static int check(struct rng *r, int which)
 }
 
 /* Mostly few, as n is here; and some that are few once they are cut to fewer bits. */
-static uint32_t any_placings(struct rng *r)
+static uint32_t any_number(struct rng *r)
 {
     const uint32_t many[] = {256, 65535, 65536, 1u << 24, 1u << 31, UINT32_MAX - 20};
     uint32_t few = (uint32_t)rng_below(r, 22);
@@ -147,12 +149,52 @@ static int check_after(struct rng *r, int which)
     static struct plant p;
     static struct outcome o;
     size_t out_len = any_length(r);
-    uint32_t placings = any_placings(r);
+    uint32_t placings = any_number(r);
     int number = file_refusal_after(file, len, placings, out_len, &p);
     lent_call_after(file, len, placings, out_len, lent_side(r), &o);
     const char *fault = fault_of(&p, (int)placings, &o, number);
     tally(fault == NULL, "damaged file %d, %u placings: %s; the call gives %u, the rules %d", which,
           (unsigned)placings, fault, (unsigned)o.number, number);
+    return number;
+}
+
+/* One that is left in a plant, if there is any, or any number. */
+static uint32_t any_gateway(const struct plant *p, struct rng *r)
+{
+    int holder[MAX_GATEWAYS], left[MAX_GATEWAYS], count = 0;
+    placing_first(p, p->n, holder);
+    for (int v = 0; v < p->n; v++)
+        if (holder[v] == NOBODY)
+            left[count++] = v;
+    return count == 0 || rng_below(r, 3) == 0 ? any_number(r) : (uint32_t)left[rng_below(r, count)];
+}
+
+static const char *why_fault_of(const struct plant *p, int gateway, const struct outcome *o, int number)
+{
+    static struct why got, expected;
+    int holder[MAX_GATEWAYS];
+    if (o->fault != NULL)
+        return o->fault;
+    if ((int)o->number != number)
+        return "another number";
+    if (number != 0)
+        return NULL;
+    placing_first(p, p->n, holder);
+    why_expect(p, holder, gateway, &expected);
+    return why_read(&got, p->n, o->out) && why_same(&got, &expected) ? NULL : "the sets are others than by the walk";
+}
+
+/* Why a gateway is alone that was left before the damage, or any other. */
+static int check_why(struct rng *r, int which, uint32_t gateway)
+{
+    static struct plant p;
+    static struct outcome o;
+    size_t out_len = any_length(r);
+    int number = file_refusal_why(file, len, gateway, out_len, &p);
+    lent_call_why(file, len, gateway, out_len, lent_side(r), &o);
+    const char *fault = why_fault_of(&p, (int)gateway, &o, number);
+    tally(fault == NULL, "damaged file %d, gateway %u: %s; the call gives %u, the rules %d", which, (unsigned)gateway,
+          fault, (unsigned)o.number, number);
     return number;
 }
 
@@ -167,17 +209,21 @@ int main(void)
 {
     static struct plant p;
     static const int all[] = {0, 1, 2, 3, 4, 6, 7, 8, 9, 10, 12, 20, 24};
-    int seen[NUMBERS] = {0}, seen_after[NUMBERS] = {0};
+    static const int all_of_why[] = {0, 1, 2, 3, 4, 6, 7, 8, 9, 10, 12, 20, 30};
+    int seen[NUMBERS] = {0}, seen_after[NUMBERS] = {0}, seen_why[NUMBERS] = {0};
     struct rng r = {4};
 
     for (int i = 0; i < FILES; i++) {
         family_make(&families[rng_below(&r, family_count)], &p, &r, rng_between(&r, 0, 20), 0);
+        uint32_t gateway = any_gateway(&p, &r);
         len = plant_write(&p, file);
         ways[i % WAYS](&r);
         seen[check(&r, i)]++;
         seen_after[check_after(&r, i)]++;
+        seen_why[check_why(&r, i, gateway)]++;
     }
     reaches("plan_groups", seen, all, 12);
     reaches("plan_groups_after", seen_after, all, 13);
+    reaches("why_alone", seen_why, all_of_why, 13);
     return tally_end();
 }
