@@ -5,6 +5,8 @@
 #include <string.h>
 #include <sys/mman.h>
 
+#include "answer.h"
+#include "chains.h"
 #include "families.h"
 #include "outside.h"
 #include "plan_groups.h"
@@ -12,31 +14,44 @@
 
 enum { BELOW = 1 << 20, PAINT = 0xA7, PLANTS = 40, ROUNDS = 20 };
 
+/* Which call: plan_groups, plan_groups_after or why_alone. */
+enum call { ALL, SO_FAR, WHY };
+
+static const char *const names[] = {"all", "so far", "why"};
+
 /* One call: what is lent, and what came back. */
 struct job {
-    uint8_t file[MAX_FILE], out[PLAN_GROUPS_OUT_MAX];
+    uint8_t file[MAX_FILE], out[WHY_ALONE_OUT_MAX];
     size_t len, out_len;
-    bool so_far; /* plan_groups_after with these placings; else plan_groups */
-    uint32_t placings;
+    enum call call;
+    uint32_t asked; /* the placings, or the gateway */
     uint32_t number;
 };
 
 static struct plant plant;
 
-static void job_of(struct job *j)
+static void job_of(struct job *j, enum call call, uint32_t asked)
 {
     j->len = plant_write(&plant, j->file);
-    j->out_len = PLAN_GROUPS_OUT(plant.n);
-    j->so_far = false;
+    j->out_len = call == WHY ? WHY_ALONE_OUT(plant.n) : PLAN_GROUPS_OUT(plant.n);
+    j->call = call;
+    j->asked = asked;
 }
 
 static void *plan_one(void *j)
 {
     struct job *job = j;
-    if (job->so_far)
-        job->number = plan_groups_after(job->file, job->len, job->placings, job->out, job->out_len);
-    else
+    switch (job->call) {
+    case ALL:
         job->number = plan_groups(job->file, job->len, job->out, job->out_len);
+        break;
+    case SO_FAR:
+        job->number = plan_groups_after(job->file, job->len, job->asked, job->out, job->out_len);
+        break;
+    case WHY:
+        job->number = why_alone(job->file, job->len, job->asked, job->out, job->out_len);
+        break;
+    }
     return NULL;
 }
 
@@ -49,6 +64,21 @@ static void plan(struct job *j)
 static bool same_answer(const struct job *a, const struct job *b)
 {
     return a->number == b->number && memcmp(a->out, b->out, sizeof a->out) == 0;
+}
+
+/* The last that is alone in the plant; 0 where nobody is, or the plant is refused. */
+static uint32_t last_alone(void)
+{
+    static struct job j;
+    static struct answer a;
+    job_of(&j, ALL, 0);
+    plan(&j);
+    if (j.number == 0)
+        answer_read(&a, plant.n, j.out);
+    for (int v = plant.n - 1; j.number == 0 && v >= 0; v--)
+        if (a.leader[v] == ALONE)
+            return (uint32_t)v;
+    return 0;
 }
 
 /* An area for stacks, of len bytes that may be touched and BELOW under them that may not. */
@@ -94,38 +124,47 @@ static void check_job(const char *name, struct job *j)
         stack_used(j, just, PLAN_GROUPS_STACK);
         fits = same_answer(j, &expected);
     }
-    tally(fits, "%s, %d gateways, %d links, %s: number %u, %zu bytes of stack", name, plant.n, plant.m,
-          j->so_far ? "so far" : "all", (unsigned)j->number, used);
+    tally(fits, "%s, %d gateways, %d links, %s: number %u, %zu bytes of stack", name, plant.n, plant.m, names[j->call],
+          (unsigned)j->number, used);
 }
 
-static void check_stack(const char *name)
+/* More placings than gateways are refused, and so is a gateway that is not there; whether one alone was explained. */
+static bool check_stack(const char *name)
 {
     static struct job j;
-    const int placings[] = {plant.n / 2, plant.n, plant.n + 1}; /* the last are refused */
-    job_of(&j);
+    const uint32_t n = (uint32_t)plant.n, placings[] = {n / 2, n, n + 1}, gateways[] = {n, last_alone()};
+    job_of(&j, ALL, 0);
     check_job(name, &j);
-    j.so_far = true;
     for (int i = 0; i < 3; i++) {
-        j.placings = (uint32_t)placings[i];
+        job_of(&j, SO_FAR, placings[i]);
         check_job(name, &j);
     }
+    for (int i = 0; i < 2; i++) {
+        job_of(&j, WHY, gateways[i]);
+        check_job(name, &j);
+    }
+    return j.number == 0;
 }
 
 static void stacks(struct rng *r)
 {
+    int explained = 0;
     for (int n = 0; n <= 2; n++) {
         plant_open(&plant, n, 2);
-        check_stack("no links");
+        explained += check_stack("no links");
     }
     plant_open(&plant, PLAN_GROUPS_GATEWAYS_MAX, 2);
     family_fill(&plant, r, PLAN_GROUPS_LINKS_MAX);
     check_stack("the largest plant");
     plant.limit = 17;
     check_stack("a refused plant");
+    chain_make_full(&plant, 341, 2);
+    explained += check_stack("the longest walk");
     for (int f = 0; f < family_count; f++) {
         family_make(&families[f], &plant, r, rng_between(r, 3, 200), 0);
-        check_stack(families[f].name);
+        explained += check_stack(families[f].name);
     }
+    tally(explained >= 6, "only %d plants in which one alone was explained", explained);
 }
 
 /* A thread's own plants, planned again and again beside the other's. */
@@ -147,20 +186,26 @@ static void *plan_side(void *s)
     return NULL;
 }
 
-static void fill_side(struct side *s, struct rng *r, pthread_barrier_t *both)
+/* Returns how many of the side's jobs explain one alone. */
+static int fill_side(struct side *s, struct rng *r, pthread_barrier_t *both)
 {
+    int explained = 0;
     s->both = both;
     s->differ = 0;
     for (int i = 0; i < PLANTS; i++) {
-        family_make(&families[rng_below(r, family_count)], &plant, r, rng_between(r, 1, 100), 0);
-        job_of(&s->jobs[i]);
-        s->jobs[i].so_far = rng_below(r, 2) == 0;
-        s->jobs[i].placings = (uint32_t)rng_between(r, 0, plant.n);
+        enum call call = (enum call)(i % 3);
+        if (call == WHY) /* somebody is alone there */
+            family_make(family_named("hubs"), &plant, r, rng_between(r, 20, 100), 2);
+        else
+            family_make(&families[rng_below(r, family_count)], &plant, r, rng_between(r, 1, 100), 0);
+        job_of(&s->jobs[i], call, call == WHY ? last_alone() : (uint32_t)rng_between(r, 0, plant.n));
         if (i % 8 == 7)
             s->jobs[i].len--;
         s->alone[i] = s->jobs[i];
         plan(&s->alone[i]);
+        explained += call == WHY && s->alone[i].number == 0;
     }
+    return explained;
 }
 
 static void at_once(struct rng *r)
@@ -169,8 +214,10 @@ static void at_once(struct rng *r)
     pthread_barrier_t both;
     pthread_t threads[2];
     must(pthread_barrier_init(&both, NULL, 2) == 0, "no barrier");
-    for (int i = 0; i < 2; i++)
-        fill_side(&sides[i], r, &both);
+    for (int i = 0; i < 2; i++) {
+        int explained = fill_side(&sides[i], r, &both);
+        tally(explained >= 8, "only %d calls of a thread explain one alone", explained);
+    }
     for (int i = 0; i < 2; i++)
         must(pthread_create(&threads[i], NULL, plan_side, &sides[i]) == 0, "no thread");
     for (int i = 0; i < 2; i++)
