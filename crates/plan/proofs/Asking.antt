@@ -20,7 +20,7 @@ use Rattle.violator.specs.declared.WhyAnswer.{WhyAnswer}
 use Rattle.violator.specs.WhyAlone.{whyConditions, whyRefusal, inFirst, inSecond, firstCount, secondCount, whyAnswer, whyFirst, whySecond}
 use Rattle.violator.proofs.WhyTests.{out-of-range}
 use Rattle.plant_file.specs.PlantFile.{fileN, fileRefusal}
-use Rattle.plan.specs.Plan.{fileState}
+use Rattle.plan.specs.Plan.{stateAfter, fileState}
 use Rattle.plan.specs.Why.{fileWhyRefusal, fileFirst, fileSecond, fileWhy, firstWritten, secondWritten}
 use Rattle.plan.specs.declared.why.Why.{Why}
 use Rattle.plan.proofs.After.{own, own-room, Front, written-has, file-agrees}
@@ -96,10 +96,11 @@ module _ (file : List ℕ) (v : ℕ) (first second : List ℕ) (z : fileRefusal 
       second-same : secondCount (fileState file) v (length first) (length second) ≡ byNumber (fileWhyRefusal file v (length first) (length second)) (length (fileSecond file v)) 0
       second-same = second-counted ∙ ap (λ (e : ℕ). byNumber e (length (fileSecond file v)) 0) same-number
 
-  pub asked-answered : {a : WhyAnswer} {first' second' : List ℕ}
-      → (a ≡ whyAnswer (fileState file) v (length first) (length second)) × ((first' ≡ whyFirst (fileState file) v first second) × (second' ≡ whySecond (fileState file) v first second))
+  pub asked-answered : {k : ℕ} {a : WhyAnswer} {first' second' : List ℕ} → k ≡ fileN file
+      → (a ≡ whyAnswer (stateAfter file k) v (length first) (length second)) × ((first' ≡ whyFirst (stateAfter file k) v first second) × (second' ≡ whySecond (stateAfter file k) v first second))
       → (_≡_ {A = Why} (record { refusal = a .refusal; first = a .first; second = a .second }) (fileWhy file v (length first) (length second))) × ((first' ≡ firstWritten file v first second) × (second' ≡ secondWritten file v first second))
-  asked-answered {a} (e, (f, g)) = (answer-is a e, (f ∙ first-is, g ∙ second-is))
+  unfolding fileState
+  asked-answered {a = a} all (e, (f, g)) = (answer-is a (rw all at e), ((rw all at f) ∙ first-is, (rw all at g) ∙ second-is))
 
 -- where there is a place for each gateway, the lengths do not matter
 roomy : (file : List ℕ) (v a b : ℕ) → fileRefusal file ≡ 0 → fileN file ≤ a → fileN file ≤ b → whyRefusal (fileState file) v a b ≡ whyRefusal (fileState file) v (fileN file) (fileN file)

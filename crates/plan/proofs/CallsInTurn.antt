@@ -1,6 +1,6 @@
 -- The calls that a file stands for, one after the other: the loops, and the whole.
 use Prim.Native.Nat.{ℕ, _+_, _*_, _<_, _≤_}
-use mathlib.Core.Path.{_≡_, refl, sym, ap, subst, _∙_}
+use mathlib.Core.Path.{_≡_, refl, sym, ap, _∙_}
 use mathlib.Core.List.{List, []}
 use native.Mathlib.Numerals.{add-one}
 use native.Mathlib.Omega.{arith}
@@ -29,7 +29,7 @@ use Rattle.plant_file.specs.Reader.{linkAt}
 use Rattle.plant_file.specs.Load.{orderWritten}
 use Rattle.plant_file.proofs.LinksByIndex.{links-long, order-long, step-at}
 use Rattle.plant_file.proofs.Accepted.{file-allowed}
-use Rattle.plan.specs.Plan.{callsAfter, stateAfter, fileState, movesAfter}
+use Rattle.plan.specs.Plan.{callsAfter, stateAfter, movesAfter}
 use Rattle.plan.specs.Pre.{linkStep}
 
 -- one link
@@ -153,18 +153,21 @@ module _ (file : List ℕ) (k : ℕ) {ls os hs : List ℕ} (els : ls ≡ replica
   unfolding movesAfter
   file-moves moves = moves ∙ rw (els, eos, ehs)
 
-  pub all-read : (s : Small) (ls' os' hs' leaders choke : List ℕ) {m : ℕ} {leaders' choke' : List ℕ}
-      → stateOf s ls' os' hs' ≡ madeBy (fileN file) (fileT file) ls os hs (callsAfter file k) → m ≡ movesBy (fileN file) (fileT file) ls os hs (callsAfter file k)
-      → leaders' ≡ readLeaders (stateOf s ls' os' hs') leaders choke → choke' ≡ readChoke (stateOf s ls' os' hs') leaders choke
-      → (leaders' ≡ readLeaders (stateAfter file k) leaders choke) × ((choke' ≡ readChoke (stateAfter file k) leaders choke) × (m ≡ movesAfter file k))
-  all-read s ls' os' hs' leaders choke made moves e f =
-      (e ∙ ap (λ (x : State). readLeaders x leaders choke) (file-made made), (f ∙ ap (λ (x : State). readChoke x leaders choke) (file-made made), file-moves moves))
-
   -- .. and what it answers when it is asked why a gateway is alone
-  pub all-asked : (s : Small) (ls' os' hs' : List ℕ) (v : ℕ) (first second : List ℕ) {a : WhyAnswer} {first' second' : List ℕ} → k ≡ fileN file
-      → stateOf s ls' os' hs' ≡ madeBy (fileN file) (fileT file) ls os hs (callsAfter file k)
+  pub all-looked : (s : Small) (ls' os' hs' leaders choke : List ℕ) (v : ℕ) (first second : List ℕ) {m : ℕ} {leaders' choke' : List ℕ} {a : WhyAnswer} {first' second' : List ℕ}
+      → stateOf s ls' os' hs' ≡ madeBy (fileN file) (fileT file) ls os hs (callsAfter file k) → m ≡ movesBy (fileN file) (fileT file) ls os hs (callsAfter file k)
+      → (leaders' ≡ readLeaders (stateOf s ls' os' hs') leaders choke) × (choke' ≡ readChoke (stateOf s ls' os' hs') leaders choke)
       → (a ≡ whyAnswer (stateOf s ls' os' hs') v (length first) (length second)) × ((first' ≡ whyFirst (stateOf s ls' os' hs') v first second) × (second' ≡ whySecond (stateOf s ls' os' hs') v first second))
-      → (a ≡ whyAnswer (fileState file) v (length first) (length second)) × ((first' ≡ whyFirst (fileState file) v first second) × (second' ≡ whySecond (fileState file) v first second))
-  unfolding fileState
-  all-asked s ls' os' hs' v first second {a} {first'} {second'} all made =
-      subst (λ (x : State). (a ≡ whyAnswer x v (length first) (length second)) × ((first' ≡ whyFirst x v first second) × (second' ≡ whySecond x v first second))) (file-made made ∙ ap (stateAfter file) all)
+      → (leaders' ≡ readLeaders (stateAfter file k) leaders choke) × ((choke' ≡ readChoke (stateAfter file k) leaders choke) × ((m ≡ movesAfter file k)
+      × ((a ≡ whyAnswer (stateAfter file k) v (length first) (length second)) × ((first' ≡ whyFirst (stateAfter file k) v first second) × (second' ≡ whySecond (stateAfter file k) v first second)))))
+  all-looked s ls' os' hs' leaders choke v first second made moves (e, f) (g, (h, i)) =
+      let same = file-made made in (
+        e ∙ ap (λ (x : State). readLeaders x leaders choke) same,
+        (
+          f ∙ ap (λ (x : State). readChoke x leaders choke) same,
+          (
+            file-moves moves,
+            (g ∙ ap (λ (x : State). whyAnswer x v (length first) (length second)) same, (h ∙ ap (λ (x : State). whyFirst x v first second) same, i ∙ ap (λ (x : State). whySecond x v first second) same)),
+          ),
+        ),
+      )

@@ -12,7 +12,7 @@ ghost use Rattle.planner.specs.Claims.{madeBy, movesBy};
 ghost use Rattle.violator.specs.WhyAlone.{whyAnswer, whyFirst, whySecond};
 ghost use Rattle.plant_file.specs.PlantFile.{fileN, fileT, fileLinks, fileOrder, fileRefusal};
 ghost use Rattle.plant_file.specs.Reader.{linkAt};
-ghost use Rattle.plan.specs.Plan.{callsAfter, stateAfter, fileState, movesAfter};
+ghost use Rattle.plan.specs.Plan.{callsAfter, stateAfter, movesAfter};
 ghost use Rattle.plan.specs.Pre.{linkStep};
 
 // The call for the link at an index.
@@ -99,33 +99,40 @@ fn make(
     with_places(placings, ordered, links, order, holders)
 }
 
-// The record made, and read into the lent lists. Returns how many gateways the placings moved.
-pub(crate) fn read_all(file: &[u8], placings: u32, leaders: &mut [u16], choke: &mut [u8]) -> u32
+// How many gateways the placings moved, and why a gateway is alone.
+pub(crate) struct Looked {
+    pub moved: u32,
+    pub why: WhyAnswer,
+}
+
+// The record made, read, and asked why a gateway is alone. A caller of one look lends no places for the other, which is then refused and writes nothing.
+// Both looks stand in one function so that a plan's lists, and the table of what is held, take their place on the stack once for all calls.
+pub(crate) fn look(
+    file: &[u8],
+    placings: u32,
+    leaders: &mut [u16],
+    choke: &mut [u8],
+    gateway: u16,
+    first: &mut [u16],
+    second: &mut [u16],
+) -> Looked
     requires { ⌜ fileRefusal (now file) ≡ 0 ⌝ }
     ensures leaders { λ _. ⌜ now (leaders .exit) ≡ readLeaders (stateAfter (now (file .entry)) placings) (now (leaders .entry)) (now (choke .entry)) ⌝ }
     ensures choke { λ _. ⌜ now (choke .exit) ≡ readChoke (stateAfter (now (file .entry)) placings) (now (leaders .entry)) (now (choke .entry)) ⌝ }
-    ensures moved { λ r. ⌜ r ≡ movesAfter (now (file .entry)) placings ⌝ }
+    ensures moved { λ r. ⌜ r .moved ≡ movesAfter (now (file .entry)) placings ⌝ }
+    ensures why { λ r. ⌜ r .why ≡ whyAnswer (stateAfter (now (file .entry)) placings) gateway (length (now (first .entry))) (length (now (second .entry))) ⌝ }
+    ensures first { λ _. ⌜ now (first .exit) ≡ whyFirst (stateAfter (now (file .entry)) placings) gateway (now (first .entry)) (now (second .entry)) ⌝ }
+    ensures second { λ _. ⌜ now (second .exit) ≡ whySecond (stateAfter (now (file .entry)) placings) gateway (now (first .entry)) (now (second .entry)) ⌝ }
 {
     let mut links = lists::marks::ends();
     let mut order = lists::marks::zeros();
     let mut holders = lists::marks::zeros();
-    let made = make(file, placings, &mut links, &mut order, &mut holders);
-    made.small.read(&links, &order, &holders, leaders, choke);
-    made.moved
-}
-
-// The record made, all placed, and asked why a gateway is alone.
-pub(crate) fn ask(file: &[u8], gateway: u16, first: &mut [u16], second: &mut [u16]) -> WhyAnswer
-    requires { ⌜ fileRefusal (now file) ≡ 0 ⌝ }
-    ensures answer { λ r. ⌜ r ≡ whyAnswer (fileState (now (file .entry))) gateway (length (now (first .entry))) (length (now (second .entry))) ⌝ }
-    ensures first { λ _. ⌜ now (first .exit) ≡ whyFirst (fileState (now (file .entry))) gateway (now (first .entry)) (now (second .entry)) ⌝ }
-    ensures second { λ _. ⌜ now (second .exit) ≡ whySecond (fileState (now (file .entry))) gateway (now (first .entry)) (now (second .entry)) ⌝ }
-{
-    let mut links = lists::marks::ends();
-    let mut order = lists::marks::zeros();
-    let mut holders = lists::marks::zeros();
-    let placings = plant_file::gateways(file) as u32;
     let made = make(file, placings, &mut links, &mut order, &mut holders);
     let small = made.small;
-    violator::why_alone(small, &links, &order, &holders, gateway, first, second)
+    small.read(&links, &order, &holders, leaders, choke);
+    let why = violator::why_alone(small, &links, &order, &holders, gateway, first, second);
+    Looked {
+        moved: made.moved,
+        why,
+    }
 }

@@ -56,8 +56,21 @@ pub fn plan_lists_after(
             moved: 0,
         };
     }
-    let moved = calls::read_all(file, placings, leaders, choke);
-    Planned { refusal: 0, moved }
+    let mut first = [0u16; 1];
+    let mut second = [0u16; 1];
+    let looked = calls::look(
+        file,
+        placings,
+        leaders,
+        choke,
+        0,
+        &mut first[..0],
+        &mut second[..0],
+    );
+    Planned {
+        refusal: 0,
+        moved: looked.moved,
+    }
 }
 
 // The leader list and the choke bytes of a file's plan: after all placings. Nothing is written on refusal.

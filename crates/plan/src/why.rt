@@ -25,17 +25,29 @@ pub fn why_lists(file: &[u8], gateway: u32, first: &mut [u16], second: &mut [u16
             second: 0,
         };
     }
-    if (plant_file::gateways(file) as u32) <= gateway {
+    let n = plant_file::gateways(file) as u32;
+    if n <= gateway {
         return Why {
             refusal: 30,
             first: 0,
             second: 0,
         };
     }
-    let asked = calls::ask(file, gateway as u16, first, second);
+    let mut leaders = [0u16; 1];
+    let mut choke = [0u8; 1];
+    let looked = calls::look(
+        file,
+        n,
+        &mut leaders[..0],
+        &mut choke[..0],
+        gateway as u16,
+        first,
+        second,
+    );
+    let why = looked.why;
     Why {
-        refusal: asked.refusal,
-        first: asked.first,
-        second: asked.second,
+        refusal: why.refusal,
+        first: why.first,
+        second: why.second,
     }
 }

@@ -15,8 +15,21 @@ same-length-2 c = search needs
 returns : tie.Need-returns
 returns c = plan-refused _ _ _ _ (c .before .refusal-of .ensures) (c .if1 .taken)
 
-read-all-requires : tie.Need-read-all-requires
-read-all-requires c κs = plan-places _ _ _ _ (c .before .before .before .refusal-of .ensures) (c .before .before .if1 .left) .0
+array-borrow-prefix-first : tie.Need-array-borrow-prefix-first
+array-borrow-prefix-first c = search needs
+
+slice-aggregate-look : tie.Need-slice-aggregate-look
+slice-aggregate-look c = search needs
+
+array-borrow-prefix-second : tie.Need-array-borrow-prefix-second
+array-borrow-prefix-second c = search needs
+
+slice-aggregate-look-2 : tie.Need-slice-aggregate-look-2
+slice-aggregate-look-2 c = search needs
+
+look-requires : tie.Need-look-requires
+look-requires c κs = let test = c .before .before .before .before in
+    plan-places _ _ _ _ (test .before .refusal-of .ensures) (test .if1 .left) .0
 
 same-length-3 : tie.Need-same-length-3
 same-length-3 c = search needs
@@ -25,9 +38,9 @@ same-length-4 : tie.Need-same-length-4
 same-length-4 c = search needs
 
 returns-2 : tie.Need-returns-2
-returns-2 c = let read = c .before .before .before .before in
-    let test = read .before .before .before in
-    plan-accepted _ _ _ _ (test .before .refusal-of .ensures) (test .if1 .left) (read .read-all .ensures .0) (read .read-all .ensures .1 .0) (read .read-all .ensures .1 .1)
+returns-2 c = let looked = c .before .before .before .before .before .before in
+    let test = looked .before .before .before .before .before in
+    plan-accepted _ _ _ _ (test .before .refusal-of .ensures) (test .if1 .left) (looked .look .ensures .0) (looked .look .ensures .1 .0) (looked .look .ensures .1 .1 .0)
 
 pub plan-lists-after-spec : {M : Type 1} → statement M
 plan-lists-after-spec =
@@ -37,7 +50,11 @@ plan-lists-after-spec =
     same-length
     same-length-2
     returns
-    read-all-requires
+    array-borrow-prefix-first
+    slice-aggregate-look
+    array-borrow-prefix-second
+    slice-aggregate-look-2
+    look-requires
     same-length-3
     same-length-4
     returns-2)

@@ -1,7 +1,7 @@
-use Rattle.plan.proofs.CallsInTurn.{all-read}
+use Rattle.plan.proofs.CallsInTurn.{all-looked}
 use borrow.Author.Needs.{needs}
-use Rattle.plan.proofs.calls.read_all.Statement.{statement}
-use Rattle.plan.proofs.calls.read_all.Tie as tie
+use Rattle.plan.proofs.calls.look.Statement.{statement}
+use Rattle.plan.proofs.calls.look.Tie as tie
 
 ends-requires : tie.Need-ends-requires
 ends-requires c κs = search needs
@@ -36,20 +36,40 @@ slice-aggregate-read-3 c = search needs
 read-requires : tie.Need-read-requires
 read-requires c κs = search needs
 
+slice-aggregate-why-alone : tie.Need-slice-aggregate-why-alone
+slice-aggregate-why-alone c = search needs
+
+slice-aggregate-why-alone-2 : tie.Need-slice-aggregate-why-alone-2
+slice-aggregate-why-alone-2 c = search needs
+
+slice-aggregate-why-alone-3 : tie.Need-slice-aggregate-why-alone-3
+slice-aggregate-why-alone-3 c = search needs
+
+why-alone-requires : tie.Need-why-alone-requires
+why-alone-requires c κs = search needs
+
 same-length : tie.Need-same-length
 same-length c = search needs
 
 same-length-2 : tie.Need-same-length-2
 same-length-2 c = search needs
 
-returns : tie.Need-returns
-returns c = let read = c .before .before .before .before in
-    let made = read .before .before .before .before .before .before .before .before .before in
-    let lent = made .before .before .before .before in
-    all-read _ _ (lent .before .before .ends .ensures) (lent .before .zeros .ensures) (lent .zeros2 .ensures) _ _ _ _ _ _ (made .make .ensures .0) (made .make .ensures .1) (read .read .ensures .1 .0) (read .read .ensures .1 .1)
+same-length-3 : tie.Need-same-length-3
+same-length-3 c = search needs
 
-pub read-all-spec : {M : Type 1} → statement M
-read-all-spec =
+same-length-4 : tie.Need-same-length-4
+same-length-4 c = search needs
+
+returns : tie.Need-returns
+returns c = let asked = c .before .before .before .before in
+    let read = asked .before .before .before .before .before .before .before .before .before .before in
+    let made = read .before .before .before .before .before .before .before .before .before .before in
+    let lent = made .before .before .before .before in
+    all-looked _ _ (lent .before .before .ends .ensures) (lent .before .zeros .ensures) (lent .zeros2 .ensures) _ _ _ _ _ _ _ _ _ (made .make .ensures .0) (made .make .ensures .1)
+    (read .read .ensures .1) (asked .why-alone .ensures)
+
+pub look-spec : {M : Type 1} → statement M
+look-spec =
     tie.close
     (tie.spec
     ends-requires
@@ -63,6 +83,12 @@ read-all-spec =
     slice-aggregate-read-2
     slice-aggregate-read-3
     read-requires
+    slice-aggregate-why-alone
+    slice-aggregate-why-alone-2
+    slice-aggregate-why-alone-3
+    why-alone-requires
     same-length
     same-length-2
+    same-length-3
+    same-length-4
     returns)
