@@ -148,10 +148,13 @@ uint32_t plan_groups_after(const uint8_t *file, size_t file_len, uint32_t placin
  *
  * Both sets are those that the choke set's walk reaches when it starts from this gateway only.
  *
- * All else is as for plan_groups: what is lent, what is used, and the file's refusals. Two stand behind them:
+ * All else is as for plan_groups: what is lent, what is used, and the file's refusals. Two stand behind them,
+ * so that for a plant of 0 gateways every number is refused with 30:
  *
  *   30   gateway is not below n, or plan_groups does not leave it alone
  *   10   out_len is below 4n + 4
+ *
+ * Each call makes the plan anew and takes about as long as plan_groups.
  */
 uint32_t why_alone(const uint8_t *file, size_t file_len, uint32_t gateway, uint8_t *out, size_t out_len);
 
