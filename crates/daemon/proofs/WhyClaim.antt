@@ -26,8 +26,8 @@ use Rattle.plan.specs.Claim.{FileWhy}
 use Rattle.plan.proofs.FileWhy.{file-why, why-below, notAlone, why-number}
 use Rattle.daemon.specs.Groups.{bytesFor, groupsRefusal, groupsOut}
 use Rattle.daemon.specs.Why.{setBytes, setBytesFor, aloneRefusal, aloneOut}
-use Rattle.daemon.specs.Claim.{leaderAt, firstCountAt, secondCountAt, firstAt, secondAt, BytesWhy, BytesWhyRefused}
-use Rattle.daemon.specs.Turns.{WhyExactly}
+use Rattle.daemon.specs.Claim.{leaderAt, firstCountAt, secondCountAt, firstAt, secondAt, setsEnd, BytesWhy, BytesWhyRefused}
+use Rattle.daemon.specs.Turns.{AloneExactly}
 use Rattle.daemon.proofs.LowFirst.{bytes-long}
 use Rattle.daemon.proofs.Claim.{leader-is}
 
@@ -102,7 +102,7 @@ bytes-why file v out z = (
   rw long at (past file v out z),
 )
   where
-    long : length (setBytes (fileFirst file v) (fileSecond file v)) ≡ 4 + 2 * firstCountAt (aloneOut file v out) + 2 * secondCountAt (aloneOut file v out)
+    long : length (setBytes (fileFirst file v) (fileSecond file v)) ≡ setsEnd (aloneOut file v out)
     long = bytes-long (fileFirst file v) (fileSecond file v) ∙ sym (rw (out-is file v out z, first-count (fileFirst file v) (fileSecond file v) (rest file v out z), second-count (fileFirst file v) (fileSecond file v) (rest file v out z)) refl)
 
 pub bytes-why-refused : BytesWhyRefused
@@ -145,9 +145,9 @@ module _ (file : List ℕ) (v : ℕ) where
       by-bytes zero z = ap (λ (b : Bool). firstOf (fileRefusal file) (refuse b 30 short)) (same-alone z)
       by-bytes (suc e) z = rw z
 
-pub why-exactly : WhyExactly
-unfolding WhyExactly planned notAloneIn
-why-exactly file v outLen =
+pub alone-exactly : AloneExactly
+unfolding AloneExactly planned notAloneIn
+alone-exactly file v outLen =
     rw (alone-number file v outLen)
     (file-then file _ _
     (turn-named (notAloneIn file v) 30 _ _ (says-either _ _ (says-most (fileN file) v) (says-not _ (says-same (leaderAt (planned file v) v) NONE)))

@@ -88,12 +88,16 @@ firstAt out = listOf (firstCountAt out) (λ i. number out (4 + 2 * i))
 abbrev pub secondAt : List ℕ → List ℕ
 secondAt out = listOf (secondCountAt out) (λ i. number out (4 + 2 * firstCountAt out + 2 * i))
 
+-- where they end
+abbrev pub setsEnd : List ℕ → ℕ
+setsEnd out = 4 + 2 * firstCountAt out + 2 * secondCountAt out
+
 -- An accepted call: the sets that the bytes say are why v is alone (plan/specs/Claim.antt), where plan_groups' bytes for the same file say who is kept. Nothing past them is written.
 unfoldable pub BytesWhy : Type 0
 BytesWhy =
     (file : List ℕ) (v : ℕ) (out : List ℕ) → aloneRefusal file v (length out) ≡ 0
     → ((plan : List ℕ) → groupsRefusal file (length plan) ≡ 0 → WhyOf file (leaderAt (groupsOut file plan)) v (firstAt (aloneOut file v out)) (secondAt (aloneOut file v out)))
-    × (drop (4 + 2 * firstCountAt (aloneOut file v out) + 2 * secondCountAt (aloneOut file v out)) (aloneOut file v out) ≡ drop (4 + 2 * firstCountAt (aloneOut file v out) + 2 * secondCountAt (aloneOut file v out)) out)
+    × (drop (setsEnd (aloneOut file v out)) (aloneOut file v out) ≡ drop (setsEnd (aloneOut file v out)) out)
 
 unfoldable pub BytesWhyRefused : Type 0
 BytesWhyRefused = (file : List ℕ) (v : ℕ) (out : List ℕ) → (aloneRefusal file v (length out) ≡ 0 → ⊥) → aloneOut file v out ≡ out

@@ -20,7 +20,7 @@ GroupsAfterExactly =
     (file : List ℕ) (k outLen : ℕ) → FirstNamed (fileTurn file (named 24 (fileN file < k) (named 10 (outLen < 3 * fileN file + 4) done))) (groupsAfterRefusal file k outLen)
 
 -- 02, change 5: "30, the gateway is out of range, unplaced, or kept": not one that plan_groups leaves alone, by the bytes that it writes to a list of just the length needed; then 10
-unfoldable pub WhyExactly : Type 0
-WhyExactly =
+unfoldable pub AloneExactly : Type 0
+AloneExactly =
     (file : List ℕ) (v outLen : ℕ)
     → FirstNamed (fileTurn file (named 30 ((fileN file ≤ v) ⊎ (leaderAt (groupsOut file (replicate (3 * fileN file + 4) 0)) v ≡ 65535 → ⊥)) (named 10 (outLen < 4 * fileN file + 4) done))) (aloneRefusal file v outLen)

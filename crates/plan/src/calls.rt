@@ -105,7 +105,7 @@ pub(crate) struct Looked {
     pub why: WhyAnswer,
 }
 
-// The record made, read, and asked why a gateway is alone. A caller of one look lends no places for the other, which is then refused and writes nothing.
+// The record made, read, and asked why a gateway is alone. A caller of one look lends no places for the other, which then writes nothing.
 // Both looks stand in one function so that a plan's lists, and the table of what is held, take their place on the stack once for all calls.
 pub(crate) fn look(
     file: &[u8],

@@ -56,6 +56,7 @@ pub fn plan_lists_after(
             moved: 0,
         };
     }
+    // Nothing is asked: there are no places for the sets.
     let mut first = [0u16; 1];
     let mut second = [0u16; 1];
     let looked = calls::look(

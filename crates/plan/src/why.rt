@@ -33,6 +33,7 @@ pub fn why_lists(file: &[u8], gateway: u32, first: &mut [u16], second: &mut [u16
             second: 0,
         };
     }
+    // Nothing is read: there are no places for the leaders.
     let mut leaders = [0u16; 1];
     let mut choke = [0u8; 1];
     let looked = calls::look(

@@ -37,7 +37,7 @@ fourLeaves = record { n = 5; t = 2; links = 0 ∷ 1 ∷ 0 ∷ 2 ∷ 0 ∷ 3 ∷ 
 unfoldable twoCentres : Plant
 twoCentres = record { n = 7; t = 2; links = 0 ∷ 2 ∷ 0 ∷ 3 ∷ 0 ∷ 4 ∷ 1 ∷ 4 ∷ 1 ∷ 5 ∷ 1 ∷ 6 ∷ []; ordering = [] }
 
--- each once more with one thing other: before it is placed, kept, out of range
+-- the two stars also before 7 is placed, for one that is kept, and for a number that is no gateway
 answers : (asked one 1 0 ≡ (0, 0 ∷ [], []))
     × (asked twoStars 8 3 ≡ (0, 1 ∷ 2 ∷ 3 ∷ [], 0 ∷ [])) × (asked twoStars 8 7 ≡ (0, 5 ∷ 6 ∷ 7 ∷ [], 4 ∷ []))
     × (asked twoStars 4 3 ≡ (0, 1 ∷ 2 ∷ 3 ∷ [], 0 ∷ [])) × (asked twoStars 4 7 ≡ (30, [], [])) × (asked twoStars 8 2 ≡ (30, [], [])) × (asked twoStars 8 8 ≡ (30, [], []))
