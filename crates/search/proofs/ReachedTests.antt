@@ -9,7 +9,7 @@ use lib.ListN.{length, set, take, replicate, length-replicate}
 use borrow.Author.Tests.{eq-eqb, ne-eqb, le-ltb, lt-ltb, leb-true, le-leb, not-true, not-false}
 use Rattle.packing.specs.Count.{count}
 use Rattle.packing.specs.Lists.{listWhere, written, Lent}
-use Rattle.packing.specs.Plant.{NONE, GATEWAYS, at, common}
+use Rattle.packing.specs.Plant.{NONE, GATEWAYS, at}
 use Rattle.packing.proofs.Tests.{and-l, and-r}
 use Rattle.packing.proofs.Sums.{count-bound}
 use Rattle.packing.proofs.Lists.{listWhere-length, listWhere-ext}
@@ -23,7 +23,7 @@ use Rattle.search.specs.Reached.{queuedFrom, seenFrom, setWritten, reach
 use Rattle.search.specs.ReachedPre.{Unmarked, Marked, joined, Sets, bothCounted}
 use Rattle.search.proofs.Rows.{take-replicate}
 use Rattle.search.proofs.Settling.{settle-walked}
-use Rattle.search.proofs.Seen.{walked-seen, zero-limits}
+use Rattle.search.proofs.Seen.{walked-seen, zero-walk}
 use Rattle.search.proofs.Tested.{placeable-means, placeable-holds}
 use Rattle.search.proofs.FromOne.{queued-joined}
 
@@ -56,10 +56,7 @@ module _ {n : ℕ} {hs : List ℕ} {v : ℕ} {from queue : List ℕ} {rows : Lis
       → length from' ≡ length from → Marked n ls hs v from'
   unfolding seenFrom walkSaw chokeWalk
   from-marks limits ls {r} {queue'} {from'} each none same =
-      record { marks = same ∙ rw (u .unseen) (length-replicate n NONE); saw = walked-seen r queue' from' (settle-walked (at limits) ls from-settles each .state ∙ same-walk) }
-    where
-      same-walk : walk n (at limits) ls hs (v ∷ []) ≡ walk n (common 0) ls hs (v ∷ [])
-      same-walk = rw none (ap (λ (limit : ℕ → ℕ). walk n limit ls hs (v ∷ [])) zero-limits)
+      record { marks = same ∙ rw (u .unseen) (length-replicate n NONE); saw = walked-seen r queue' from' (settle-walked (at limits) ls from-settles each .state ∙ zero-walk n limits ls hs (v ∷ []) none) }
 
 -- whether the sets may be written: what the test says, and what it takes
 module _ (n : ℕ) (hs : List ℕ) (v room room' : ℕ) where

@@ -39,10 +39,14 @@ unfolding asSearch seenIn
 walked-seen (Found u x) queue from e v = ap (λ (t : Search). seenIn t v) e
 walked-seen (RanOut tail) queue from e v = ap (λ (t : Search). seenIn t v) e
 
--- a list of zeros is the common limit of 0
-pub zero-limits : at (replicate GATEWAYS 0) ≡ common 0
+-- with a list of zeros for limits the walk is the one that takes nothing
+zero-limits : at (replicate GATEWAYS 0) ≡ common 0
 unfolding common
 zero-limits = fun-ext (λ u. zero-at GATEWAYS u)
+
+pub zero-walk : (n : ℕ) (limits ls hs start : List ℕ) → limits ≡ replicate GATEWAYS 0 → walk n (at limits) ls hs start ≡ chokeWalk n ls hs start
+unfolding chokeWalk
+zero-walk n limits ls hs start none = rw none (ap (λ (limit : ℕ → ℕ). walk n limit ls hs start) zero-limits)
 
 module _ {n : ℕ} {rows : List (List ℕ)} {hs queue from out queue' : List ℕ} {tail : ℕ} (w : Workable n rows hs queue from out) (q : Queued n hs queue' tail) where
   -- the gateways without holder may be walked from
@@ -76,8 +80,8 @@ module _ {n : ℕ} {rows : List (List ℕ)} {hs queue from out queue' : List ℕ
       ∙ ap (λ (l : List ℕ). written n l out)
       (listOf-ext n (seenByte from') (chokeByte n ls hs) (λ v l. ap (λ (b : Bool). pick b 1) (walked-seen r queue'' from' (d .state ∙ same-walk) v)))
     where
-      same-walk : walk n (at limits) ls hs (take tail queue') ≡ walk n (common 0) ls hs (withoutHolder n hs)
-      same-walk = rw (none, q .state) (ap (λ (limit : ℕ → ℕ). walk n limit ls hs (withoutHolder n hs)) zero-limits)
+      same-walk : walk n (at limits) ls hs (take tail queue') ≡ chokeWalk n ls hs (withoutHolder n hs)
+      same-walk = rw (q .state) (zero-walk n limits ls hs (withoutHolder n hs) none)
 
 -- the table, and the arrays to work in
 pub searchable-workable : {n : ℕ} {hs out queue all : List ℕ} {rows : List (List ℕ)} → queue ≡ replicate GATEWAYS 0 → all ≡ replicate GATEWAYS NONE → rows ≡ heldTable n hs → Searchable n hs → n ≤ length out
