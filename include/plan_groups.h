@@ -146,7 +146,9 @@ uint32_t plan_groups_after(const uint8_t *file, size_t file_len, uint32_t placin
  * and each of these can bring in T of them at most. One has to stay alone, and in the first set the gateway
  * is the last in the order. With b = 0 the gateway has no link at all.
  *
- * Both sets are those that the choke set's walk reaches when it starts from this gateway only.
+ * Both sets are those that the choke set's walk reaches when it starts from this gateway only. No smaller
+ * ones say it: whatever two sets have what is listed above, the first set is within their first and the
+ * second within their second.
  *
  * All else is as for plan_groups: what is lent, what is used, and the file's refusals. Two stand behind them,
  * so that for a plant of 0 gateways every number is refused with 30:

@@ -1,7 +1,7 @@
 -- Why a gateway that is left is alone: the pair around it is a Hall violator with its neighbours.
 use Prim.Native.Nat.{ℕ, zero, suc, _+_, _*_, _<_, _≤_}
 use mathlib.Core.Path.{_≡_, refl, sym, ap, _∙_}
-use mathlib.Core.Logic.{_↔_, inl, inr, ⊎-elim}
+use mathlib.Core.Logic.{_↔_, _⊎_, inl, inr, ⊎-elim}
 use mathlib.Core.Bool.{Bool, true, false, not, cond, _&&_}
 use mathlib.Core.List.{List, [], _∷_, _++_}
 use native.Mathlib.Omega.{arith}
@@ -14,9 +14,9 @@ use Rattle.packing.specs.Plant.{common}
 use Rattle.packing.specs.Grouping.{Grouping, covered}
 use Rattle.packing.specs.Pairs.{Earlier}
 use Rattle.packing.specs.Holders.{held, holds, Feasible}
-use Rattle.packing.specs.Violator.{sumOf, LinkedTo, Violator}
+use Rattle.packing.specs.Violator.{sumOf, LinkedTo, Violator, Smallest}
 use Rattle.packing.proofs.Tests.{clash, and-l, and-r, and-i, or-l, or-r, not-i, not-test}
-use Rattle.packing.proofs.Sums.{count-mono, count-split, count-some, count-find, count-unique}
+use Rattle.packing.proofs.Sums.{count-mono, count-same, count-split, count-some, count-find, count-unique, sumOver-ext}
 use Rattle.packing.proofs.Lists.{listWhere-length, listWhere-in, listWhere-out, listWhere-ascending}
 use Rattle.packing.proofs.Hall.{hall}
 use Rattle.packing.proofs.Tight.{Blocked}
@@ -145,4 +145,40 @@ violator-below {n} {limit} {limit'} {adj} {order} {order'} {second = second} lim
       neighbours = w .neighbours;
       size = w .size ∙ ap (λ (k : ℕ). k + 1) (sumOf-below n limit limit' second limits (λ u m. w .neighbours .just u .0 m .0));
       uncovered = λ g group. w .uncovered g (grouping-limits n limit' limit adj (λ u l. sym (limits u l)) g group);
+    }
+
+-- Sets that say the same: R's held gateways are as many as S's limits allow, and S holds them all. So it holds nobody else.
+pub violator-owned : {n : ℕ} {limit : ℕ → ℕ} {adj : ℕ → ℕ → Bool} {h : ℕ → ℕ} {R S : ℕ → Bool} {v : ℕ} → Feasible n limit adj h
+    → ((x : ℕ) → x < n → R x ≡ true → (x ≡ v) ⊎ (held n h x ≡ true)) → ((x u : ℕ) → x < n → u < n → R x ≡ true → adj x u ≡ true → S u ≡ true) → count n R ≡ sumOver n S limit + 1
+    → (x : ℕ) → x < n → held n h x ≡ true → S (h x) ≡ true → R x ≡ true
+violator-owned {n} {limit} {adj} {h} {R} {S} {v} f others closed size x l e s =
+    and-l (R x) (held n h x) (count-same n (λ y. R y && held n h y) (λ y. S (h y) && held n h y) from-S most x l (and-i (S (h x)) (held n h x) s e))
+  where
+    from-S : (y : ℕ) → y < n → (R y && held n h y) ≡ true → (S (h y) && held n h y) ≡ true
+    from-S y p q =
+        let k = and-r (R y) (held n h y) q in
+        and-i (S (h y)) (held n h y) (closed y (h y) p (ltb-true (h y) n k) (and-l (R y) (held n h y) q) (f .along y p k)) k
+
+    only : (y : ℕ) → y < n → (R y && not (held n h y)) ≡ true → y ≡ v
+    only y p q =
+        ⊎-elim (λ r. r) (λ r. clash (held n h y) r (not-true (held n h y) (and-r (R y) (not (held n h y)) q))) (others y p (and-l (R y) (not (held n h y)) q))
+
+    most : count n (λ y. S (h y) && held n h y) ≤ count n (λ y. R y && held n h y)
+    most =
+        omega (
+          arith,
+          size,
+          count-split n R (held n h),
+          count-unique n (λ y. R y && not (held n h y)) (λ y z p q a b. only y p a ∙ sym (only z q b)),
+          hall (λ y. S (h y)) S f (λ y p t k. t),
+        )
+
+-- Nothing from n on is looked at there either.
+pub smallest-below : {n : ℕ} {limit limit' : ℕ → ℕ} {adj : ℕ → ℕ → Bool} {kept kept' : ℕ → Bool} {v : ℕ} {first second : List ℕ}
+    → ((u : ℕ) → u < n → limit u ≡ limit' u) → ((x : ℕ) → x < n → kept x ≡ kept' x) → Smallest n limit adj kept v first second → Smallest n limit' adj kept' v first second
+smallest-below {n} {limit} {limit'} limits same w =
+    record {
+      within =
+          λ R S mine others closed size. w .within R S mine (λ x l r. ⊎-elim (λ q. inl q) (λ q. inr (same x l ∙ q)) (others x l r)) closed
+          (size ∙ ap (λ (k : ℕ). k + 1) (sym (sumOver-ext n S limit limit' (λ u l s. limits u l))));
     }

@@ -6,6 +6,7 @@ use mathlib.Core.Logic.{_⊎_}
 use mathlib.Core.Bool.{Bool, true, false}
 use mathlib.Core.List.{List, [], _∷_}
 use lib.ListN.{length}
+use Rattle.packing.specs.Count.{count, sumOver}
 use Rattle.packing.specs.Lists.{Ascending, memberOf, Lists}
 use Rattle.packing.specs.Grouping.{Grouping, covered}
 use Rattle.packing.specs.Pairs.{Earlier}
@@ -35,3 +36,9 @@ pub record Violator (n : ℕ) (limit : ℕ → ℕ) (adj : ℕ → ℕ → Bool)
   pub size : length first ≡ sumOf limit second + 1
   -- so no grouping covers all of the first
   pub uncovered : (g : ℕ → ℕ) → Grouping n limit adj g → ((x : ℕ) → memberOf first x ≡ true → covered g x ≡ true) → ⊥
+
+-- No smaller sets say it: R has v and otherwise only kept ones, S all that these are linked to, and R one more than S's limits allow. Then all of the first are in R, and all of the second in S.
+pub record Smallest (n : ℕ) (limit : ℕ → ℕ) (adj : ℕ → ℕ → Bool) (kept : ℕ → Bool) (v : ℕ) (first second : List ℕ) : Type 0 where
+  pub within : (R S : ℕ → Bool) → R v ≡ true → ((x : ℕ) → x < n → R x ≡ true → (x ≡ v) ⊎ (kept x ≡ true))
+      → ((x u : ℕ) → x < n → u < n → R x ≡ true → adj x u ≡ true → S u ≡ true) → count n R ≡ sumOver n S limit + 1
+      → ((x : ℕ) → memberOf first x ≡ true → R x ≡ true) × ((u : ℕ) → memberOf second u ≡ true → S u ≡ true)

@@ -18,7 +18,7 @@ use Rattle.packing.proofs.Tests.{by-bool}
 use Rattle.packing.proofs.Prefixes.{order-place}
 use Rattle.packing.proofs.Refusals.{first-none}
 use Rattle.packing.proofs.Turns.{turn-done, turn-named, turn-as, named-once, says-less, says-most, says-same, says-either, says-not}
-use Rattle.packing.proofs.Violator.{sumOf-common, violator-below}
+use Rattle.packing.proofs.Violator.{sumOf-common, violator-below, smallest-below}
 use Rattle.planner.specs.Calls.{read, readLeaders}
 use Rattle.planner.specs.Told.{Told, refuses}
 use Rattle.planner.specs.Claims.{toldBy, DemandTwo}
@@ -100,7 +100,7 @@ module _ (file : List ℕ) (z : fileRefusal file ≡ 0) where
       pub sets-why : WhyOf file (at (fileLeaders file)) v (fileFirst file v) (fileSecond file v)
       sets-why =
           let w = violator-below (λ u l. refl) (λ i l. refl) covers-kept (rw (first-set, second-set) at (by-calls .violator)) in
-          record { violator = w; counts = w .size ∙ ap (λ (k : ℕ). k + 1) (sumOf-common (fileT file) (fileSecond file v)) }
+          record { violator = w; smallest = smallest-below (λ u l. refl) covers-kept (rw (first-set, second-set) at (by-calls .smallest)); counts = w .size ∙ ap (λ (k : ℕ). k + 1) (sumOf-common (fileT file) (fileSecond file v)) }
 
 pub file-why : FileWhy
 unfolding FileWhy fileWhyRefusal
@@ -111,7 +111,8 @@ file-why file v a b passes =
 -- The claim goes by the leaders below n.
 pub why-below : (file : List ℕ) (g h : ℕ → ℕ) (v : ℕ) (first second : List ℕ) → ((x : ℕ) → x < fileN file → g x ≡ h x) → WhyOf file g v first second → WhyOf file h v first second
 why-below file g h v first second same w =
-    record { violator = violator-below (λ u l. refl) (λ i l. refl) (λ x l. ap (λ (y : ℕ). not (eqb y NONE)) (same x l)) (w .violator); counts = w .counts }
+    let cover : (x : ℕ) → x < fileN file → covered g x ≡ covered h x = λ x l. ap (λ (y : ℕ). not (eqb y NONE)) (same x l) in
+    record { violator = violator-below (λ u l. refl) (λ i l. refl) cover (w .violator); smallest = smallest-below (λ u l. refl) cover (w .smallest); counts = w .counts }
 
 -- The number by tests: the file's; 30, where v is no gateway or the plan does not leave it alone; 10.
 module _ (file : List ℕ) (v : ℕ) where

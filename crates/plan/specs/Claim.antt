@@ -13,7 +13,7 @@ use Rattle.packing.specs.Choke.{ChokeDifference}
 use Rattle.packing.specs.Holders.{held}
 use Rattle.packing.specs.Moved.{moved, Fewest}
 use Rattle.packing.specs.SoFar.{SoFar}
-use Rattle.packing.specs.Violator.{Violator}
+use Rattle.packing.specs.Violator.{Violator, Smallest}
 use Rattle.search.specs.ChokeSet.{chokeByte}
 use Rattle.plant_file.specs.PlantFile.{fileN, fileT, fileLinks, fileOrder}
 use Rattle.plan.specs.Plan.{stateAfter, movesAfter, planRefusal, planLeaders, planChoke, fileLeaders}
@@ -84,6 +84,8 @@ MovesFit = (file : List ℕ) (k : ℕ) → movesAfter file k ≤ 1048576
 -- 02, change 5: why v is alone. What is claimed of two lists of gateways for that plant; kept are those that leaders g cover.
 pub record WhyOf (file : List ℕ) (g : ℕ → ℕ) (v : ℕ) (first second : List ℕ) : Type 0 where
   pub violator : Violator (fileN file) (common (fileT file)) (linked (fileLinks file)) (at (fileOrder file)) (covered g) v first second
+  -- no smaller sets say it
+  pub smallest : Smallest (fileN file) (common (fileT file)) (linked (fileLinks file)) (covered g) v first second
   -- "The first has T times the size of the second, plus one."
   pub counts : length first ≡ fileT file * length second + 1
 

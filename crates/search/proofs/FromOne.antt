@@ -10,12 +10,13 @@ use borrow.Author.Tests.{eqb-true, eq-eqb}
 use Rattle.packing.specs.Lists.{listWhere, memberOf}
 use Rattle.packing.specs.Plant.{at, linked}
 use Rattle.packing.specs.Holders.{held, Feasible}
-use Rattle.packing.specs.Violator.{Violator}
+use Rattle.packing.specs.Violator.{Violator, Smallest}
 use Rattle.packing.proofs.Tests.{and-l, and-r, and-i, or-cases, or-l, or-r, iff-test}
+use Rattle.packing.proofs.Lists.{listWhere-out}
 use Rattle.packing.proofs.Tight.{Blocked}
 use Rattle.packing.proofs.Groupings.{Sym, Loopless}
 use Rattle.packing.proofs.Prefixes.{IsOrder}
-use Rattle.packing.proofs.Violator.{blocked-violator}
+use Rattle.packing.proofs.Violator.{blocked-violator, violator-owned}
 use Rattle.search.specs.Search.{seen}
 use Rattle.search.specs.Pre.{Placeable, Startable}
 use Rattle.search.specs.Reached.{queuedFrom, seenFrom}
@@ -54,6 +55,16 @@ module _ {n : ℕ} (ls : List ℕ) {hs : List ℕ} {v : ℕ} (p : Placeable n hs
             closed = λ x u l k r a. saw u ∙ walk-closed ls start .closed x u l k (queues x l r) a;
             owned = λ x l h q. or-r (eqb x v) (held n (at hs) x && seen from (at hs x)) (and-i (held n (at hs) x) (seen from (at hs x)) h q);
           }
+
+  -- whatever sets say that v is alone are closed and have v, so the walk's lie within them
+  pub walk-smallest : {limit : ℕ → ℕ} → Feasible n limit (linked ls) (at hs) → Smallest n limit (linked ls) (held n (at hs)) v (listWhere n (queuedFrom n ls hs v)) (listWhere n (seenFrom n ls hs v))
+  unfolding queuedFrom seenFrom
+  walk-smallest f =
+      record {
+        within =
+            λ R S mine others closed size. let c = walk-least ls start R S (record { starts = λ x l m. rw (← one-out v x m) mine; closed = closed; owned = violator-owned f others closed size }) in
+            ((λ x m. let (l, q) = listWhere-out n (queuedFrom n ls hs v) x m in c .0 x l q), λ u m. let (l, q) = listWhere-out n (seenFrom n ls hs v) u m in c .1 u l q);
+      }
 
 -- the gateway at place i is left
 module _

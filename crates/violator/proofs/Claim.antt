@@ -10,12 +10,12 @@ use Rattle.packing.specs.Lists.{listWhere}
 use Rattle.packing.specs.Plant.{at, linked}
 use Rattle.packing.specs.Holders.{held}
 use Rattle.packing.specs.Refusals.{byNumber}
-use Rattle.packing.specs.Violator.{sumOf, Violator}
+use Rattle.packing.specs.Violator.{sumOf, Violator, Smallest}
 use Rattle.packing.proofs.Lists.{listWhere-length, written-front, written-past}
 use Rattle.packing.proofs.Refusals.{refuse-none, refused}
-use Rattle.packing.proofs.Violator.{sumOf-common, violator-below}
+use Rattle.packing.proofs.Violator.{sumOf-common, violator-below, smallest-below}
 use Rattle.search.specs.Reached.{setWritten}
-use Rattle.search.proofs.FromOne.{walk-violator}
+use Rattle.search.proofs.FromOne.{walk-violator, walk-smallest}
 use Rattle.planner.specs.State.{State, linksOf, limitOf, soundState}
 use Rattle.planner.specs.Told.{Told}
 use Rattle.planner.specs.Claims.{toldBy, madeBy}
@@ -71,29 +71,38 @@ module _ (s : State) (v : ℕ) (first second : List ℕ) (z : whyRefusal s v (le
       rw (first-is, second-is) (rw here at (walk-violator (linksOf s) (links-symmetric sound) (links-loopless sound) (limit-two sound) (standing .ordered) inside (standing .feasible)
       (left-placeable sound (standing .ordered .below i inside) unheld) (standing .left i l unheld)))
 
+  -- .. and no smaller sets say it
+  made-smallest : Made s → Smallest (s .small .n) (limitOf s) (linked (linksOf s)) (held (s .small .n) (at (s .holders))) v (firstSet s v first second) (secondSet s v first second)
+  unfolding inFirst inSecond
+  made-smallest made = rw (first-is, second-is) (walk-smallest (linksOf s) (left-placeable (made .sound) (may .asked .inside) (may .asked .left)) (made .standing .feasible))
+
 -- .. by what was told
-told-violator : (p : Told) (ls os hs : List ℕ) → Agrees p (stateTold p ls os hs) → (v : ℕ) (first second : List ℕ) → whyRefusal (stateTold p ls os hs) v (length first) (length second) ≡ 0
-    → Violator (p .n) (p .limit) (linked (p .links)) (at (p .order)) (held (p .n) (at hs)) v (firstSet (stateTold p ls os hs) v first second) (secondSet (stateTold p ls os hs) v first second)
-told-violator p ls os hs a v first second z = violator-below (a .limits) (a .order) (λ x l. refl) (rw (a .links) at (made-violator (stateTold p ls os hs) v first second z (a .made)))
+abbrev WhyTold : (n : ℕ) (told : Told) (made : State) → Type 0
+WhyTold n told made =
+    (v : ℕ) (first second : List ℕ) → whyRefusal made v (length first) (length second) ≡ 0
+    → Violator n (told .limit) (linked (told .links)) (at (told .order)) (held n (at (made .holders))) v (firstSet made v first second) (secondSet made v first second)
+    × Smallest n (told .limit) (linked (told .links)) (held n (at (made .holders))) v (firstSet made v first second) (secondSet made v first second)
+
+why-told : (p : Told) (ls os hs : List ℕ) → Agrees p (stateTold p ls os hs) → WhyTold (p .n) p (stateTold p ls os hs)
+why-told p ls os hs a v first second z =
+    let s = stateTold p ls os hs in (
+      violator-below (a .limits) (a .order) (λ x l. refl) (rw (a .links) at (made-violator s v first second z (a .made))),
+      smallest-below (a .limits) (λ x l. refl) (rw (a .links) at (made-smallest s v first second z (a .made))),
+    )
 
 pub why-alone : WhyAlone
 unfolding WhyAlone
 why-alone n t ls os hs ok calls v first second z =
-    record { violator = violator; counts = sym (first-counted s v first second z) ∙ violator .size ∙ ap (λ (k : ℕ). k + 1) sizes }
+    record { violator = both .0; smallest = both .1; counts = sym (first-counted s v first second z) ∙ both .0 .size ∙ ap (λ (k : ℕ). k + 1) sizes }
   where
     s : State
     s = madeBy n t ls os hs calls
 
-    p : Told
-    p = toldBy n t ls calls
+    both : Violator n (toldBy n t ls calls .limit) (linked (toldBy n t ls calls .links)) (at (toldBy n t ls calls .order)) (held n (at (s .holders))) v (firstSet s v first second) (secondSet s v first second)
+        × Smallest n (toldBy n t ls calls .limit) (linked (toldBy n t ls calls .links)) (held n (at (s .holders))) v (firstSet s v first second) (secondSet s v first second)
+    both = after-calls WhyTold why-told n t ls os hs ok calls v first second z
 
-    violator : Violator n (p .limit) (linked (p .links)) (at (p .order)) (held n (at (s .holders))) v (firstSet s v first second) (secondSet s v first second)
-    violator =
-        after-calls (λ n told made. (v : ℕ) (first second : List ℕ) → whyRefusal made v (length first) (length second) ≡ 0
-        → Violator n (told .limit) (linked (told .links)) (at (told .order)) (held n (at (made .holders))) v (firstSet made v first second) (secondSet made v first second))
-        told-violator n t ls os hs ok calls v first second z
-
-    sizes : sumOf (p .limit) (secondSet s v first second) ≡ t * secondCount s v (length first) (length second)
+    sizes : sumOf (toldBy n t ls calls .limit) (secondSet s v first second) ≡ t * secondCount s v (length first) (length second)
     sizes = rw (tells-limit n t ls calls, ← second-counted s v first second z) (sumOf-common t (secondSet s v first second))
 
 pub why-past : WhyPast

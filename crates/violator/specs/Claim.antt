@@ -5,7 +5,7 @@ use mathlib.Core.List.{List}
 use lib.ListN.{length, drop}
 use Rattle.packing.specs.Plant.{at, linked}
 use Rattle.packing.specs.Holders.{held}
-use Rattle.packing.specs.Violator.{Violator}
+use Rattle.packing.specs.Violator.{Violator, Smallest}
 use Rattle.planner.specs.State.{State}
 use Rattle.planner.specs.Refusals.{openRefusal}
 use Rattle.planner.specs.Calls.{Call}
@@ -13,9 +13,10 @@ use Rattle.planner.specs.Told.{Told}
 use Rattle.planner.specs.Claims.{toldBy, madeBy}
 use Rattle.violator.specs.WhyAlone.{whyRefusal, firstCount, secondCount, whyFirst, whySecond, firstSet, secondSet}
 
--- What is claimed of the two sets by the limits, the links and the order told; kept is who has a holder in the record made. With T for every gateway the counts say it too.
+-- What is claimed of the two sets by the limits, the links and the order told; kept is who has a holder in the record made. No smaller sets say it. With T for every gateway the counts say the size too.
 pub record WhyAloneOf (n t : ℕ) (told : Told) (made : State) (v : ℕ) (first second : List ℕ) : Type 0 where
   pub violator : Violator n (told .limit) (linked (told .links)) (at (told .order)) (held n (at (made .holders))) v (firstSet made v first second) (secondSet made v first second)
+  pub smallest : Smallest n (told .limit) (linked (told .links)) (held n (at (made .holders))) v (firstSet made v first second) (secondSet made v first second)
   pub counts : firstCount made v (length first) (length second) ≡ t * secondCount made v (length first) (length second) + 1
 
 -- An open accepted, any list of calls, whatever number is placed, and a call accepted for v with any two lists.
