@@ -69,6 +69,13 @@ hall-uncovered {n} {limit} {adj} {R} {S} symmetric loopless one closed size g gr
     feasible : Feasible n limit adj (groupHolder n g)
     feasible = grouping-feasible n limit adj g group loopless symmetric one
 
+-- where all of R but v are held, at most one of R is not
+one-unheld : (n : ℕ) (h : ℕ → ℕ) (R : ℕ → Bool) {v : ℕ} → ((x : ℕ) → x < n → R x ≡ true → (x ≡ v) ⊎ (held n h x ≡ true)) → count n (λ x. R x && not (held n h x)) ≤ 1
+one-unheld n h R {v} others = count-unique n (λ x. R x && not (held n h x)) (λ x y p q e d. only x p e ∙ sym (only y q d))
+  where
+    only : (x : ℕ) → x < n → (R x && not (held n h x)) ≡ true → x ≡ v
+    only x p e = ⊎-elim (λ q. q) (λ q. clash (held n h x) q (not-true (held n h x) (and-r (R x) (not (held n h x)) e))) (others x p (and-l (R x) (not (held n h x)) e))
+
 -- The pair of a gateway that is left: R and S of its Blocked.
 module _
     {n : ℕ} {limit : ℕ → ℕ} {adj : ℕ → ℕ → Bool} {order h : ℕ → ℕ} {i : ℕ} (symmetric : Sym n adj) (loopless : Loopless n adj) (two : (u : ℕ) → u < n → 2 ≤ limit u)
@@ -81,19 +88,9 @@ module _
           arith,
           count-split n (b .R) (held n h),
           tight-holds f (b .tight),
-          count-some n unheld (order i) inside (and-i (b .R (order i)) (not (held n h (order i))) (b .mine) (not-i (held n h (order i)) left)),
-          count-unique n unheld (λ x y p q e d. only x p e ∙ sym (only y q d)),
+          count-some n (λ x. b .R x && not (held n h x)) (order i) (ordered .below i l) (and-i (b .R (order i)) (not (held n h (order i))) (b .mine) (not-i (held n h (order i)) left)),
+          one-unheld n h (b .R) (λ x p r. ⊎-elim (λ q. inl q) (λ q. inr (q .0)) (b .others x p r)),
         )
-      where
-        inside : order i < n
-        inside = ordered .below i l
-
-        unheld : ℕ → Bool
-        unheld x = b .R x && not (held n h x)
-
-        only : (x : ℕ) → x < n → unheld x ≡ true → x ≡ order i
-        only x p e =
-            ⊎-elim (λ q. q) (λ q. clash (held n h x) (q .0) (not-true (held n h x) (and-r (b .R x) (not (held n h x)) e))) (b .others x p (and-l (b .R x) (not (held n h x)) e))
 
     -- no two of R are linked: the second would be in S too
     blocked-apart : (x y : ℕ) → x < n → y < n → b .R x ≡ true → b .R y ≡ true → adj x y ≡ false
@@ -159,17 +156,13 @@ violator-owned {n} {limit} {adj} {h} {R} {S} {v} f others closed size x l e s =
         let k = and-r (R y) (held n h y) q in
         and-i (S (h y)) (held n h y) (closed y (h y) p (ltb-true (h y) n k) (and-l (R y) (held n h y) q) (f .along y p k)) k
 
-    only : (y : ℕ) → y < n → (R y && not (held n h y)) ≡ true → y ≡ v
-    only y p q =
-        ⊎-elim (λ r. r) (λ r. clash (held n h y) r (not-true (held n h y) (and-r (R y) (not (held n h y)) q))) (others y p (and-l (R y) (not (held n h y)) q))
-
     most : count n (λ y. S (h y) && held n h y) ≤ count n (λ y. R y && held n h y)
     most =
         omega (
           arith,
           size,
           count-split n R (held n h),
-          count-unique n (λ y. R y && not (held n h y)) (λ y z p q a b. only y p a ∙ sym (only z q b)),
+          one-unheld n h R others,
           hall (λ y. S (h y)) S f (λ y p t k. t),
         )
 
