@@ -6,6 +6,7 @@ use mathlib.Core.List.{List}
 use native.Mathlib.Omega.{arith}
 use lib.ListN.{length}
 use borrow.Author.Tests.{le-ltb}
+use Rattle.packing.specs.Count.{count}
 use Rattle.packing.specs.Lists.{listWhere, written}
 use Rattle.packing.specs.Refusals.{firstOf, byNumber}
 use Rattle.packing.proofs.Sums.{count-bound}
@@ -54,47 +55,43 @@ unfolding firstWritten secondWritten
 asked-refused file v first second of h =
     ((λ i. record { refusal = of i; first = refused (length (fileFirst file v)) 0 of h i; second = refused (length (fileSecond file v)) 0 of h i }), (refused _ first of h, refused _ second of h))
 
--- a set by its number and by its list
-set-is : (n : ℕ) (p : ℕ → Bool) (out : List ℕ) → setWritten n p out ≡ written (length (listWhere n p)) (listWhere n p) out
-unfolding setWritten
-set-is n p out = rw (listWhere-length n p)
+-- a set of the record, by its number and by its list
+module _ (file : List ℕ) (set : ℕ → Bool) where
+  set-few : length (listWhere (fileN file) set) ≤ fileN file
+  set-few = omega (arith, listWhere-length (fileN file) set, count-bound (fileN file) set)
+
+  module _ (z : fileRefusal file ≡ 0) where
+    set-counted : count (fileState file .small .n) set ≡ length (listWhere (fileN file) set)
+    set-counted = rw (state-gateways file z) (sym (listWhere-length (fileN file) set))
+
+    set-written : (out : List ℕ) → setWritten (fileState file .small .n) set out ≡ written (length (listWhere (fileN file) set)) (listWhere (fileN file) set) out
+    unfolding setWritten
+    set-written out = rw (state-gateways file z, listWhere-length (fileN file) set)
 
 -- one that the record answers
 module _ (file : List ℕ) (v : ℕ) (first second : List ℕ) (z : fileRefusal file ≡ 0) where
-  abbrev number : ℕ
-  number = whyRefusal (fileState file) v (length first) (length second)
-
-  pub same-number : number ≡ fileWhyRefusal file v (length first) (length second)
+  same-number : whyRefusal (fileState file) v (length first) (length second) ≡ fileWhyRefusal file v (length first) (length second)
   unfolding fileWhyRefusal
   same-number = first-passed refl z refl
 
-  first-counted : firstCount (fileState file) v (length first) (length second) ≡ byNumber number (length (fileFirst file v)) 0
-  unfolding firstCount fileFirst
-  first-counted = ap (λ (k : ℕ). byNumber number k 0) (sym (listWhere-length _ (inFirst (fileState file) v)) ∙ ap (λ (n : ℕ). length (listWhere n (inFirst (fileState file) v))) (state-gateways file z))
-
-  second-counted : secondCount (fileState file) v (length first) (length second) ≡ byNumber number (length (fileSecond file v)) 0
-  unfolding secondCount fileSecond
-  second-counted = ap (λ (k : ℕ). byNumber number k 0) (sym (listWhere-length _ (inSecond (fileState file) v)) ∙ ap (λ (n : ℕ). length (listWhere n (inSecond (fileState file) v))) (state-gateways file z))
+  answer-is : (a : WhyAnswer) → a ≡ whyAnswer (fileState file) v (length first) (length second)
+      → _≡_ {A = Why} (record { refusal = a .refusal; first = a .first; second = a .second }) (fileWhy file v (length first) (length second))
+  unfolding firstCount secondCount fileFirst fileSecond
+  answer-is a e =
+      ap (λ (x : WhyAnswer). record { refusal = x .refusal; first = x .first; second = x .second }) e
+      ∙ (λ i. record {
+        refusal = same-number i;
+        first = byNumber (same-number i) (set-counted file (inFirst (fileState file) v) z i) 0;
+        second = byNumber (same-number i) (set-counted file (inSecond (fileState file) v) z i) 0;
+      })
 
   first-is : whyFirst (fileState file) v first second ≡ firstWritten file v first second
   unfolding whyFirst firstWritten fileFirst
-  first-is = rw (← same-number, set-is, state-gateways file z)
+  first-is i = byNumber (same-number i) (set-written file (inFirst (fileState file) v) z first i) first
 
   second-is : whySecond (fileState file) v first second ≡ secondWritten file v first second
   unfolding whySecond secondWritten fileSecond
-  second-is = rw (← same-number, set-is, state-gateways file z)
-
-  answer-is : (a : WhyAnswer) → a ≡ whyAnswer (fileState file) v (length first) (length second)
-      → _≡_ {A = Why} (record { refusal = a .refusal; first = a .first; second = a .second }) (fileWhy file v (length first) (length second))
-  answer-is a e =
-      ap (λ (x : WhyAnswer). record { refusal = x .refusal; first = x .first; second = x .second }) e
-      ∙ (λ i. record { refusal = same-number i; first = first-same i; second = second-same i })
-    where
-      first-same : firstCount (fileState file) v (length first) (length second) ≡ byNumber (fileWhyRefusal file v (length first) (length second)) (length (fileFirst file v)) 0
-      first-same = first-counted ∙ ap (λ (e : ℕ). byNumber e (length (fileFirst file v)) 0) same-number
-
-      second-same : secondCount (fileState file) v (length first) (length second) ≡ byNumber (fileWhyRefusal file v (length first) (length second)) (length (fileSecond file v)) 0
-      second-same = second-counted ∙ ap (λ (e : ℕ). byNumber e (length (fileSecond file v)) 0) same-number
+  second-is i = byNumber (same-number i) (set-written file (inSecond (fileState file) v) z second i) second
 
   pub asked-answered : {k : ℕ} {a : WhyAnswer} {first' second' : List ℕ} → k ≡ fileN file
       → (a ≡ whyAnswer (stateAfter file k) v (length first) (length second)) × ((first' ≡ whyFirst (stateAfter file k) v first second) × (second' ≡ whySecond (stateAfter file k) v first second))
@@ -128,11 +125,11 @@ module _ (file : List ℕ) (v : ℕ) (first second : List ℕ) {r : Why} (of : r
 
   pub first-few : length (fileFirst file v) ≤ fileN file
   unfolding fileFirst
-  first-few = omega (arith, listWhere-length (fileN file) (inFirst (fileState file) v), count-bound (fileN file) (inFirst (fileState file) v))
+  first-few = set-few file (inFirst (fileState file) v)
 
   pub second-few : length (fileSecond file v) ≤ fileN file
   unfolding fileSecond
-  second-few = omega (arith, listWhere-length (fileN file) (inSecond (fileState file) v), count-bound (fileN file) (inSecond (fileState file) v))
+  second-few = set-few file (inSecond (fileState file) v)
 
   pub first-front : {l : List ℕ} → l ≡ firstWritten file v first second → Front (r .first) (fileFirst file v) l
   unfolding firstWritten

@@ -93,14 +93,11 @@ why-told p ls os hs a v first second z =
 pub why-alone : WhyAlone
 unfolding WhyAlone
 why-alone n t ls os hs ok calls v first second z =
-    record { violator = both .0; smallest = both .1; counts = sym (first-counted s v first second z) ∙ both .0 .size ∙ ap (λ (k : ℕ). k + 1) sizes }
+    let (violator, smallest) = after-calls WhyTold why-told n t ls os hs ok calls v first second z in
+    record { violator = violator; smallest = smallest; counts = sym (first-counted s v first second z) ∙ violator .size ∙ ap (λ (k : ℕ). k + 1) sizes }
   where
     s : State
     s = madeBy n t ls os hs calls
-
-    both : Violator n (toldBy n t ls calls .limit) (linked (toldBy n t ls calls .links)) (at (toldBy n t ls calls .order)) (held n (at (s .holders))) v (firstSet s v first second) (secondSet s v first second)
-        × Smallest n (toldBy n t ls calls .limit) (linked (toldBy n t ls calls .links)) (held n (at (s .holders))) v (firstSet s v first second) (secondSet s v first second)
-    both = after-calls WhyTold why-told n t ls os hs ok calls v first second z
 
     sizes : sumOf (toldBy n t ls calls .limit) (secondSet s v first second) ≡ t * secondCount s v (length first) (length second)
     sizes = rw (tells-limit n t ls calls, ← second-counted s v first second z) (sumOf-common t (secondSet s v first second))
