@@ -160,6 +160,47 @@ uint32_t plan_groups_after(const uint8_t *file, size_t file_len, uint32_t placin
  */
 uint32_t why_alone(const uint8_t *file, size_t file_len, uint32_t gateway, uint8_t *out, size_t out_len);
 
+/*
+ * Checks a leader list and a choke list that anyone made for the plant of a plant file.
+ *
+ *   leaders    leaders_len bytes that may be read: a leader list, two bytes for each entry, low byte first.
+ *              It has leaders_len / 2 entries: an odd last byte is none.
+ *   choke      choke_len bytes that may be read: a choke list, one byte for each gateway, 1 in the set, else 0.
+ *
+ * What comes back:
+ *   0        accepted: the first n entries are a grouping of the plant, and no grouping of it covers more
+ *            gateways.
+ *   else     the number of the refusal.
+ * Nothing is written.
+ *
+ * It accepts exactly if the file is accepted and
+ *   - each of the first n entries is 65535; or its own number, where one to T other gateways among the n have
+ *     that number as their entry; or the number of a gateway below n that is linked to it and has its own
+ *     number as entry;
+ *   - each of the first n choke bytes is 0 or 1; and
+ *   - the gateways outside the choke set that have no link to another one outside it, less T times the number
+ *     of gateways in the set, are as many as the entries of 65535 among the first n. A difference below zero
+ *     is none of these.
+ * Entries and choke bytes past the first n are not looked at, so either list may be longer. The order of the
+ * file does not matter, but the file is refused where it has none.
+ *
+ * What plan_groups writes is accepted: leaders = out, leaders_len = 2n, choke = out + 2n, choke_len = n. With
+ * the choke bytes of plan_groups a leader list by any hand is accepted exactly if it is a grouping that covers
+ * as many gateways as any. What plan_groups_after writes before the last placing may be refused.
+ *
+ * The refusals: the file's own, as for plan_groups without 10, and behind them, in this turn:
+ *
+ *   31   leaders_len / 2 is below n, or the first n entries are no grouping of the plant
+ *   32   choke_len is below n, or one of the first n choke bytes is above 1, or the difference is not the
+ *        number of entries of 65535
+ *
+ * The three areas may overlap: none of them is written. NULL may stand for an area of length 0. All else is
+ * as for plan_groups: what is lent and what is used. The time grows as m * m, for the test of the file's links
+ * against each other; all else that the call does grows as n + m.
+ */
+uint32_t check_groups(const uint8_t *file, size_t file_len, const uint8_t *leaders, size_t leaders_len,
+                      const uint8_t *choke, size_t choke_len);
+
 #ifdef __cplusplus
 }
 #endif
