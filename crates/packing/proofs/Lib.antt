@@ -16,5 +16,6 @@ pub mod Below
 pub mod Prefixes
 pub mod SoFar
 pub mod Barrier
+pub mod Checks
 pub mod Violator
 pub mod Links

@@ -5,7 +5,7 @@ use mathlib.Core.Path.{_≡_}
 use mathlib.Core.Bool.{Bool, true, not, _&&_, _||_}
 use mathlib.Core.List.{List}
 use lib.Dec.{eqb, ltb, leb}
-use Rattle.packing.specs.Count.{count}
+use Rattle.packing.specs.Count.{count, all}
 use Rattle.packing.specs.Lists.{listWhere}
 use Rattle.packing.specs.Plant.{NONE}
 
@@ -36,6 +36,10 @@ isMember n adj g v = ltb (g v) n && adj v (g v) && eqb (g (g v)) (g v)
 -- each of the n entries is one of the three
 unfoldable pub Grouping : ℕ → (ℕ → ℕ) → (ℕ → ℕ → Bool) → (ℕ → ℕ) → Type 0
 Grouping n limit adj g = (v : ℕ) → v < n → (isAlone g v || isLeader n limit g v || isMember n adj g v) ≡ true
+
+-- .. as a test (02, change 6). proofs/Checks.antt proves that it means Grouping.
+unfoldable pub isGrouping : ℕ → (ℕ → ℕ) → (ℕ → ℕ → Bool) → (ℕ → ℕ) → Bool
+isGrouping n limit adj g = all n (λ v. isAlone g v || isLeader n limit g v || isMember n adj g v)
 
 -- "it covers the gateways whose entry is not 65535"
 abbrev pub covered : (ℕ → ℕ) → ℕ → Bool
