@@ -1,6 +1,7 @@
 -- Laws of the passes, and what a sound record means.
 pub mod Tests
 pub mod LinkPass
+pub mod LinkEnds
 pub mod PassResults
 pub mod Meaning
 pub mod Facts

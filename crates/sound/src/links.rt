@@ -1,8 +1,12 @@
-// Looking a link up.
+// Looking a link up, and the links of all gateways to their entries in a list.
+use crate::passes::over_links;
+use lists::PLACES;
+use lists::marks::zeros;
 use lists::tests::both;
 use lists::tests::either;
 ghost use mathlib.Core.Path.{_≡_};
 ghost use Rattle.packing.specs.Plant.{joins, linked};
+ghost use Rattle.sound.specs.Marks.{linkedEntries};
 
 // Whether the link a-b joins x and y, either way round.
 fn is_joining(a: u16, b: u16, x: u16, y: u16) -> bool
@@ -23,4 +27,13 @@ pub fn is_linked(links: &[u16], x: u16, y: u16) -> bool
         i += 2;
     }
     false
+}
+
+// 1 for each gateway that is linked to its entry in a list, else 0.
+pub fn linked_entries(links: &[u16], list: &[u16]) -> [u16; PLACES]
+    ensures { λ r. ⌜ r ≡ linkedEntries (now (links .entry)) (now (list .entry)) ⌝ }
+{
+    let mut marks = zeros();
+    over_links(0, links, list, &mut marks);
+    marks
 }

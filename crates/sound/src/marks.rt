@@ -3,7 +3,7 @@ use lists::entry;
 ghost use mathlib.Core.Path.{_≡_};
 ghost use mathlib.Core.Bool.{not, _&&_};
 ghost use lib.Dec.{eqb, ltb};
-ghost use Rattle.sound.specs.Marks.{noted};
+ghost use Rattle.sound.specs.Marks.{noted, entryIs};
 
 pub(crate) fn ends_sound(n: u16, a: u16, b: u16) -> bool
     ensures { λ r. ⌜ r ≡ (not (eqb a b) && ltb a n && ltb b n) ⌝ }
@@ -19,7 +19,7 @@ pub(crate) fn ends_sound(n: u16, a: u16, b: u16) -> bool
 
 // Marks v, where u is its holder and v has a place among the marks.
 pub(crate) fn note(v: u16, u: u16, holders: &[u16], marks: &mut [u16])
-    ensures { λ _. ⌜ now (marks .exit) ≡ noted (now (holders .entry)) (now (marks .entry)) v u ⌝ }
+    ensures { λ _. ⌜ now (marks .exit) ≡ noted (entryIs (now (holders .entry))) (now (marks .entry)) v u ⌝ }
 {
     lists::marks::mark_if(entry(holders, v) == u, marks, v);
 }

@@ -1,4 +1,4 @@
-use Rattle.sound.proofs.LinkPass.{note-means}
+use Rattle.sound.proofs.LinkEnds.{note-means}
 use borrow.Author.Needs.{needs}
 use Rattle.sound.proofs.marks.note.Statement.{statement}
 use Rattle.sound.proofs.marks.note.Tie as tie

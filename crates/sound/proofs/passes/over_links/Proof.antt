@@ -1,7 +1,7 @@
 use borrow.Author.Needs.{needs}
 use Prim.Native.Nat.{_-_}
 use lib.ListN.{length}
-use Rattle.sound.proofs.LinkPass.{LinksUpTo, links-start, links-turn, links-end}
+use Rattle.sound.proofs.LinkEnds.{LinksUpTo, links-start, links-turn, links-end}
 use Rattle.sound.proofs.passes.over_links.Statement.{statement}
 use Rattle.sound.proofs.passes.over_links.Tie as tie
 
