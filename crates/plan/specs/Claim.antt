@@ -7,22 +7,18 @@ use lib.Dec.{eqb}
 use lib.ListN.{length}
 use Rattle.packing.specs.Count.{sum, count}
 use Rattle.packing.specs.Plant.{at, common, linked}
-use Rattle.packing.specs.Grouping.{Grouping, covered, coveredFirst}
+use Rattle.packing.specs.Grouping.{covered, coveredFirst}
 use Rattle.packing.specs.Pairs.{EarlierLeads}
-use Rattle.packing.specs.Choke.{ChokeDifference}
 use Rattle.packing.specs.Holders.{held}
 use Rattle.packing.specs.Moved.{moved, Fewest}
 use Rattle.packing.specs.SoFar.{SoFar}
 use Rattle.packing.specs.Violator.{Violator, Smallest}
 use Rattle.search.specs.ChokeSet.{chokeByte}
 use Rattle.plant_file.specs.PlantFile.{fileN, fileT, fileLinks, fileOrder}
+use Rattle.plant_file.specs.FilePlant.{GroupingOf, DifferenceOf}
 use Rattle.plan.specs.Plan.{stateAfter, movesAfter, planRefusal, planLeaders, planChoke, fileLeaders}
 use Rattle.plan.specs.After.{planAfterRefusal, planMovesAfter, planLeadersAfter, planChokeAfter}
 use Rattle.plan.specs.Why.{fileWhyRefusal, fileFirst, fileSecond}
-
--- a grouping of the plant that the file describes
-abbrev pub GroupingOf : List ℕ → (ℕ → ℕ) → Type 0
-GroupingOf file g = Grouping (fileN file) (common (fileT file)) (linked (fileLinks file)) g
 
 -- What is claimed of leaders g and a choke set s for that plant: g is a grouping, no grouping covers more of the first k in the file's order for any k up to n,
 -- and the choke set's difference is the number not covered.
@@ -31,7 +27,7 @@ PlanOf file g s =
     GroupingOf file g
     × ((other : ℕ → ℕ) → GroupingOf file other → (k : ℕ) → k ≤ fileN file
     → coveredFirst k (at (fileOrder file)) other ≤ coveredFirst k (at (fileOrder file)) g)
-    × ChokeDifference (fileN file) (common (fileT file)) (linked (fileLinks file)) s (count (fileN file) (λ v. not (covered g v)))
+    × DifferenceOf file s (count (fileN file) (λ v. not (covered g v)))
 
 -- It holds of what is written for every accepted file.
 unfoldable pub FilePlan : Type 0

@@ -1,6 +1,7 @@
 -- What no refusal of a file says.
 use Prim.Native.Nat.{ℕ, zero, suc, _+_, _*_, _<_, _≤_}
 use mathlib.Core.Path.{_≡_, sym, _∙_}
+use mathlib.Core.Logic.{⊎-elim}
 use mathlib.Core.Bool.{true, false, not, _||_}
 use mathlib.Core.List.{List, []}
 use native.Mathlib.Numerals.{add-one}
@@ -13,6 +14,9 @@ use Rattle.packing.proofs.Tests.{or-false-l, or-false-r}
 use Rattle.packing.proofs.Prefixes.{IsOrder}
 use Rattle.packing.specs.Orders.{repeatsOrOutside}
 use Rattle.packing.proofs.Refusals.{refuse-none, first-none}
+use Rattle.packing.proofs.Turns.{says-linked}
+use Rattle.sound.specs.Sound.{endsSound}
+use Rattle.sound.proofs.Meaning.{mean-ends}
 use Rattle.sound.proofs.Orders.{order-right}
 use Rattle.plant_file.specs.PlantFile.{number, fileN, fileT, fileM, fileLinks, fileOrder, beginsPLT, endsRefusal, linksRefusal, fileRefusal}
 use Rattle.plant_file.proofs.LinksByIndex.{links-long}
@@ -90,3 +94,13 @@ link-allowed n l z i h =
 pub file-link-allowed : (file : List ℕ) → fileRefusal file ≡ 0 → (i : ℕ) → i < fileM file
     → LinkAllowed (fileN file) (take (2 * i) (fileLinks file)) (at (fileLinks file) (2 * i)) (at (fileLinks file) (2 * i + 1))
 file-link-allowed file z i h = link-allowed (fileN file) (fileLinks file) (file-allowed file z .links) i (omega (arith, links-long file))
+
+-- what an accepted file's links join: two gateways that differ
+pub file-ends : (file : List ℕ) → fileRefusal file ≡ 0 → (x y : ℕ) → linked (fileLinks file) x y ≡ true → (x < fileN file) × (y < fileN file) × (x ≡ y → ⊥)
+file-ends file z x y e =
+    let (i, l, same) = says-linked (fileM file) (fileLinks file) x y (links-long file) .holds e in
+    let a = file-link-allowed file z i l in
+    ⊎-elim (λ q. (rw (← q .0) (a .first), rw (← q .1) (a .second), λ d. a .differ (q .0 ∙ d ∙ sym (q .1)))) (λ q. (rw (← q .1) (a .second), rw (← q .0) (a .first), λ d. a .differ (q .0 ∙ sym d ∙ sym (q .1)))) same
+
+pub file-links-sound : (file : List ℕ) → fileRefusal file ≡ 0 → endsSound (fileN file) (fileLinks file) ≡ true
+file-links-sound file z = mean-ends (fileN file) (fileLinks file) (file-ends file z)

@@ -1,5 +1,6 @@
 -- What the bytes of a plant file say.
 pub mod PlantFile
+pub mod FilePlant
 pub mod Places
 pub mod Encode
 pub mod Reader

@@ -1,7 +1,8 @@
 -- A pass over the links that marks each gateway with a link of some kind: its invariant, one turn, and its end. p says which links count, seen from the gateway.
 use Prim.Native.Nat.{ℕ, _+_, _<_, _≤_}
 use mathlib.Core.Path.{_≡_, refl, sym, ap, _∙_}
-use mathlib.Core.Bool.{Bool, true, false, cond, _&&_, _||_, or-true, or-false, and-comm}
+use mathlib.Core.Logic.{⊎-elim}
+use mathlib.Core.Bool.{Bool, true, false, cond, _&&_, _||_, or-true, or-false, false≢true}
 use mathlib.Core.List.{List, [], _∷_}
 use native.Mathlib.Omega.{arith}
 use lib.Dec.{eqb}
@@ -9,25 +10,43 @@ use lib.ListN.{length, set, drop}
 use borrow.Author.Tests.{eqb-true, eq-eqb}
 use Rattle.packing.specs.Count.{pick}
 use Rattle.packing.specs.Lists.{listOf}
-use Rattle.packing.specs.Plant.{at, linked}
-use Rattle.packing.proofs.Tests.{by-bool, iff-test}
+use Rattle.packing.specs.Plant.{at, joins, linked}
+use Rattle.packing.proofs.Tests.{and-l, and-r, and-i, or-l, or-r, or-cases, iff-test}
 use Rattle.packing.proofs.Lists.{list-is, listOf-ext}
 use Rattle.packing.proofs.Flat.{pair-at, pair-end}
 use Rattle.lists.proofs.Marked.{marked-entry, marked-length}
 use Rattle.sound.specs.Marks.{Zeros, linkedWhere, noted, entryIs}
 
+-- who has such a link is linked to a gateway u with p v u, ..
+pub where-found : (p : ℕ → ℕ → Bool) (ls : List ℕ) (v : ℕ) → linkedWhere p ls v ≡ true → (u : ℕ) × (linked ls v u ≡ true) × (p v u ≡ true)
+unfolding linkedWhere linked
+where-found p [] v e = absurd (false≢true e)
+where-found p (a ∷ []) v e = absurd (false≢true e)
+where-found p (a ∷ b ∷ rest) v e =
+    ⊎-elim (λ q. ⊎-elim (λ s. (b, or-l (joins a b v b) _ (or-l _ (eqb a b && eqb b v) (and-i (eqb a v) (eqb b b) (and-l _ _ s) (eq-eqb b b refl))), end a b s)) (λ s. (a, or-l (joins a b v a) _ (or-r (eqb a v && eqb b a) _ (and-i (eqb a a) (eqb b v) (eq-eqb a a refl) (and-l _ _ s))), end b a s)) (or-cases (eqb a v && p a b) (eqb b v && p b a) q))
+    (λ q. let (u, l, t) = where-found p rest v q in (u, or-r (joins a b v u) (linked rest v u) l, t)) (or-cases ((eqb a v && p a b) || (eqb b v && p b a)) (linkedWhere p rest v) e)
+  where
+    end : (x y : ℕ) → (eqb x v && p x y) ≡ true → p v y ≡ true
+    end x y s = rw (eqb-true x v (and-l _ _ s)) at (and-r (eqb x v) (p x y) s)
+
+-- .. and the other way
+pub where-linked : (p : ℕ → ℕ → Bool) (ls : List ℕ) (v u : ℕ) → linked ls v u ≡ true → p v u ≡ true → linkedWhere p ls v ≡ true
+unfolding linkedWhere linked
+where-linked p [] v u e t = absurd (false≢true e)
+where-linked p (a ∷ []) v u e t = absurd (false≢true e)
+where-linked p (a ∷ b ∷ rest) v u e t =
+    ⊎-elim (λ q. or-l _ (linkedWhere p rest v) (⊎-elim (λ s. or-l _ (eqb b v && p b a) (side a b (and-l _ _ s) (and-r (eqb a v) _ s))) (λ s. or-r (eqb a v && p a b) _ (side b a (and-r (eqb a u) _ s) (and-l _ _ s))) (or-cases (eqb a v && eqb b u) (eqb a u && eqb b v) q)))
+    (λ q. or-r ((eqb a v && p a b) || (eqb b v && p b a)) _ (where-linked p rest v u q t)) (or-cases (joins a b v u) (linked rest v u) e)
+  where
+    side : (x y : ℕ) → eqb x v ≡ true → eqb y u ≡ true → (eqb x v && p x y) ≡ true
+    side x y f g = and-i (eqb x v) (p x y) f (rw (eqb-true x v f, eqb-true y u g) t)
+
 -- a link whose other end is the gateway's entry is a link to its entry
 pub linked-entry : (ls l : List ℕ) (v : ℕ) → linkedWhere (entryIs l) ls v ≡ linked ls v (at l v)
-unfolding linkedWhere linked entryIs
-linked-entry [] l v = refl
-linked-entry (a ∷ []) l v = refl
-linked-entry (a ∷ b ∷ rest) l v = rw (linked-entry rest l v, side a b, side b a) (ap (λ (c : Bool). (eqb a v && eqb b (at l v)) || c || linked rest v (at l v)) (and-comm (eqb b v) (eqb a (at l v))))
-  where
-    flip : (x y : ℕ) → eqb x y ≡ eqb y x
-    flip x y = iff-test (eqb x y) (eqb y x) (λ e. eq-eqb y x (sym (eqb-true x y e))) (λ e. eq-eqb x y (sym (eqb-true y x e)))
-
-    side : (x y : ℕ) → (eqb x v && eqb (at l x) y) ≡ (eqb x v && eqb y (at l v))
-    side x y = by-bool (eqb x v) (λ e. rw (e, eqb-true x v e) (flip (at l v) y)) (λ e. rw e)
+unfolding entryIs
+linked-entry ls l v =
+    iff-test (linkedWhere (entryIs l) ls v) (linked ls v (at l v)) (λ e. let (u, j, t) = where-found (entryIs l) ls v e in rw (eqb-true (at l v) u t) j)
+    (λ j. where-linked (entryIs l) ls v (at l v) j (eq-eqb (at l v) (at l v) refl))
 
 where-short : (p : ℕ → ℕ → Bool) (l : List ℕ) (v : ℕ) → length l ≤ 1 → linkedWhere p l v ≡ false
 unfolding linkedWhere

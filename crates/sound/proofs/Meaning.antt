@@ -47,7 +47,7 @@ joined-ends n a b below-a below-b apart x y e =
     (λ q. let u : a ≡ y = eqb-true a y (and-l (eqb a y) (eqb b x) q) in let v : b ≡ x = eqb-true b x (and-r (eqb a y) (eqb b x) q) in (omega arith, omega arith, λ s. apart (cc)))
     (or-cases (eqb a x && eqb b y) (eqb a y && eqb b x) e)
 
-ends-mean : (n : ℕ) (l : List ℕ) → endsSound n l ≡ true → (x y : ℕ) → linked l x y ≡ true → (x < n) × (y < n) × (x ≡ y → ⊥)
+pub ends-mean : (n : ℕ) (l : List ℕ) → endsSound n l ≡ true → (x y : ℕ) → linked l x y ≡ true → (x < n) × (y < n) × (x ≡ y → ⊥)
 unfolding endsSound linked
 ends-mean n [] e x y j = absurd (false≢true j)
 ends-mean n (a ∷ []) e x y j = absurd (false≢true j)
@@ -69,7 +69,7 @@ ends-mean n (a ∷ b ∷ l) e x y j =
     apart : a ≡ b → ⊥
     apart = eqb-false a b (not-true (eqb a b) (and-l (not (eqb a b)) (ltb a n) low))
 
-mean-ends : (n : ℕ) (l : List ℕ) → ((x y : ℕ) → linked l x y ≡ true → (x < n) × (y < n) × (x ≡ y → ⊥)) → endsSound n l ≡ true
+pub mean-ends : (n : ℕ) (l : List ℕ) → ((x y : ℕ) → linked l x y ≡ true → (x < n) × (y < n) × (x ≡ y → ⊥)) → endsSound n l ≡ true
 unfolding endsSound linked
 mean-ends n [] h = refl
 mean-ends n (a ∷ []) h = refl

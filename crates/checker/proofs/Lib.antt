@@ -1,0 +1,6 @@
+-- Laws of the checker: its tests, its refusals in words, and its claims.
+pub mod Entries
+pub mod Differences
+pub mod Refusing
+pub mod Below
+pub mod Loaded

@@ -1,0 +1,61 @@
+-- 02, change 6: what is claimed of the checker.
+use Prim.Native.Nat.{ℕ, _<_, _≤_}
+use mathlib.Core.Path.{_≡_}
+use mathlib.Core.Logic.{_⊎_, _↔_}
+use mathlib.Core.List.{List}
+use lib.ListN.{length, take}
+use Rattle.packing.specs.Count.{count}
+use Rattle.packing.specs.Plant.{at, linked}
+use Rattle.packing.specs.Grouping.{covered}
+use Rattle.planner.specs.State.{State}
+use Rattle.planner.specs.Calls.{readLeaders, readChoke}
+use Rattle.planner.specs.Told.{Told}
+use Rattle.planner.specs.Claims.{OnceRead}
+use Rattle.plant_file.specs.PlantFile.{fileN, fileT, fileLinks, fileRefusal}
+use Rattle.plant_file.specs.FilePlant.{GroupingOf, DifferenceOf}
+use Rattle.checker.specs.Check.{inSet, aloneCount, checkRefusal}
+
+-- "It accepts exactly if every entry is 65535, or its own number with one to T members, or a linked gateway that leads itself, and the choke difference equals the number of 65535 entries."
+-- The first is what a grouping is (packing/specs/Grouping.antt). The difference is stated as a sum: one below zero is none.
+pub record Accepted (file leaders choke : List ℕ) : Type 0 where
+  pub of-file : fileRefusal file ≡ 0
+  pub entries : fileN file ≤ length leaders
+  pub grouping : GroupingOf file (at leaders)
+  pub bytes : fileN file ≤ length choke
+  pub zero-or-one : (v : ℕ) → v < fileN file → (at choke v ≡ 0) ⊎ (at choke v ≡ 1)
+  pub difference : DifferenceOf file (inSet choke) (aloneCount (fileN file) leaders)
+
+unfoldable pub AcceptsExactly : Type 0
+AcceptsExactly = (file leaders choke : List ℕ) → (checkRefusal file leaders choke ≡ 0) ↔ Accepted file leaders choke
+
+-- nothing past the first n is looked at
+unfoldable pub FirstOnly : Type 0
+FirstOnly = (file leaders choke : List ℕ) → checkRefusal file (take (fileN file) leaders) (take (fileN file) choke) ≡ checkRefusal file leaders choke
+
+-- g covers as many gateways as any grouping of the file's plant can
+abbrev pub CoversMost : List ℕ → (ℕ → ℕ) → Type 0
+CoversMost file g = (other : ℕ → ℕ) → GroupingOf file other → count (fileN file) (covered other) ≤ count (fileN file) (covered g)
+
+-- "What it accepts covers as many gateways as any grouping can."
+unfoldable pub AcceptedCoversMost : Type 0
+AcceptedCoversMost = (file leaders choke : List ℕ) → checkRefusal file leaders choke ≡ 0 → CoversMost file (at leaders)
+
+-- A choke list that is accepted with some leader list is accepted with just those that are groupings and cover the most. So one of them is enough to check leader lists by any hand.
+unfoldable pub OneChokeList : Type 0
+OneChokeList =
+    (file leaders choke others : List ℕ) → checkRefusal file leaders choke ≡ 0
+    → (checkRefusal file others choke ≡ 0) ↔ ((fileN file ≤ length others) × GroupingOf file (at others) × CoversMost file (at others))
+
+-- a file describes the plant told: it has its n, its T and its links. In which order the links came, and which end of a link is named first, does not matter, and neither does the file's order.
+pub record Describes (file : List ℕ) (told : Told) : Type 0 where
+  pub gateways : fileN file ≡ told .n
+  pub limit : fileT file ≡ told .t
+  pub links : (x y : ℕ) → linked (fileLinks file) x y ≡ linked (told .links) x y
+
+-- "Read's answer for a fully placed record made by accepted calls is always accepted": with every accepted file that describes the plant told.
+abbrev pub ReadAcceptedOf : (n : ℕ) (told : Told) (made : State) (leaders choke : List ℕ) → Type 0
+ReadAcceptedOf n told made leaders choke =
+    (file : List ℕ) → fileRefusal file ≡ 0 → Describes file told → checkRefusal file (readLeaders made leaders choke) (readChoke made leaders choke) ≡ 0
+
+unfoldable pub ReadAccepted : Type 0
+ReadAccepted = OnceRead ReadAcceptedOf
