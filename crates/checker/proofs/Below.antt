@@ -1,20 +1,26 @@
 -- The checker looks at nothing from n on: of limits, leader lists and choke lists.
-use Prim.Native.Nat.{ℕ, _<_, _≤_}
+use Prim.Native.Nat.{ℕ, zero, suc, _<_, _≤_}
 use mathlib.Core.Path.{_≡_, refl, sym, ap, _∙_}
 use mathlib.Core.Bool.{Bool, true, false, not, _||_}
-use mathlib.Core.List.{List}
+use mathlib.Core.List.{List, [], _∷_}
 use native.Mathlib.Omega.{arith}
-use lib.Dec.{ltb}
+use lib.Dec.{eqb, ltb}
 use lib.ListN.{length, take}
-use Rattle.packing.specs.Plant.{at}
-use Rattle.packing.specs.Grouping.{Grouping, isGrouping}
-use Rattle.packing.specs.Choke.{isDifference, ChokeDifference}
-use Rattle.packing.specs.Refusals.{refuse}
-use Rattle.packing.proofs.Tests.{by-bool, iff-test}
+use lib.Seq.{getD-take, length-take-le}
+use borrow.Author.Tests.{ltb-true, ltb-false, lt-ltb, le-ltb}
+use Rattle.packing.specs.Count.{any, count}
+use Rattle.packing.specs.Plant.{NONE, at, common, linked}
+use Rattle.packing.specs.Grouping.{isAlone, isGrouping}
+use Rattle.packing.specs.Choke.{isDifference}
+use Rattle.packing.specs.Refusals.{firstOf}
+use Rattle.packing.proofs.Tests.{by-bool, iff-test, any-ext}
+use Rattle.packing.proofs.Sums.{count-ext}
 use Rattle.packing.proofs.Turns.{Says}
 use Rattle.packing.proofs.Checks.{says-grouping, says-difference}
-use Rattle.packing.proofs.Below.{grouping-limits, difference-limits}
-use Rattle.checker.specs.Check.{inSet, aloneCount, leadersOff, chokeOff, listsRefusal}
+use Rattle.packing.proofs.Below.{grouping-limits, difference-limits, grouping-below, difference-below}
+use Rattle.plant_file.specs.PlantFile.{fileN, fileT, fileLinks, fileRefusal}
+use Rattle.checker.specs.Check.{inSet, aloneCount, leadersOff, chokeOff, listsRefusal, checkRefusal}
+use Rattle.checker.specs.Claim.{FirstOnly}
 
 -- tests that say conditions which follow from each other are equal
 says-iff : {a b : Bool} {A B : Type 0} → Says a A → Says b B → (A → B) → (B → A) → a ≡ b
@@ -35,3 +41,46 @@ lists-below n limit limit' adj leaders choke same = rw (groups, differs)
     differs =
         says-iff (says-difference n limit adj (inSet choke) (aloneCount n leaders)) (says-difference n limit' adj (inSet choke) (aloneCount n leaders))
         (difference-limits n limit limit' adj same (inSet choke) (aloneCount n leaders)) (difference-limits n limit' limit adj back (inSet choke) (aloneCount n leaders))
+
+take-less : (n : ℕ) (l : List ℕ) → length (take n l) ≤ length l
+take-less zero l = omega arith
+take-less (suc n) [] = omega arith
+take-less (suc n) (x ∷ l) = omega (arith, take-less n l)
+
+-- there are n entries in a list exactly if there are n in its first n
+take-short : (n : ℕ) (l : List ℕ) → ltb (length (take n l)) n ≡ ltb (length l) n
+take-short n l =
+    by-bool (ltb (length l) n) (λ e. rw e (lt-ltb (length (take n l)) n (omega (arith, ltb-true (length l) n e, take-less n l))))
+    (λ e. rw e (le-ltb (length (take n l)) n (omega (arith, length-take-le n l (ltb-false (length l) n e)))))
+
+module _ (n : ℕ) (leaders choke : List ℕ) where
+  entry-first : (l : List ℕ) (v : ℕ) → v < n → at (take n l) v ≡ at l v
+  entry-first l v k = getD-take n l v 0 k
+
+  alone-first : aloneCount n (take n leaders) ≡ aloneCount n leaders
+  unfolding aloneCount
+  alone-first = count-ext n (isAlone (at (take n leaders))) (isAlone (at leaders)) (λ v l. ap (λ (x : ℕ). eqb x NONE) (entry-first leaders v l))
+
+  set-first : (v : ℕ) → v < n → inSet (take n choke) v ≡ inSet choke v
+  unfolding inSet
+  set-first v l = ap (λ (x : ℕ). eqb x 1) (entry-first choke v l)
+
+  pub lists-first : (limit : ℕ → ℕ) (adj : ℕ → ℕ → Bool) → listsRefusal n limit adj (take n leaders) (take n choke) ≡ listsRefusal n limit adj leaders choke
+  unfolding listsRefusal leadersOff chokeOff
+  lists-first limit adj = rw (take-short n leaders, take-short n choke, groups, bytes, differs)
+    where
+      groups : isGrouping n limit adj (at (take n leaders)) ≡ isGrouping n limit adj (at leaders)
+      groups =
+          says-iff (says-grouping n limit adj (at (take n leaders))) (says-grouping n limit adj (at leaders)) (grouping-below n limit adj _ _ (entry-first leaders)) (grouping-below n limit adj _ _ (λ v l. sym (entry-first leaders v l)))
+
+      bytes : any n (λ v. ltb 1 (at (take n choke) v)) ≡ any n (λ v. ltb 1 (at choke v))
+      bytes = any-ext n (λ v. ltb 1 (at (take n choke) v)) (λ v. ltb 1 (at choke v)) (λ v l. ap (ltb 1) (entry-first choke v l))
+
+      differs : isDifference n limit adj (inSet (take n choke)) (aloneCount n (take n leaders)) ≡ isDifference n limit adj (inSet choke) (aloneCount n leaders)
+      differs =
+          says-iff (says-difference n limit adj (inSet (take n choke)) (aloneCount n (take n leaders))) (says-difference n limit adj (inSet choke) (aloneCount n leaders)) (difference-below n limit adj _ _ _ _ set-first alone-first)
+          (difference-below n limit adj _ _ _ _ (λ v l. sym (set-first v l)) (sym alone-first))
+
+pub first-only : FirstOnly
+unfolding FirstOnly checkRefusal
+first-only file leaders choke = ap (firstOf (fileRefusal file)) (lists-first (fileN file) leaders choke (common (fileT file)) (linked (fileLinks file)))

@@ -4,3 +4,5 @@ pub mod Differences
 pub mod Refusing
 pub mod Below
 pub mod Loaded
+pub mod Turns
+pub mod Claim

@@ -44,7 +44,7 @@ not-not false = refl
 pub alone-uncovered : (n : ℕ) (g : ℕ → ℕ) → count n (isAlone g) ≡ count n (λ v. not (covered g v))
 alone-uncovered n g = count-ext n (isAlone g) (λ v. not (covered g v)) (λ v l. sym (not-not (isAlone g v)))
 
-covered-alone : (n : ℕ) (g : ℕ → ℕ) → n ≡ count n (covered g) + count n (isAlone g)
+pub covered-alone : (n : ℕ) (g : ℕ → ℕ) → n ≡ count n (covered g) + count n (isAlone g)
 covered-alone n g =
     omega (
       arith,

@@ -1,0 +1,107 @@
+-- The claims of specs/Claim.antt that are about any lists.
+use Prim.Native.Nat.{ℕ, _+_, _<_, _≤_}
+use mathlib.Core.Path.{_≡_, refl, sym, ap, _∙_}
+use mathlib.Core.Logic.{_⊎_, inl, inr, ⊎-elim, _↔_}
+use mathlib.Core.Bool.{Bool, true, false, not, _||_}
+use mathlib.Core.List.{List}
+use native.Mathlib.Omega.{arith}
+use lib.Dec.{eqb, ltb}
+use lib.ListN.{length, take}
+use borrow.Author.Tests.{eqb-true, eqb-false, ltb-false, le-ltb, not-false}
+use Rattle.packing.specs.Count.{count, any}
+use Rattle.packing.specs.Plant.{at, common, linked}
+use Rattle.packing.specs.Grouping.{isGrouping, covered}
+use Rattle.packing.specs.Choke.{isDifference}
+use Rattle.packing.proofs.Tests.{by-bool, not-test, or-none, or-false-l, or-false-r, not-i-false, any-none, any-fails}
+use Rattle.packing.proofs.Refusals.{refuse-none, first-none}
+use Rattle.packing.proofs.Turns.{Says}
+use Rattle.packing.proofs.Links.{linked-sym}
+use Rattle.packing.proofs.Groupings.{Sym, Loopless}
+use Rattle.packing.proofs.Checks.{says-grouping, says-difference, difference-most, covered-alone}
+use Rattle.plant_file.specs.PlantFile.{fileN, fileT, fileLinks, fileRefusal}
+use Rattle.plant_file.specs.FilePlant.{GroupingOf}
+use Rattle.plant_file.proofs.Accepted.{file-allowed, file-ends}
+use Rattle.checker.specs.Check.{inSet, aloneCount, leadersOff, chokeOff, listsRefusal, checkRefusal}
+use Rattle.checker.specs.Claim.{Accepted, AcceptsExactly, CoversMost, AcceptedCoversMost, OneChokeList}
+
+bit-cases : (x : ℕ) → x ≤ 1 → (x ≡ 0) ⊎ (x ≡ 1)
+bit-cases x l = by-bool (eqb x 0) (λ e. inl (eqb-true x 0 e)) (λ e. let some : x ≡ 0 → ⊥ = eqb-false x 0 e in inr (omega arith))
+
+-- a test that says a condition holds where the condition does
+says-true : {b : Bool} {A : Type 0} → Says b A → A → b ≡ true
+says-true {b} s a = by-bool b (λ e. e) (λ e. absurd (s .fails e a))
+
+module _ (file leaders choke : List ℕ) where
+  groups : Says (isGrouping (fileN file) (common (fileT file)) (linked (fileLinks file)) (at leaders)) (GroupingOf file (at leaders))
+  groups = says-grouping (fileN file) (common (fileT file)) (linked (fileLinks file)) (at leaders)
+
+  abbrev above : ℕ → Bool
+  above v = ltb 1 (at choke v)
+
+  pub accepted-of : checkRefusal file leaders choke ≡ 0 → Accepted file leaders choke
+  unfolding checkRefusal listsRefusal leadersOff chokeOff
+  accepted-of z =
+      let (fine, lists) = first-none (fileRefusal file) _ z in
+      let (packs, rest) = refuse-none _ 31 _ (omega arith) lists in
+      let (chokes, _) = refuse-none _ 32 0 (omega arith) rest in
+      let bytes = or-false-l _ _ chokes in
+      record {
+        of-file = fine;
+        entries = ltb-false (length leaders) (fileN file) (or-false-l _ _ packs);
+        grouping = groups .holds (not-false _ (or-false-r (ltb (length leaders) (fileN file)) _ packs));
+        bytes = ltb-false (length choke) (fileN file) (or-false-l _ _ bytes);
+        zero-or-one = λ v l. bit-cases (at choke v) (ltb-false 1 (at choke v) (any-fails (fileN file) above (or-false-r (ltb (length choke) (fileN file)) _ bytes) v l));
+        difference = says-difference (fileN file) (common (fileT file)) (linked (fileLinks file)) (inSet choke) (aloneCount (fileN file) leaders) .holds (not-false _ (or-false-r (ltb (length choke) (fileN file) || any (fileN file) above) _ chokes));
+      }
+
+  pub of-accepted : Accepted file leaders choke → checkRefusal file leaders choke ≡ 0
+  unfolding checkRefusal listsRefusal leadersOff chokeOff
+  of-accepted a =
+      rw (
+        a .of-file,
+        le-ltb (length leaders) (fileN file) (a .entries),
+        says-true groups (a .grouping),
+        le-ltb (length choke) (fileN file) (a .bytes),
+        any-none (fileN file) above (λ v l. le-ltb 1 (at choke v) (⊎-elim (λ q. omega arith) (λ q. omega arith) (a .zero-or-one v l))),
+        says-true (says-difference (fileN file) (common (fileT file)) (linked (fileLinks file)) (inSet choke) (aloneCount (fileN file) leaders)) (a .difference),
+      )
+
+pub accepts-exactly : AcceptsExactly
+unfolding AcceptsExactly
+accepts-exactly file leaders choke = (accepted-of file leaders choke, of-accepted file leaders choke)
+
+-- the links of an accepted file go both ways, and join no gateway to itself
+module _ (file : List ℕ) (z : fileRefusal file ≡ 0) where
+  file-symmetric : Sym (fileN file) (linked (fileLinks file))
+  file-symmetric x u l k e = linked-sym (fileLinks file) u x ∙ e
+
+  file-loopless : Loopless (fileN file) (linked (fileLinks file))
+  file-loopless x l = not-test (linked (fileLinks file) x x) (λ e. file-ends file z x x e .2 refl)
+
+  file-limits : (u : ℕ) → u < fileN file → 1 ≤ common (fileT file) u
+  unfolding common
+  file-limits u l = omega (arith, file-allowed file z .least)
+
+pub accepted-covers-most : AcceptedCoversMost
+unfolding AcceptedCoversMost aloneCount
+accepted-covers-most file leaders choke z other group =
+    let a = accepted-of file leaders choke z in
+    difference-most (fileN file) (common (fileT file)) (linked (fileLinks file)) (file-symmetric file (a .of-file)) (file-loopless file (a .of-file)) (file-limits file (a .of-file)) (at leaders) (inSet choke) (a .difference) other group
+
+pub one-choke-list : OneChokeList
+unfolding OneChokeList AcceptedCoversMost aloneCount
+one-choke-list file leaders choke others z = (to, from)
+  where
+    a : Accepted file leaders choke
+    a = accepted-of file leaders choke z
+
+    to : checkRefusal file others choke ≡ 0 → (fileN file ≤ length others) × GroupingOf file (at others) × CoversMost file (at others)
+    to y = let b = accepted-of file others choke y in (b .entries, b .grouping, accepted-covers-most file others choke y)
+
+    -- both cover the most, so that as many are alone
+    from : (fileN file ≤ length others) × GroupingOf file (at others) × CoversMost file (at others) → checkRefusal file others choke ≡ 0
+    from (entries, grouping, most) =
+        of-accepted file others choke (record { of-file = a .of-file; entries = entries; grouping = grouping; bytes = a .bytes; zero-or-one = a .zero-or-one; difference = rw (← same most grouping) (a .difference) })
+      where
+        same : CoversMost file (at others) → GroupingOf file (at others) → aloneCount (fileN file) leaders ≡ aloneCount (fileN file) others
+        same m g = omega (arith, m (at leaders) (a .grouping), accepted-covers-most file leaders choke z (at others) g, covered-alone (fileN file) (at leaders), covered-alone (fileN file) (at others))

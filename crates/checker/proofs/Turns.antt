@@ -1,0 +1,27 @@
+-- The refusals in words.
+use Prim.Native.Nat.{ℕ, _<_}
+use mathlib.Core.List.{List}
+use lib.ListN.{length}
+use Rattle.packing.specs.Plant.{at, common, linked}
+use Rattle.packing.specs.Turns.{done, named}
+use Rattle.packing.proofs.Turns.{Says, turn-done, turn-named, says-less, says-either, says-not}
+use Rattle.packing.proofs.Checks.{says-grouping, says-difference, says-some}
+use Rattle.plant_file.specs.PlantFile.{fileN, fileT, fileLinks}
+use Rattle.plant_file.proofs.Turns.{file-then}
+use Rattle.checker.specs.Check.{inSet, aloneCount, leadersOff, chokeOff, listsRefusal, checkRefusal}
+use Rattle.checker.specs.Turns.{NoPacking, ChokeOff, CheckExactly}
+
+module _ (file leaders : List ℕ) where
+  pub says-leaders : Says (leadersOff (fileN file) (common (fileT file)) (linked (fileLinks file)) leaders) (NoPacking file leaders)
+  unfolding leadersOff
+  says-leaders = says-either _ _ (says-less (length leaders) (fileN file)) (says-not _ (says-grouping (fileN file) (common (fileT file)) (linked (fileLinks file)) (at leaders)))
+
+  pub says-choke : (choke : List ℕ) → Says (chokeOff (fileN file) (common (fileT file)) (linked (fileLinks file)) leaders choke) (ChokeOff file leaders choke)
+  unfolding chokeOff
+  says-choke choke =
+      says-either _ _ (says-either _ _ (says-less (length choke) (fileN file)) (says-some (fileN file) _ (λ v. says-less 1 (at choke v))))
+      (says-not _ (says-difference (fileN file) (common (fileT file)) (linked (fileLinks file)) (inSet choke) (aloneCount (fileN file) leaders)))
+
+pub check-exactly : CheckExactly
+unfolding CheckExactly checkRefusal listsRefusal
+check-exactly file leaders choke = file-then file _ _ (turn-named _ 31 _ _ (says-leaders file leaders) (λ _. turn-named _ 32 0 done (says-choke file leaders choke) (λ _. turn-done)))
