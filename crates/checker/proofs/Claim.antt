@@ -24,7 +24,7 @@ use Rattle.plant_file.proofs.Accepted.{file-allowed, file-ends}
 use Rattle.checker.specs.Check.{inSet, aloneCount, leadersOff, chokeOff, listsRefusal, checkRefusal}
 use Rattle.checker.specs.Claim.{Accepted, AcceptsExactly, CoversMost, AcceptedCoversMost, OneChokeList}
 
-bit-cases : (x : ℕ) → x ≤ 1 → (x ≡ 0) ⊎ (x ≡ 1)
+pub bit-cases : (x : ℕ) → x ≤ 1 → (x ≡ 0) ⊎ (x ≡ 1)
 bit-cases x l = by-bool (eqb x 0) (λ e. inl (eqb-true x 0 e)) (λ e. let some : x ≡ 0 → ⊥ = eqb-false x 0 e in inr (omega arith))
 
 -- a test that says a condition holds where the condition does

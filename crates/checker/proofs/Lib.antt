@@ -6,3 +6,4 @@ pub mod Below
 pub mod Loaded
 pub mod Turns
 pub mod Claim
+pub mod Read

@@ -54,7 +54,7 @@ order-told a =
 
 -- what a record with the small part told says of an accepted read
 module _ (p : Told) (ls os hs : List ℕ) (a : Agrees p (stateTold p ls os hs)) (leaders choke : List ℕ) (z : refuses p (read leaders choke) ≡ 0) where
-  accepts : callRefusal (stateTold p ls os hs) (read leaders choke) ≡ 0
+  pub accepts : callRefusal (stateTold p ls os hs) (read leaders choke) ≡ 0
   unfolding call
   accepts = same-number a (read leaders choke) ∙ z
 
@@ -62,7 +62,7 @@ module _ (p : Told) (ls os hs : List ℕ) (a : Agrees p (stateTold p ls os hs)) 
   unfolding readLeaders
   leaders-are v l = sym (rw accepts (listed-at (p .n) (leaderList (p .n) os hs) leaders v l))
 
-  choke-at : (v : ℕ) → v < p .n → at (readChoke (stateTold p ls os hs) leaders choke) v ≡ chokeByte (p .n) (p .links) hs v
+  pub choke-at : (v : ℕ) → v < p .n → at (readChoke (stateTold p ls os hs) leaders choke) v ≡ chokeByte (p .n) (p .links) hs v
   unfolding readChoke
   choke-at v l = rw (accepts, a .links) (listed-at (p .n) (chokeByte (p .n) (p .links) hs) choke v l)
 
