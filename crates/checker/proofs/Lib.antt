@@ -7,3 +7,4 @@ pub mod Loaded
 pub mod Turns
 pub mod Claim
 pub mod Read
+pub mod Examples
