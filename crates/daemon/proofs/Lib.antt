@@ -5,3 +5,4 @@ pub mod Asking
 pub mod Turns
 pub mod Claim
 pub mod WhyClaim
+pub mod Checking

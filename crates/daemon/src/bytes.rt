@@ -1,14 +1,16 @@
-// A plan as bytes, and two sets of gateways.
+// A plan as bytes, and two sets of gateways; and a leader list from bytes.
 ghost use mathlib.Core.Path.{_≡_};
 ghost use Prim.Native.Nat.{_+_, _*_, _≤_, _/_, _%_};
 ghost use mathlib.Core.List.{_++_};
 ghost use lib.ListN.{length, take};
 ghost use lib.Seq.{sets};
-ghost use Rattle.packing.specs.Lists.{written};
+ghost use Rattle.packing.specs.Lists.{listOf, written};
+ghost use Rattle.packing.specs.Plant.{GATEWAYS};
+ghost use Rattle.plant_file.specs.PlantFile.{number};
 ghost use Rattle.plant_file.specs.Encode.{lowFirst};
 ghost use Rattle.daemon.specs.Groups.{fourBytes, bytesFor};
 ghost use Rattle.daemon.specs.Why.{setBytes};
-ghost use Rattle.daemon.specs.Pre.{Plannable, Settable};
+ghost use Rattle.daemon.specs.Pre.{Plannable, Settable, entriesRead};
 
 fn low(x: u16) -> u8
     ensures { λ r. ⌜ r ≡ x % 256 ⌝ }
@@ -78,4 +80,26 @@ pub(crate) fn with_sets(first: &[u16], second: &[u16], out: &mut [u8])
     with_numbers(&counts, 0, out);
     with_numbers(first, 4, out);
     with_numbers(second, 4 + 2 * first.len(), out);
+}
+
+// How many entries of a leader list with so many bytes are read: no plant has more than 1,024.
+pub(crate) fn entry_count(len: usize) -> usize
+    ensures { λ r. ⌜ r ≡ entriesRead len ⌝ }
+{
+    if lists::PLACES < len / 2 {
+        return lists::PLACES;
+    }
+    len / 2
+}
+
+// The first entries of a leader list, two bytes each, over the front of a list.
+pub(crate) fn with_entries(bytes: &[u8], count: usize, out: &mut [u16])
+    requires { ⌜ (count ≤ length (now out)) × (count ≤ GATEWAYS) ⌝ }
+    ensures { λ _. ⌜ now (out .exit) ≡ written count (listOf count (λ i. number (now (bytes .entry)) (2 * i))) (now (out .entry)) ⌝ }
+{
+    let mut i: usize = 0;
+    while i < count {
+        out[i] = plant_file::bytes::number_at(bytes, 2 * i);
+        i += 1;
+    }
 }

@@ -1,4 +1,4 @@
-// The calls from C: the plan of a plant file as one list of bytes (01, "The plant file and the listing"), also while the plant is being placed (02, change 1), with the number moved (02, change 4); and why a gateway is alone (02, change 5).
+// The calls from C: the plan of a plant file as one list of bytes (01, "The plant file and the listing"), also while the plant is being placed (02, change 1), with the number moved (02, change 4); why a gateway is alone (02, change 5); and the checker of lists by any hand (02, change 6).
 mod bytes;
 
 ghost use mathlib.Core.Path.{_≡_};
@@ -10,6 +10,7 @@ ghost use Rattle.packing.specs.Refusals.{byNumber};
 ghost use Rattle.plant_file.specs.PlantFile.{fileN};
 ghost use Rattle.plan.specs.After.{afterRefusal};
 ghost use Rattle.daemon.specs.Why.{aloneRefusal, aloneOut};
+ghost use Rattle.daemon.specs.Check.{groupsCheck};
 ghost use Rattle.daemon.specs.Groups.{bytesFor, groupsRefusal, groupsOut, bytesAfter, groupsAfterRefusal, groupsAfterOut};
 
 // Where the list is long enough. The file is checked by the plan alone.
@@ -74,4 +75,15 @@ pub extern "C" fn why_alone(file: &[u8], gateway: u32, out: &mut [u8]) -> u32
     let b = why.second as usize;
     bytes::with_sets(&first[..a], &second[..b], out);
     0
+}
+
+// Checks a leader list and a choke list by any hand. Nothing is written.
+#[no_mangle]
+pub extern "C" fn check_groups(file: &[u8], leaders: &[u8], choke: &[u8]) -> u32
+    ensures { λ r. ⌜ r ≡ groupsCheck (now (file .entry)) (now (leaders .entry)) (now (choke .entry)) ⌝ }
+{
+    let mut entries = lists::marks::zeros();
+    let count = bytes::entry_count(leaders.len());
+    bytes::with_entries(leaders, count, &mut entries);
+    checker::check_lists(file, &entries[..count], choke)
 }

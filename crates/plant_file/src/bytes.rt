@@ -1,4 +1,4 @@
-// 16-bit numbers of a file. What is past its end counts as 0.
+// 16-bit numbers of a list of bytes. What is past its end counts as 0.
 use lists::byte;
 ghost use mathlib.Core.Path.{_≡_};
 ghost use Prim.Native.Nat.{_+_, _*_};
@@ -11,7 +11,8 @@ fn joined(low: u8, high: u8) -> u16
     (low as u16) + 256 * (high as u16)
 }
 
-pub(crate) fn number_at(file: &[u8], i: usize) -> u16
+// The number at a place.
+pub fn number_at(file: &[u8], i: usize) -> u16
     ensures { λ r. ⌜ r ≡ number (now (file .entry)) i ⌝ }
 {
     if i < file.len() {

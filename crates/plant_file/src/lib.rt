@@ -1,5 +1,5 @@
 // The plant file (01, "The plant file and the listing").
-mod bytes;
+pub mod bytes;
 mod checks;
 mod fill;
 pub mod reader;
