@@ -11,7 +11,7 @@ use Rattle.packing.specs.Lists.{written}
 use Rattle.packing.specs.Plant.{at}
 use Rattle.packing.specs.Pairs.{EarlierLeads}
 use Rattle.packing.proofs.Below.{leads-below}
-use Rattle.packing.proofs.Lists.{written-past}
+use Rattle.packing.proofs.Lists.{written-past, written-room}
 use Rattle.packing.proofs.Refusals.{refused}
 use Rattle.packing.proofs.SoFar.{placed-same}
 use Rattle.plant_file.specs.PlantFile.{number, fileN, fileOrder, fileRefusal}
@@ -82,9 +82,16 @@ module _ (n : ℕ) (leaders choke : List ℕ) (x : ℕ) (out : List ℕ) (led : 
       zeroth : 3 * n + 0 ≡ 3 * n
       zeroth = omega arith
 
+  bytes-long : length (lowFirst leaders ++ choke ++ fourBytes x) ≡ bytesFor n
+  bytes-long = omega (arith, length-append (lowFirst leaders ++ choke) (fourBytes x), thrice, four-long x)
+
   past-bytes : drop (bytesFor n) answer ≡ drop (bytesFor n) out
   unfolding answer
-  past-bytes = written-past (bytesFor n) (lowFirst leaders ++ choke ++ fourBytes x) out (omega (arith, length-append (lowFirst leaders ++ choke) (fourBytes x), thrice, four-long x))
+  past-bytes = written-past (bytesFor n) (lowFirst leaders ++ choke ++ fourBytes x) out bytes-long
+
+  room-bytes : bytesFor n ≤ length answer
+  unfolding answer
+  room-bytes = written-room (bytesFor n) (lowFirst leaders ++ choke ++ fourBytes x) out bytes-long
 
 -- an accepted call for k placings
 module _ (file : List ℕ) (k : ℕ) (out : List ℕ) (z : groupsAfterRefusal file k (length out) ≡ 0) where
@@ -115,6 +122,9 @@ module _ (file : List ℕ) (k : ℕ) (out : List ℕ) (z : groupsAfterRefusal fi
   past-after : drop (bytesFor (fileN file)) (groupsAfterOut file k out) ≡ drop (bytesFor (fileN file)) out
   past-after = rw out-is (past-bytes (fileN file) (fileLeadersAfter file k) (fileChokeAfter file k) (movesAfter file k) out led choked)
 
+  room-after : bytesFor (fileN file) ≤ length (groupsAfterOut file k out)
+  room-after = rw out-is (room-bytes (fileN file) (fileLeadersAfter file k) (fileChokeAfter file k) (movesAfter file k) out led choked)
+
 pub bytes-so-far : BytesSoFar
 unfolding BytesSoFar
 bytes-so-far file k out z =
@@ -142,7 +152,7 @@ module _ (file out : List ℕ) (z : groupsRefusal file (length out) ≡ 0) where
   unfolding BytesAfterAll
   all-out = bytes-after-all file out .1
 
-  groups-fine : fileRefusal file ≡ 0
+  pub groups-fine : fileRefusal file ≡ 0
   groups-fine = after-fine file (fileN file) out all-fine .0
 
   pub leader-is : (v : ℕ) → v < fileN file → at (fileLeaders file) v ≡ leaderAt (groupsOut file out) v
@@ -150,6 +160,9 @@ module _ (file out : List ℕ) (z : groupsRefusal file (length out) ≡ 0) where
 
   pub choke-is : (v : ℕ) → v < fileN file → at (fileChoke file) v ≡ chokeAt (fileN file) (groupsOut file out) v
   choke-is v l = rw (choke-all file, all-out) at (choke-after file (fileN file) out all-fine v l)
+
+  pub groups-room : bytesFor (fileN file) ≤ length (groupsOut file out)
+  groups-room = rw all-out at (room-after file (fileN file) out all-fine)
 
   choke-one : (v : ℕ) → v < fileN file → chokeAt (fileN file) (groupsOut file out) v ≤ 1
   choke-one v l = rw (choke-after file (fileN file) out all-fine v l, all-out) at (choke-bit file groups-fine (fileN file) (omega arith) v l)

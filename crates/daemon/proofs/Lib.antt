@@ -6,3 +6,4 @@ pub mod Turns
 pub mod Claim
 pub mod WhyClaim
 pub mod Checking
+pub mod CheckClaim

@@ -3,12 +3,18 @@ use Prim.Native.Nat.{ℕ, _+_, _*_, _<_, _≤_}
 use mathlib.Core.Path.{_≡_}
 use mathlib.Core.Logic.{_⊎_}
 use mathlib.Core.List.{List}
-use lib.ListN.{replicate}
+use lib.Dec.{eqb}
+use lib.ListN.{length, replicate}
+use Rattle.packing.specs.Count.{count}
+use Rattle.packing.specs.Plant.{at}
+use Rattle.packing.specs.Grouping.{isAlone}
 use Rattle.packing.specs.Turns.{done, named, FirstNamed}
 use Rattle.plant_file.specs.PlantFile.{fileN}
+use Rattle.plant_file.specs.FilePlant.{GroupingOf, DifferenceOf}
 use Rattle.plant_file.specs.Turns.{fileTurn}
 use Rattle.daemon.specs.Groups.{groupsRefusal, groupsOut, groupsAfterRefusal}
 use Rattle.daemon.specs.Why.{aloneRefusal}
+use Rattle.daemon.specs.Check.{groupsCheck}
 use Rattle.daemon.specs.Claim.{leaderAt}
 
 unfoldable pub GroupsExactly : Type 0
@@ -24,3 +30,15 @@ unfoldable pub AloneExactly : Type 0
 AloneExactly =
     (file : List ℕ) (v outLen : ℕ)
     → FirstNamed (fileTurn file (named 30 ((fileN file ≤ v) ⊎ (leaderAt (groupsOut file (replicate (3 * fileN file + 4) 0)) v ≡ 65535 → ⊥)) (named 10 (outLen < 4 * fileN file + 4) done))) (aloneRefusal file v outLen)
+
+-- 02, change 6: 31 and 32 by the bytes that the call is handed; n entries are 2n bytes
+abbrev pub NoPackingBytes : List ℕ → List ℕ → Type 0
+NoPackingBytes file leaders = (length leaders < 2 * fileN file) ⊎ (GroupingOf file (leaderAt leaders) → ⊥)
+
+abbrev pub ChokeOffBytes : List ℕ → List ℕ → List ℕ → Type 0
+ChokeOffBytes file leaders choke =
+    ((length choke < fileN file) ⊎ ((v : ℕ) × (v < fileN file) × (1 < at choke v))) ⊎ (DifferenceOf file (λ v. eqb (at choke v) 1) (count (fileN file) (isAlone (leaderAt leaders))) → ⊥)
+
+unfoldable pub GroupsCheckExactly : Type 0
+GroupsCheckExactly =
+    (file leaders choke : List ℕ) → FirstNamed (fileTurn file (named 31 (NoPackingBytes file leaders) (named 32 (ChokeOffBytes file leaders choke) done))) (groupsCheck file leaders choke)
