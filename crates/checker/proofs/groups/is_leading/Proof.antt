@@ -1,3 +1,4 @@
+use native.Mathlib.Omega.{arith}
 use Rattle.checker.proofs.Entries.{leads-other, leads-nobody, leads-some}
 use borrow.Author.Needs.{needs}
 use Rattle.checker.proofs.groups.is_leading.Statement.{statement}
@@ -13,7 +14,7 @@ entry-requires-2 : tie.Need-entry-requires-2
 entry-requires-2 c κs = search needs
 
 returns-2 : tie.Need-returns-2
-returns-2 c = leads-nobody _ _ _ _ (c .before .before .before .entry .ensures) (c .before .before .if1 .left) (c .before .entry2 .ensures) (c .if2 .taken)
+returns-2 c = leads-nobody _ _ _ _ (c .before .before .before .entry .ensures) (c .before .before .if1 .left) (c .before .entry2 .ensures) (omega (arith, c .if2 .taken))
 
 byte-requires : tie.Need-byte-requires
 byte-requires c κs = search needs
