@@ -7,4 +7,5 @@ pub mod Loaded
 pub mod Turns
 pub mod Claim
 pub mod Read
+pub mod ToldFile
 pub mod Examples

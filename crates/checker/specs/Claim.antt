@@ -8,9 +8,10 @@ use Rattle.packing.specs.Count.{count}
 use Rattle.packing.specs.Plant.{at, linked}
 use Rattle.packing.specs.Grouping.{covered}
 use Rattle.planner.specs.State.{State}
-use Rattle.planner.specs.Calls.{readLeaders, readChoke}
+use Rattle.planner.specs.Refusals.{openRefusal}
+use Rattle.planner.specs.Calls.{Call, readLeaders, readChoke}
 use Rattle.planner.specs.Told.{Told}
-use Rattle.planner.specs.Claims.{OnceRead}
+use Rattle.planner.specs.Claims.{toldBy, OnceRead}
 use Rattle.plant_file.specs.PlantFile.{fileN, fileT, fileLinks, fileRefusal}
 use Rattle.plant_file.specs.FilePlant.{GroupingOf, DifferenceOf}
 use Rattle.checker.specs.Check.{inSet, aloneCount, checkRefusal}
@@ -59,3 +60,9 @@ ReadAcceptedOf n told made leaders choke =
 
 unfoldable pub ReadAccepted : Type 0
 ReadAccepted = OnceRead ReadAcceptedOf
+
+-- There is such a file for every plant told: after an accepted open and any list of calls.
+unfoldable pub ToldHasFile : Type 0
+ToldHasFile =
+    (n t : ℕ) (ls os hs : List ℕ) → openRefusal n t os hs ≡ 0 → (calls : List Call)
+    → (file : List ℕ) × (fileRefusal file ≡ 0) × Describes file (toldBy n t ls calls)
