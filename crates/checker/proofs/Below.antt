@@ -1,14 +1,14 @@
 -- The checker looks at nothing from n on: of limits, leader lists and choke lists.
 use Prim.Native.Nat.{ℕ, zero, suc, _<_, _≤_}
-use mathlib.Core.Path.{_≡_, refl, sym, ap, _∙_}
-use mathlib.Core.Bool.{Bool, true, false, not, _||_}
+use mathlib.Core.Path.{_≡_, sym, ap}
+use mathlib.Core.Bool.{Bool}
 use mathlib.Core.List.{List, [], _∷_}
 use native.Mathlib.Omega.{arith}
 use lib.Dec.{eqb, ltb}
 use lib.ListN.{length, take}
 use lib.Seq.{getD-take, length-take-le}
 use borrow.Author.Tests.{ltb-true, ltb-false, lt-ltb, le-ltb}
-use Rattle.packing.specs.Count.{any, count}
+use Rattle.packing.specs.Count.{any}
 use Rattle.packing.specs.Plant.{NONE, at, common, linked}
 use Rattle.packing.specs.Grouping.{isAlone, isGrouping}
 use Rattle.packing.specs.Choke.{isDifference}

@@ -1,18 +1,17 @@
 -- The claims of specs/Claim.antt that are about any lists.
-use Prim.Native.Nat.{ℕ, _+_, _<_, _≤_}
-use mathlib.Core.Path.{_≡_, refl, sym, ap, _∙_}
-use mathlib.Core.Logic.{_⊎_, inl, inr, ⊎-elim, _↔_}
-use mathlib.Core.Bool.{Bool, true, false, not, _||_}
+use Prim.Native.Nat.{ℕ, _<_, _≤_}
+use mathlib.Core.Path.{_≡_, refl, _∙_}
+use mathlib.Core.Logic.{_⊎_, inl, inr, ⊎-elim}
+use mathlib.Core.Bool.{Bool, true, _||_}
 use mathlib.Core.List.{List}
 use native.Mathlib.Omega.{arith}
 use lib.Dec.{eqb, ltb}
-use lib.ListN.{length, take}
+use lib.ListN.{length}
 use borrow.Author.Tests.{eqb-true, eqb-false, ltb-false, le-ltb, not-false}
-use Rattle.packing.specs.Count.{count, any}
+use Rattle.packing.specs.Count.{any}
 use Rattle.packing.specs.Plant.{at, common, linked}
-use Rattle.packing.specs.Grouping.{isGrouping, covered}
-use Rattle.packing.specs.Choke.{isDifference}
-use Rattle.packing.proofs.Tests.{by-bool, not-test, or-none, or-false-l, or-false-r, not-i-false, any-none, any-fails}
+use Rattle.packing.specs.Grouping.{isGrouping}
+use Rattle.packing.proofs.Tests.{by-bool, not-test, or-false-l, or-false-r, any-none, any-fails}
 use Rattle.packing.proofs.Refusals.{refuse-none, first-none}
 use Rattle.packing.proofs.Turns.{Says}
 use Rattle.packing.proofs.Links.{linked-sym}

@@ -7,19 +7,16 @@ use mathlib.Core.List.{List}
 use native.Mathlib.Nat.{le-antisymm}
 use native.Mathlib.Numerals.{add-one}
 use native.Mathlib.Omega.{arith}
-use lib.Dec.{eqb, leb}
-use lib.ListN.{set, replicate}
+use lib.Dec.{eqb}
+use lib.ListN.{set}
 use borrow.Author.Tests.{not-true, not-false}
 use Rattle.packing.specs.Count.{pick, sum, count, sumOver, all}
-use Rattle.packing.specs.Lists.{listOf}
 use Rattle.packing.specs.Plant.{GATEWAYS, NONE, at, linked}
-use Rattle.packing.specs.Grouping.{isAlone}
 use Rattle.packing.specs.Choke.{stranded, isDifference}
 use Rattle.packing.proofs.Tests.{by-bool, clash, or-cases, or-l, or-r, not-i, not-test, iff-test, all-elim, all-intro}
 use Rattle.packing.proofs.Sums.{count-ext}
 use Rattle.packing.proofs.Counting.{pick-test}
 use Rattle.packing.proofs.Lists.{listOf-at}
-use Rattle.sound.specs.Sound.{endsSound}
 use Rattle.sound.specs.Marks.{linkedWhere, noted}
 use Rattle.sound.proofs.LinkPass.{where-found, where-linked}
 use Rattle.sound.proofs.Meaning.{ends-mean}

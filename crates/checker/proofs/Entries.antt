@@ -4,12 +4,12 @@ use mathlib.Core.Path.{_≡_, refl, sym, ap, _∙_}
 use mathlib.Core.Bool.{Bool, true, false, not, _&&_, _||_}
 use mathlib.Core.List.{List}
 use native.Mathlib.Omega.{arith}
-use lib.Dec.{eqb, ltb, leb}
+use lib.Dec.{eqb, leb}
 use borrow.Author.Tests.{eqb-true, eq-eqb, ne-eqb, le-leb, lt-leb, leb-true, lt-ltb, le-ltb, not-true, not-false}
 use Rattle.packing.specs.Count.{pick, count}
 use Rattle.packing.specs.Lists.{tallyOf}
 use Rattle.packing.specs.Plant.{GATEWAYS, NONE, at, linked}
-use Rattle.packing.specs.Grouping.{follows, memberCount, isAlone, isLeader, isMember}
+use Rattle.packing.specs.Grouping.{memberCount, isAlone, isLeader, isMember}
 use Rattle.packing.proofs.Tests.{by-bool, and-r, and-i, iff-test}
 use Rattle.packing.proofs.Sums.{count-split, count-some, count-unique}
 use Rattle.packing.proofs.Counting.{pick-test}

@@ -1,7 +1,7 @@
 -- A file that was loaded into lists with a place for every plant, and the answer by it.
-use Prim.Native.Nat.{ℕ, zero, suc, _*_, _<_, _≤_}
+use Prim.Native.Nat.{ℕ, zero, suc, _*_, _≤_}
 use mathlib.Core.Path.{_≡_, refl, sym, ap, _∙_}
-use mathlib.Core.Bool.{Bool, false, _||_}
+use mathlib.Core.Bool.{Bool, _||_}
 use mathlib.Core.List.{List}
 use native.Mathlib.Omega.{arith}
 use lib.Dec.{ltb}
@@ -9,7 +9,6 @@ use lib.ListN.{length, take, replicate, getD-replicate}
 use borrow.Author.Tests.{le-ltb}
 use Rattle.packing.specs.Lists.{written}
 use Rattle.packing.specs.Plant.{GATEWAYS, ENDS, at, common, linked}
-use Rattle.packing.specs.Refusals.{firstOf}
 use Rattle.packing.proofs.Tests.{or-none}
 use Rattle.packing.proofs.Refusals.{first-refused, first-passed}
 use Rattle.packing.proofs.Lists.{written-room, written-front}
@@ -17,7 +16,6 @@ use Rattle.plant_file.specs.PlantFile.{fileN, fileT, fileM, fileLinks, fileRefu
 use Rattle.plant_file.specs.Load.{loadRefusal, loadLinks}
 use Rattle.plant_file.proofs.Accepted.{file-allowed, file-links-sound}
 use Rattle.plant_file.proofs.LinksByIndex.{links-long}
-use Rattle.plant_file.proofs.Loading.{load-places}
 use Rattle.plant_file.proofs.Refusing.{then-file, then-alone}
 use Rattle.checker.specs.Check.{listsRefusal, checkRefusal}
 use Rattle.checker.specs.Pre.{Checkable}

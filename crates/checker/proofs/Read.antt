@@ -1,28 +1,24 @@
 -- What read wrote for a fully placed record made by calls is accepted, with every file that describes the plant told.
 use Prim.Native.Nat.{ℕ, _<_, _≤_}
-use mathlib.Core.Path.{_≡_, refl, sym, ap, subst, _∙_}
+use mathlib.Core.Path.{_≡_, sym, ap, _∙_}
 use mathlib.Core.List.{List}
-use native.Mathlib.Omega.{arith}
 use lib.ListN.{length}
 use Rattle.packing.specs.Lists.{listOf}
 use Rattle.packing.specs.Plant.{at, common, linked}
-use Rattle.packing.specs.Grouping.{Grouping, covered}
-use Rattle.packing.specs.Choke.{ChokeDifference}
 use Rattle.packing.proofs.Counting.{pick-few}
 use Rattle.packing.proofs.Checks.{alone-uncovered}
 use Rattle.packing.proofs.Lists.{listOf-length, written-room}
 use Rattle.search.specs.ChokeSet.{inChoke, chokeByte}
 use Rattle.stars.specs.Stars.{leaderList}
 use Rattle.planner.specs.State.{State}
-use Rattle.planner.specs.Calls.{read, readLeaders, readChoke}
-use Rattle.planner.specs.Told.{Told, beginning, refuses}
+use Rattle.planner.specs.Calls.{readLeaders, readChoke}
+use Rattle.planner.specs.Told.{Told, beginning}
 use Rattle.planner.specs.Claims.{toldBy, madeBy, AnyRead, DemandTwo, leadersRead}
-use Rattle.planner.proofs.Agree.{Agrees, stateTold}
 use Rattle.planner.proofs.Tells.{onward}
 use Rattle.planner.proofs.Demands.{tells-n, tells-limit, accepts, choke-at, any-read, demand-two}
-use Rattle.plant_file.specs.PlantFile.{fileN, fileT, fileLinks, fileRefusal}
+use Rattle.plant_file.specs.PlantFile.{fileN, fileT, fileLinks}
 use Rattle.checker.specs.Check.{inSet, aloneCount}
-use Rattle.checker.specs.Claim.{Accepted, Describes, ReadAccepted}
+use Rattle.checker.specs.Claim.{ReadAccepted}
 use Rattle.checker.proofs.Claim.{bit-cases, of-accepted}
 
 -- an accepted read wrote n entries and n bytes, each of them 0 or 1

@@ -1,19 +1,17 @@
 -- The answers in their turn for two lists, by a plant's n, limits and links.
-use Prim.Native.Nat.{ℕ, _*_, _<_, _≤_}
-use mathlib.Core.Path.{_≡_, refl, sym, ap, _∙_}
-use mathlib.Core.Bool.{Bool, true, false, not, _||_}
+use Prim.Native.Nat.{ℕ, _<_, _≤_}
+use mathlib.Core.Path.{_≡_, sym, _∙_}
+use mathlib.Core.Bool.{Bool, true, false, not}
 use mathlib.Core.List.{List}
-use native.Mathlib.Omega.{arith}
 use lib.Dec.{ltb, leb}
-use lib.ListN.{length, take, replicate, getD-replicate, length-replicate}
+use lib.ListN.{length}
 use borrow.Author.Tests.{lt-ltb, le-ltb, ltb-false, le-leb, leb-true, not-true, not-false}
 use Rattle.packing.specs.Count.{all, any}
-use Rattle.packing.specs.Plant.{GATEWAYS, ENDS, at, common, linked}
+use Rattle.packing.specs.Plant.{at}
 use Rattle.packing.specs.Grouping.{isGrouping}
 use Rattle.packing.specs.Choke.{isDifference}
-use Rattle.packing.proofs.Tests.{by-bool, iff-test, not-i, all-elim, all-intro, any-none, any-fails}
-use Rattle.packing.proofs.Refusals.{first-refused, first-passed}
-use Rattle.checker.specs.Check.{inSet, aloneCount, leadersOff, chokeOff, listsRefusal, checkRefusal}
+use Rattle.packing.proofs.Tests.{iff-test, not-i, all-elim, all-intro, any-none, any-fails}
+use Rattle.checker.specs.Check.{inSet, aloneCount, leadersOff, chokeOff, listsRefusal}
 
 -- no byte above 1 among the first n
 pub bytes-mean : (n : ℕ) (choke : List ℕ) → not (any n (λ v. ltb 1 (at choke v))) ≡ all n (λ v. leb (at choke v) 1)

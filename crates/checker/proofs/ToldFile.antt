@@ -1,14 +1,13 @@
 -- Every plant that calls tell has an accepted file that describes it: its links, in order of arrival, with the order 0, 1, ..
 use Prim.Native.Nat.{ℕ, zero, suc, _+_, _*_, _<_, _≤_}
 use mathlib.Core.Path.{_≡_, refl, sym, ap, _∙_}
-use mathlib.Core.Bool.{true, false}
+use mathlib.Core.Bool.{false}
 use mathlib.Core.List.{List, [], _∷_, _++_}
 use native.Mathlib.Nat.{not-suc-le-zero}
 use native.Mathlib.Numerals.{add-one}
 use native.Mathlib.Omega.{arith}
 use lib.ListN.{length, length-append, List·getD-append}
 use lib.Seq.{getD-append-add}
-use Rattle.packing.specs.Lists.{listOf}
 use Rattle.packing.specs.Orders.{upTo}
 use Rattle.packing.specs.Plant.{LINKS, at, linked}
 use Rattle.packing.specs.Refusals.{byNumber}
@@ -16,16 +15,15 @@ use Rattle.packing.specs.Turns.{SameLink, firstEnd, secondEnd}
 use Rattle.packing.proofs.Tests.{below-suc}
 use Rattle.packing.proofs.Lists.{listOf-length, listOf-at}
 use Rattle.packing.proofs.Turns.{says-linked}
-use Rattle.planner.specs.Refusals.{openRefusal}
 use Rattle.planner.specs.Calls.{Call, link, order, place, read}
 use Rattle.planner.specs.Told.{Told, beginning, refuses, accepted, tellOne, tell}
 use Rattle.planner.specs.Claims.{toldBy}
 use Rattle.planner.proofs.Conditions.{open-allowed, link-allowed}
 use Rattle.planner.proofs.Tells.{onward}
 use Rattle.plant_file.specs.Encode.{encode}
-use Rattle.plant_file.specs.EveryPlant.{InRange, FileOf, EveryPlant}
+use Rattle.plant_file.specs.EveryPlant.{EveryPlant}
 use Rattle.plant_file.proofs.EveryPlant.{every-plant}
-use Rattle.checker.specs.Claim.{Describes, ToldHasFile}
+use Rattle.checker.specs.Claim.{ToldHasFile}
 
 -- m links of a file's ranges: each joins two gateways, and is there once
 record LinksFit (n m : ℕ) (l : List ℕ) : Type 0 where

@@ -1,9 +1,9 @@
 -- The refusals in words.
-use Prim.Native.Nat.{ℕ, _<_}
+use Prim.Native.Nat.{ℕ}
 use mathlib.Core.List.{List}
 use lib.ListN.{length}
 use Rattle.packing.specs.Plant.{at, common, linked}
-use Rattle.packing.specs.Turns.{done, named}
+use Rattle.packing.specs.Turns.{done}
 use Rattle.packing.proofs.Turns.{Says, turn-done, turn-named, says-less, says-either, says-not}
 use Rattle.packing.proofs.Checks.{says-grouping, says-difference, says-some}
 use Rattle.plant_file.specs.PlantFile.{fileN, fileT, fileLinks}

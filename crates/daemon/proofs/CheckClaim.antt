@@ -1,19 +1,19 @@
 -- What check_groups accepts and refuses, by the bytes that it is handed; and plan_groups' own answer.
 use Prim.Native.Nat.{ℕ, _+_, _*_, _/_, _<_, _≤_}
-use mathlib.Core.Path.{_≡_, refl, sym, ap, _∙_}
-use mathlib.Core.Logic.{_⊎_, inl, inr, ⊎-elim, _↔_}
-use mathlib.Core.Bool.{true, false, not}
+use mathlib.Core.Path.{_≡_, sym, ap, _∙_}
+use mathlib.Core.Logic.{inl, inr, ⊎-elim}
+use mathlib.Core.Bool.{false, not}
 use mathlib.Core.List.{List}
 use native.Mathlib.Omega.{arith}
 use lib.Dec.{eqb, ltb}
-use lib.ListN.{length, take, drop, length-drop}
+use lib.ListN.{length, drop, length-drop}
 use lib.Seq.{getD-take, getD-drop, length-take-le}
 use borrow.Author.Tests.{ltb-true, ltb-false}
 use Rattle.packing.specs.Count.{count}
 use Rattle.packing.specs.Plant.{NONE, at, common, linked}
 use Rattle.packing.specs.Grouping.{isAlone, covered}
-use Rattle.packing.specs.Turns.{done, named}
-use Rattle.packing.proofs.Tests.{by-bool, or-false-l}
+use Rattle.packing.specs.Turns.{done}
+use Rattle.packing.proofs.Tests.{by-bool}
 use Rattle.packing.proofs.Sums.{count-ext}
 use Rattle.packing.proofs.Lists.{listOf-length, listOf-at}
 use Rattle.packing.proofs.Below.{grouping-below, difference-below}
@@ -23,11 +23,11 @@ use Rattle.plant_file.specs.PlantFile.{number, fileN, fileT, fileLinks}
 use Rattle.plant_file.specs.FilePlant.{GroupingOf}
 use Rattle.plant_file.proofs.Turns.{file-then}
 use Rattle.checker.specs.Check.{inSet, aloneCount, leadersOff, chokeOff, listsRefusal, checkRefusal}
-use Rattle.checker.specs.Claim.{Accepted, CoversMost, AcceptedCoversMost, OneChokeList}
-use Rattle.checker.specs.Turns.{NoPacking, ChokeOff}
+use Rattle.checker.specs.Claim.{Accepted, AcceptedCoversMost, OneChokeList}
+use Rattle.checker.specs.Turns.{NoPacking}
 use Rattle.checker.proofs.Turns.{says-leaders, says-choke}
 use Rattle.checker.proofs.Claim.{bit-cases, accepted-of, of-accepted, accepted-covers-most, one-choke-list}
-use Rattle.daemon.specs.Groups.{bytesFor, groupsRefusal, groupsOut}
+use Rattle.daemon.specs.Groups.{groupsRefusal, groupsOut}
 use Rattle.daemon.specs.Check.{entriesIn, groupsCheck}
 use Rattle.daemon.specs.Claim.{leaderAt, chokeAt, BytesPlan, BytesAccepted, BytesAcceptsExactly, BytesCoverMost, leaderBytes, chokeBytes, OwnAccepted, OwnChokeBytes}
 use Rattle.daemon.specs.Turns.{NoPackingBytes, ChokeOffBytes, GroupsCheckExactly}

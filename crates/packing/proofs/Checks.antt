@@ -9,7 +9,7 @@ use Rattle.packing.specs.Count.{count, sumOver, all, any}
 use Rattle.packing.specs.Grouping.{Grouping, isGrouping, isAlone, isLeader, isMember, covered}
 use Rattle.packing.specs.Choke.{stranded, ChokeDifference, isDifference}
 use Rattle.packing.specs.Holders.{held, Feasible}
-use Rattle.packing.proofs.Tests.{clash, and-l, and-r, or-cases, all-elim, all-intro, any-elim, any-fails}
+use Rattle.packing.proofs.Tests.{clash, and-r, or-cases, all-elim, all-intro, any-elim, any-fails}
 use Rattle.packing.proofs.Sums.{count-mono, count-ext, count-split, count-all}
 use Rattle.packing.proofs.Hall.{hall}
 use Rattle.packing.proofs.Groupings.{Sym, Loopless, groupHolder, grouping-holds, grouping-feasible}

@@ -6,7 +6,7 @@ use mathlib.Core.Bool.{Bool, true, false, cond, _&&_, _||_, or-true, or-false, f
 use mathlib.Core.List.{List, [], _∷_}
 use native.Mathlib.Omega.{arith}
 use lib.Dec.{eqb}
-use lib.ListN.{length, set, drop}
+use lib.ListN.{length, drop}
 use borrow.Author.Tests.{eqb-true, eq-eqb}
 use Rattle.packing.specs.Count.{pick}
 use Rattle.packing.specs.Lists.{listOf}

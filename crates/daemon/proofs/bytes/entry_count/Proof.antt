@@ -1,5 +1,4 @@
 use Rattle.daemon.proofs.Checking.{read-cut, read-all}
-use borrow.Author.Needs.{needs}
 use Rattle.daemon.proofs.bytes.entry_count.Statement.{statement}
 use Rattle.daemon.proofs.bytes.entry_count.Tie as tie
 
