@@ -180,13 +180,14 @@ uint32_t why_alone(const uint8_t *file, size_t file_len, uint32_t gateway, uint8
  *   - each of the first n choke bytes is 0 or 1; and
  *   - the gateways outside the choke set that have no link to another one outside it, less T times the number
  *     of gateways in the set, are as many as the entries of 65535 among the first n. A difference below zero
- *     is none of these.
- * Entries and choke bytes past the first n are not looked at, so either list may be longer. The order of the
- * file does not matter, but the file is refused where it has none.
+ *     is no number of entries.
+ * Entries and choke bytes past the first n are not looked at, so either list may be longer. The file's order
+ * is tested as for plan_groups and plays no other part: of two lists that cover equally many gateways, but not
+ * the same, both are accepted.
  *
  * What plan_groups writes is accepted: leaders = out, leaders_len = 2n, choke = out + 2n, choke_len = n. With
  * the choke bytes of plan_groups a leader list by any hand is accepted exactly if it is a grouping that covers
- * as many gateways as any. What plan_groups_after writes before the last placing may be refused.
+ * as many gateways as any. What plan_groups_after writes before the last placing may be refused with 32.
  *
  * The refusals: the file's own, as for plan_groups without 10, and behind them, in this turn:
  *

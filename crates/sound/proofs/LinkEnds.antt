@@ -6,11 +6,11 @@ use mathlib.Core.List.{List, [], _∷_}
 use native.Mathlib.Omega.{arith}
 use lib.Dec.{eqb, ltb}
 use lib.ListN.{length, set, drop}
-use Rattle.packing.specs.Count.{pick}
 use Rattle.packing.specs.Plant.{at}
+use Rattle.packing.proofs.Counting.{pick-test}
 use Rattle.packing.proofs.Flat.{pair-at, pair-end}
 use Rattle.sound.specs.Sound.{endsSound}
-use Rattle.sound.specs.Marks.{Zeros, noted, entryIs, LinksPassed}
+use Rattle.sound.specs.Marks.{Zeros, linkedWhere, noted, entryIs, LinksPassed}
 use Rattle.sound.proofs.LinkPass.{linked-entry, Passed, pass-start, pass-turn, pass-end}
 
 -- the loop's invariant
@@ -48,5 +48,5 @@ module _ (n : ℕ) (ls hs marks₀ : List ℕ) where
   links-end {ok = ok} {i = i} w h =
       record {
         ends = sym (and-true ok) ∙ ap (λ (b : Bool). ok && b) (sym (ends-short n (drop i ls) (pair-end ls i h))) ∙ w .ends;
-        marked = λ v q. pass-end (entryIs hs) ls marks₀ (w .passed) h v q ∙ ap (λ (b : Bool). pick b 1) (linked-entry ls hs v);
+        marked = λ v q. ap (λ (x : ℕ). eqb x 1) (pass-end (entryIs hs) ls marks₀ (w .passed) h v q) ∙ pick-test (linkedWhere (entryIs hs) ls v) ∙ linked-entry ls hs v;
       }

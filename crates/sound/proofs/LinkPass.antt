@@ -10,12 +10,12 @@ use lib.ListN.{length, drop}
 use borrow.Author.Tests.{eqb-true, eq-eqb}
 use Rattle.packing.specs.Count.{pick}
 use Rattle.packing.specs.Lists.{listOf}
-use Rattle.packing.specs.Plant.{at, joins, linked}
+use Rattle.packing.specs.Plant.{GATEWAYS, at, joins, linked}
 use Rattle.packing.proofs.Tests.{and-l, and-r, and-i, or-l, or-r, or-cases, iff-test}
 use Rattle.packing.proofs.Lists.{list-is, listOf-ext}
 use Rattle.packing.proofs.Flat.{pair-at, pair-end}
 use Rattle.lists.proofs.Marked.{marked-entry, marked-length}
-use Rattle.sound.specs.Marks.{Zeros, linkedWhere, noted, entryIs}
+use Rattle.sound.specs.Marks.{Zeros, linkedWhere, noted, entryIs, linkedEntries}
 
 -- who has such a link is linked to a gateway u with p v u, ..
 pub where-found : (p : ℕ → ℕ → Bool) (ls : List ℕ) (v : ℕ) → linkedWhere p ls v ≡ true → (u : ℕ) × (linked ls v u ≡ true) × (p v u ≡ true)
@@ -123,3 +123,9 @@ module _ (p : ℕ → ℕ → Bool) (ls marks₀ : List ℕ) where
 -- marks that are known entry by entry are a list
 pub marks-are : (n : ℕ) (marks : List ℕ) (f : ℕ → ℕ) → length marks ≡ n → ((v : ℕ) → v < length marks → at marks v ≡ f v) → marks ≡ listOf n f
 marks-are n marks f long each = list-is marks ∙ ap (λ (m : ℕ). listOf m (at marks)) long ∙ listOf-ext n (at marks) f (λ v l. each v (rw long l))
+
+-- .. those of the gateways linked to their entries
+pub entries-end : (ls l marks₀ : List ℕ) {marks : List ℕ} {i : ℕ} → Passed (entryIs l) ls marks₀ marks i → length ls ≤ i + 1 → length marks ≡ GATEWAYS → marks ≡ linkedEntries ls l
+unfolding linkedEntries
+entries-end ls l marks₀ {marks} w h long =
+    marks-are GATEWAYS marks (λ v. pick (linked ls v (at l v)) 1) long (λ v q. pass-end (entryIs l) ls marks₀ w h v q ∙ ap (λ (b : Bool). pick b 1) (linked-entry ls l v))

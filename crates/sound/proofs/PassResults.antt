@@ -11,7 +11,6 @@ use Rattle.packing.specs.Count.{count, all}
 use Rattle.packing.specs.Lists.{tallyOf}
 use Rattle.packing.specs.Plant.{GATEWAYS, NONE, at, common, firstLinks, linked}
 use Rattle.packing.specs.Holders.{holds}
-use Rattle.packing.proofs.Counting.{pick-test}
 use Rattle.packing.proofs.Tests.{tests, all-ext, all-intro, or-l, iff-test}
 use Rattle.lists.proofs.Tallies.{tally-at}
 use Rattle.sound.specs.Sound.{numbersSound, listsLong, endsSound, onceEach, holdersLinked, holdersWithin, onlyPlacedHeld, isSound}
@@ -42,7 +41,7 @@ module _ (n : ℕ) (few : n ≤ GATEWAYS) where
       tied-is : tied ≡ all n (λ v. eqb (at hs v) NONE || linked ls v (at hs v))
       tied-is =
           marked ∙ all-ext n (λ v. eqb (at hs v) NONE || eqb (at marks v) 1) (λ v. eqb (at hs v) NONE || linked ls v (at hs v))
-          (λ v l. ap (λ (b : Bool). eqb (at hs v) NONE || b) (ap (λ (x : ℕ). eqb x 1) (links .marked v (omega arith)) ∙ pick-test (linked ls v (at hs v))))
+          (λ v l. ap (λ (b : Bool). eqb (at hs v) NONE || b) (links .marked v (omega arith)))
 
 -- the loads are compared with the limits of the gateways below n only
 pub within-below : (n : ℕ) (limit limit' : ℕ → ℕ) (hs : List ℕ) → ((u : ℕ) → u < n → limit u ≡ limit' u) → holdersWithin n limit hs ≡ holdersWithin n limit' hs

@@ -31,7 +31,7 @@ entryIs l v u = eqb (at l v) u
 -- the links were passed over: whether their ends are sound, and each gateway marked whose holder is linked to it
 pub record LinksPassed (n : ℕ) (ls hs marks : List ℕ) (r : Bool) : Type 0 where
   pub ends : r ≡ endsSound n ls
-  pub marked : (v : ℕ) → v < length marks → at marks v ≡ pick (linked ls v (at hs v)) 1
+  pub marked : (v : ℕ) → v < length marks → eqb (at marks v) 1 ≡ linked ls v (at hs v)
 
 -- 1 for each of the first 1,024 gateways that is linked to its entry in a list, else 0
 unfoldable pub linkedEntries : List ℕ → List ℕ → List ℕ

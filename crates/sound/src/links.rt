@@ -1,5 +1,5 @@
 // Looking a link up, and the links of all gateways to their entries in a list.
-use crate::passes::over_links;
+use crate::marks::note;
 use lists::PLACES;
 use lists::marks::zeros;
 use lists::tests::both;
@@ -34,6 +34,13 @@ pub fn linked_entries(links: &[u16], list: &[u16]) -> [u16; PLACES]
     ensures { λ r. ⌜ r ≡ linkedEntries (now (links .entry)) (now (list .entry)) ⌝ }
 {
     let mut marks = zeros();
-    over_links(0, links, list, &mut marks);
+    let mut i: usize = 0;
+    while i + 1 < links.len() {
+        let a = links[i];
+        let b = links[i + 1];
+        note(a, b, list, &mut marks);
+        note(b, a, list, &mut marks);
+        i += 2;
+    }
     marks
 }
