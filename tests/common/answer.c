@@ -17,6 +17,14 @@ void answer_read(struct answer *a, int n, const uint8_t *out)
     a->moved = get_number(moved) + 65536L * get_number(moved + 2);
 }
 
+void answer_write(int n, const int *leader, const int *choke, uint8_t *out)
+{
+    for (int v = 0; v < n; v++) {
+        put_number(out + 2 * v, leader[v]);
+        out[2 * n + v] = (uint8_t)choke[v];
+    }
+}
+
 int answer_covered(const struct plant *p, const int *leader, int k)
 {
     int covered = 0;

@@ -18,6 +18,9 @@ size_t answer_size(int n);
 /* What these bytes say. */
 void answer_read(struct answer *a, int n, const uint8_t *out);
 
+/* Two lists as bytes: the first 3n of what the call writes. */
+void answer_write(int n, const int *leader, const int *choke, uint8_t *out);
+
 /* How many of the first k of the order are covered. */
 int answer_covered(const struct plant *p, const int *leader, int k);
 

@@ -77,8 +77,7 @@ static int order_refusal(const uint8_t *at, const struct header *h, struct plant
     return 0;
 }
 
-/* The refusals of the file itself. */
-static int own_refusal(const uint8_t *file, size_t len, struct plant *p)
+int file_own_refusal(const uint8_t *file, size_t len, struct plant *p)
 {
     struct header h;
     int refusal = header_refusal(file, len, &h);
@@ -95,7 +94,7 @@ static int own_refusal(const uint8_t *file, size_t len, struct plant *p)
 
 int file_refusal_after(const uint8_t *file, size_t len, uint32_t placings, size_t out_len, struct plant *p)
 {
-    int refusal = own_refusal(file, len, p);
+    int refusal = file_own_refusal(file, len, p);
     if (refusal != 0)
         return refusal;
     if (placings > (uint32_t)p->n)
@@ -118,7 +117,7 @@ static bool is_left(const struct plant *p, uint32_t gateway)
 
 int file_refusal_why(const uint8_t *file, size_t len, uint32_t gateway, size_t out_len, struct plant *p)
 {
-    int refusal = own_refusal(file, len, p);
+    int refusal = file_own_refusal(file, len, p);
     if (refusal != 0)
         return refusal;
     if (!is_left(p, gateway))

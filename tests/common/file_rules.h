@@ -4,7 +4,10 @@
 
 #include "plant.h"
 
-/* The refusal's number for these bytes and an out of out_len bytes. For 0 the plant is filled. */
+/* The refusal's number for these bytes by themselves. For 0 the plant is filled. */
+int file_own_refusal(const uint8_t *file, size_t len, struct plant *p);
+
+/* The same for these bytes and an out of out_len bytes. */
 int file_refusal(const uint8_t *file, size_t len, size_t out_len, struct plant *p);
 
 /* The same for a call after so many placings. */

@@ -10,7 +10,7 @@
 #include "plan_groups.h"
 #include "why.h"
 
-enum { GUARDS = 64, GUARD = 0xC3 };
+enum { GUARDS = 64, GUARD = 0xC3, ROOMS = 3 };
 
 enum side lent_side(struct rng *r)
 {
@@ -36,15 +36,32 @@ static uint8_t *open_room(void)
     return all + page;
 }
 
+/* One of the rooms, opened when it is first asked for. */
+static uint8_t *room(int which)
+{
+    static uint8_t *rooms[ROOMS];
+    if (rooms[which] == NULL)
+        rooms[which] = open_room();
+    return rooms[which];
+}
+
 static uint8_t *guards_of(const struct area *a)
 {
     return a->side == AT_START ? a->at + a->len : a->at - GUARDS;
 }
 
-static struct area lend(uint8_t *room, size_t len, enum side side)
+static struct area lend(int which, size_t len, enum side side)
 {
-    struct area a = {side == AT_START ? room : room + MAX_LENT - len, len, side};
+    struct area a = {side == AT_START ? room(which) : room(which) + MAX_LENT - len, len, side};
     memset(guards_of(&a), GUARD, GUARDS);
+    return a;
+}
+
+static struct area lend_copy(int which, const uint8_t *bytes, size_t len, enum side side)
+{
+    struct area a = lend(which, len, side);
+    if (len > 0)
+        memcpy(a.at, bytes, len);
     return a;
 }
 
@@ -56,6 +73,14 @@ static bool guards_hold(const struct area *a)
             return false;
     return true;
 }
+
+/* Whether an area that is only read, and what lies beside it, is as it was lent. */
+static bool is_unchanged(const struct area *a, const uint8_t *bytes)
+{
+    return guards_hold(a) && (a->len == 0 || memcmp(a->at, bytes, a->len) == 0);
+}
+
+static const char file_changed[] = "the file's bytes changed, or bytes beside them";
 
 /* What stands in the out area before the call; it changes from place to place, as no answer does. */
 static uint8_t filler(size_t i)
@@ -71,20 +96,14 @@ static bool unwritten_from(const struct area *out, size_t from)
     return true;
 }
 
-/* The two areas of one call. */
+/* The two areas of one call that writes. */
 struct lending {
     struct area in, out;
 };
 
 static struct lending lend_both(const uint8_t *file, size_t len, size_t out_len, enum side side)
 {
-    static uint8_t *file_room, *out_room;
-    if (file_room == NULL) {
-        file_room = open_room();
-        out_room = open_room();
-    }
-    struct lending l = {lend(file_room, len, side), lend(out_room, out_len, side)};
-    memcpy(l.in.at, file, len);
+    struct lending l = {lend_copy(0, file, len, side), lend(1, out_len, side)};
     for (size_t i = 0; i < out_len; i++)
         l.out.at[i] = filler(i);
     return l;
@@ -93,10 +112,8 @@ static struct lending lend_both(const uint8_t *file, size_t len, size_t out_len,
 /* written is how many bytes the answer has; a refused call has none. */
 static const char *fault_of(const struct lending *l, const uint8_t *file, size_t written)
 {
-    if (memcmp(l->in.at, file, l->in.len) != 0)
-        return "the file's bytes changed";
-    if (!guards_hold(&l->in))
-        return "bytes beside the file changed";
+    if (!is_unchanged(&l->in, file))
+        return file_changed;
     if (!guards_hold(&l->out))
         return "bytes beside the out area changed";
     if (!unwritten_from(&l->out, written))
@@ -134,6 +151,20 @@ void lent_call_why(const uint8_t *file, size_t len, uint32_t gateway, size_t out
     struct lending l = lend_both(file, len, out_len, side);
     uint32_t number = why_alone(l.in.at, len, gateway, l.out.at, out_len);
     look(&l, file, number, number == 0 && out_len >= 4 ? why_size(l.out.at) : 0, o);
+}
+
+void lent_check(const struct handed *h, enum side side, struct outcome *o)
+{
+    struct area file = lend_copy(0, h->file, h->len, side), leaders = lend_copy(1, h->leaders, h->leaders_len, side),
+                choke = lend_copy(2, h->choke, h->choke_len, side);
+    o->number = check_groups(file.at, h->len, leaders.at, h->leaders_len, choke.at, h->choke_len);
+    o->fault = NULL;
+    if (!is_unchanged(&file, h->file))
+        o->fault = file_changed;
+    else if (!is_unchanged(&leaders, h->leaders))
+        o->fault = "the leader list changed, or bytes beside it";
+    else if (!is_unchanged(&choke, h->choke))
+        o->fault = "the choke list changed, or bytes beside it";
 }
 
 void lent_plan(const struct plant *p, enum side side, struct outcome *o)

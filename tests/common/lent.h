@@ -3,6 +3,7 @@
 #define LENT_H
 
 #include "answer.h"
+#include "check_rules.h"
 #include "rng.h"
 
 enum { MAX_LENT = 1 << 18, MAX_OUT = 8192 };
@@ -27,6 +28,9 @@ void lent_call_after(const uint8_t *file, size_t len, uint32_t placings, size_t 
 
 /* Calls why_alone in the same way. */
 void lent_call_why(const uint8_t *file, size_t len, uint32_t gateway, size_t out_len, enum side side, struct outcome *o);
+
+/* Calls check_groups with copies of the three areas. It gives no bytes: the outcome's out stays as it was. */
+void lent_check(const struct handed *h, enum side side, struct outcome *o);
 
 /* The calls for a plant, with an out area just long enough; the second after k placings, the third for a gateway. */
 void lent_plan(const struct plant *p, enum side side, struct outcome *o);
