@@ -43,6 +43,7 @@ static void gateways(void)
         whole(n, 2, 0);
         expect_plan(0, "n", n);
         expect_why(n == 0 ? 30 : 0, "n", n);
+        expect_check(0, "n", n);
     }
     whole(1023, 2, 0);
     expect(0, "n", 1023);
@@ -218,6 +219,27 @@ static void why_lengths(void)
     }
 }
 
+/* An odd last byte is no entry. Entries and bytes past n are welcome. */
+static void list_lengths(void)
+{
+    static const int sizes[] = {1, 2, 5, 40, 1024};
+    for (int i = 0; i < 5; i++) {
+        size_t n = (size_t)sizes[i], step = n / 16 + 1;
+        whole(sizes[i], 2, sizes[i] / 2);
+        for (leaders_len = 0; leaders_len < 2 * n; leaders_len += leaders_len + step < 2 * n ? step : 1)
+            expect_check(31, "the leader list has", (int)leaders_len);
+        for (; leaders_len <= 2 * n + 3; leaders_len++)
+            expect_check(0, "the leader list has", (int)leaders_len);
+        for (choke_len = 0; choke_len < n; choke_len += choke_len + step < n ? step : 1)
+            expect_check(32, "the choke list has", (int)choke_len);
+        for (; choke_len <= n + 3; choke_len++)
+            expect_check(0, "the choke list has", (int)choke_len);
+        leaders_len = 2 * n - 1;
+        choke_len = n - 1;
+        expect_check(31, "31 before 32", sizes[i]);
+    }
+}
+
 static void expect_placings(uint32_t count, int number, int n)
 {
     placings = count;
@@ -286,5 +308,6 @@ int main(void)
     gateway_numbers();
     out_lengths();
     why_lengths();
+    list_lengths();
     return tally_end();
 }

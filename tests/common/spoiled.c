@@ -2,6 +2,8 @@
 
 #include <string.h>
 
+#include "answer.h"
+#include "check_rules.h"
 #include "file_rules.h"
 #include "lent.h"
 #include "tally.h"
@@ -9,6 +11,8 @@
 uint8_t file[MAX_FILE + MORE];
 size_t len, out_len, why_len;
 uint32_t placings, gateway;
+uint8_t leaders[2 * MORE], choke[MORE];
+size_t leaders_len, choke_len;
 
 static struct plant unused;
 static struct outcome outcome;
@@ -29,6 +33,11 @@ void put_link(int i, int a, int b)
     put_number(link_at(i) + 2, b);
 }
 
+void put_leader(int v, int number)
+{
+    put_number(leaders + 2 * v, number);
+}
+
 static void put_header(int n, int limit, int m)
 {
     memcpy(file, "PLT", 3);
@@ -38,17 +47,47 @@ static void put_header(int n, int limit, int m)
     put_number(file + 8, m);
 }
 
-void whole(int n, int limit, int m)
+/* Returns how many gateways have a link. */
+static int put_links(int m)
 {
-    int a = 0, b = 1;
-    put_header(n, limit, m);
+    int a = 0, b = 1, linked = 0;
     for (int i = 0; i < m; i++) {
         put_link(i, a++, b);
+        linked = b + 1;
         if (a == b) {
             a = 0;
             b++;
         }
     }
+    return linked;
+}
+
+/*
+ * The last that has a link has one to 0, and all before it have one to each other. So 0 leads the last, and 1 too where
+ * they are an odd number; the others are in pairs.
+ */
+static void put_lists(int n, int linked)
+{
+    for (int v = 0; v < n; v++)
+        put_leader(v, ALONE);
+    memset(choke, 0, sizeof choke);
+    leaders_len = 2 * (size_t)n;
+    choke_len = (size_t)n;
+    if (linked == 0)
+        return;
+    put_leader(0, 0);
+    put_leader(linked - 1, 0);
+    put_leader(1, 0);
+    for (int v = 1 + linked % 2; v + 1 < linked - 1; v += 2) {
+        put_leader(v, v);
+        put_leader(v + 1, v);
+    }
+}
+
+void whole(int n, int limit, int m)
+{
+    put_header(n, limit, m);
+    put_lists(n, put_links(m));
     for (int i = 0; i < n; i++)
         put_number(order_at(i), i);
     len = (size_t)HEADER + 4 * (size_t)m + 2 * (size_t)n;
@@ -99,8 +138,19 @@ void expect_why(int number, const char *what, int which)
     }
 }
 
+void expect_check(int number, const char *what, int which)
+{
+    const struct handed h = {file, len, leaders, leaders_len, choke, choke_len};
+    int by_rules = check_refusal(&h);
+    for (int side = AT_START; side <= AT_END; side++) {
+        lent_check(&h, side, &outcome);
+        compare("check_groups", by_rules, number, what, which);
+    }
+}
+
 void expect(int number, const char *what, int which)
 {
     expect_plan(number, what, which);
     expect_why(number, what, which);
+    expect_check(number, what, which);
 }

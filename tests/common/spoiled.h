@@ -1,4 +1,4 @@
-/* A small plant file to spoil, and the number that the calls must then give. */
+/* A small plant file and lists for it to spoil, and the number that the calls must then give. */
 #ifndef SPOILED_H
 #define SPOILED_H
 
@@ -13,15 +13,22 @@ extern uint32_t placings; /* for plan_groups_after */
 extern uint32_t gateway;  /* for why_alone */
 extern size_t why_len;    /* its out_len */
 
+/* For check_groups. */
+extern uint8_t leaders[2 * MORE], choke[MORE];
+extern size_t leaders_len, choke_len;
+
 /* Where a link's or the order's numbers stand in the file. */
 uint8_t *link_at(int i);
 uint8_t *order_at(int i);
 
 void put_link(int i, int a, int b);
 
+void put_leader(int v, int number);
+
 /*
  * A file of any n, T and m with the lengths that fit: links 0-1, 0-2, 1-2, 0-3, .. and order 0, 1, .. There are n placings,
- * and the gateway asked for is the last, which is alone where it has no link.
+ * and the gateway asked for is the last, which is alone where it has no link. In the leader list all that have a link are in
+ * groups of two or three, so that no choke set is needed.
  */
 void whole(int n, int limit, int m);
 
@@ -37,7 +44,10 @@ void expect_plan(int number, const char *what, int which);
 /* Two tests: why_alone and the rules both give the number. */
 void expect_why(int number, const char *what, int which);
 
-/* All three calls give it. */
+/* Two tests: check_groups and the rules both give the number. */
+void expect_check(int number, const char *what, int which);
+
+/* All four calls give it. */
 void expect(int number, const char *what, int which);
 
 #endif
