@@ -1,5 +1,7 @@
 #include "flow.h"
 
+#include "placing.h"
+
 /*
  * Each gateway v is split into v1 and v2. Arcs: from the source to each v1, with room for T; from u1 to
  * v2 and from v1 to u2 for each link u-v; from v2 to the sink, with room for one. A unit of flow along
@@ -119,18 +121,37 @@ static int push(struct network *g, int x, int amount)
     return sent;
 }
 
+static int solve(struct network *g, const struct plant *p, int k)
+{
+    int value = 0;
+
+    build(g, p, k);
+    while (set_levels(g)) {
+        for (int x = 0; x < g->nodes; x++)
+            g->untried[x] = g->first[x];
+        value += push(g, SOURCE, UNBOUNDED);
+    }
+    return value;
+}
+
 int flow_most(const struct plant *p, int k)
 {
     static struct network g;
-    int value = 0;
+    return solve(&g, p, k);
+}
 
-    build(&g, p, k);
-    while (set_levels(&g)) {
-        for (int x = 0; x < g.nodes; x++)
-            g.untried[x] = g.first[x];
-        value += push(&g, SOURCE, UNBOUNDED);
-    }
-    return value;
+/* What flows along an arc can be sent back. The arc back to the source has an odd number. */
+int flow_holders(const struct plant *p, int *holder)
+{
+    static struct network g;
+    int most = solve(&g, p, p->n);
+    for (int v = 0; v < p->n; v++)
+        holder[v] = NOBODY;
+    for (int u = 0; u < p->n; u++)
+        for (int i = g.first[giving(u)]; i != NO_ARC; i = g.arc[i].next)
+            if (i % 2 == 0 && g.arc[i ^ 1].room > 0)
+                holder[(g.arc[i].to - taking(0)) / 2] = u;
+    return most;
 }
 
 void flow_every(const struct plant *p, int *most)

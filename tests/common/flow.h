@@ -10,6 +10,9 @@
 /* The most of the first k of the order that a T-star packing can cover. */
 int flow_most(const struct plant *p, int k);
 
+/* The holders of a flow that covers the most of all gateways: holder[v] is who holds v, or NOBODY. Returns the most. */
+int flow_holders(const struct plant *p, int *holder);
+
 /* most[k], for k from 0 to n: what flow_most gives for k. */
 void flow_every(const struct plant *p, int *most);
 

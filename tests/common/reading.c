@@ -7,6 +7,7 @@
 
 struct reading {
     int n;
+    enum habit habit;
     const int *order, *holder;
     bool on_cycle[MAX_GATEWAYS];
     int depth[MAX_GATEWAYS]; /* tree arcs from the root, or from the cycle */
@@ -94,7 +95,9 @@ static void pair_up(struct reading *r, const struct cycle *c, int i, int end)
 static void rule_3(struct reading *r, const struct cycle *c)
 {
     int i = 0;
-    if (c->length % 2 == 1) {
+    if (c->length % 2 == 1 && r->habit == LAST_DROPPED) {
+        r->leader[c->at[c->length - 1]] = ALONE;
+    } else if (c->length % 2 == 1) {
         group(r, c->at[1], c->at[0]);
         group(r, c->at[1], c->at[2]);
         i = 3;
@@ -112,7 +115,10 @@ static void rule_4(struct reading *r, const struct cycle *c)
             end++;
         int start = i;
         if ((end - start) % 2 == 1) {
-            group(r, c->at[start - 1], c->at[start]);
+            if (r->habit == FIRST_LEFT_OUT)
+                r->leader[c->at[start]] = ALONE;
+            else
+                group(r, c->at[start - 1], c->at[start]);
             start++;
         }
         pair_up(r, c, start, end);
@@ -211,10 +217,11 @@ static void rule_5(struct reading *r, enum pair_way way)
     }
 }
 
-void reading_leaders_by(enum pair_way way, int n, const int *order, const int *holder, int *leader)
+static void read_by(enum habit habit, enum pair_way way, int n, const int *order, const int *holder, int *leader)
 {
     static struct reading r;
     r.n = n;
+    r.habit = habit;
     r.order = order;
     r.holder = holder;
     r.leader = leader;
@@ -230,7 +237,17 @@ void reading_leaders_by(enum pair_way way, int n, const int *order, const int *h
     rule_5(&r, way);
 }
 
+void reading_leaders_by(enum pair_way way, int n, const int *order, const int *holder, int *leader)
+{
+    read_by(NO_HABIT, way, n, order, holder, leader);
+}
+
+void reading_leaders_as(enum habit habit, int n, const int *order, const int *holder, int *leader)
+{
+    read_by(habit, EARLIER_LEADS, n, order, holder, leader);
+}
+
 void reading_leaders(int n, const int *order, const int *holder, int *leader)
 {
-    reading_leaders_by(EARLIER_LEADS, n, order, holder, leader);
+    read_by(NO_HABIT, EARLIER_LEADS, n, order, holder, leader);
 }
