@@ -16,18 +16,6 @@ static bool is_set(const struct plant *p, const int *choke)
     return true;
 }
 
-static bool is_shown(const struct plant *p, const int *leader, const int *choke)
-{
-    return is_set(p, choke) && packing_difference(p, choke) == packing_alone(p, leader);
-}
-
-int check_lists(const struct plant *p, const int *leader, const int *choke)
-{
-    if (!packing_is(p, leader))
-        return 31;
-    return is_shown(p, leader, choke) ? 0 : 32;
-}
-
 /* False where there are fewer than n entries. */
 static bool read_leaders(const struct handed *h, int n, int *leader)
 {
@@ -57,7 +45,7 @@ int check_refusal(const struct handed *h)
         return refusal;
     if (!read_leaders(h, p.n, leader) || !packing_is(&p, leader))
         return 31;
-    if (!read_choke(h, p.n, choke) || !is_shown(&p, leader, choke))
+    if (!read_choke(h, p.n, choke) || !is_set(&p, choke))
         return 32;
-    return 0;
+    return packing_difference(&p, choke) == packing_alone(&p, leader) ? 0 : 32;
 }

@@ -20,7 +20,4 @@ struct handed handed_of(const uint8_t *file, size_t len, int n, const uint8_t *o
 /* The refusal's number for these bytes. */
 int check_refusal(const struct handed *h);
 
-/* The same for an accepted file's plant and lists of n entries. */
-int check_lists(const struct plant *p, const int *leader, const int *choke);
-
 #endif

@@ -36,14 +36,29 @@ int judge_lists(const struct plant *p, const int *leader, const int *choke, stru
     return number;
 }
 
-void judge_number(int number, const struct plant *p, const int *leader, const int *choke, struct rng *r, const char *name)
+/* Whether both tests passed. */
+static bool expect_number(int number, const struct handed *h, const char *name)
+{
+    int by_rules = check_refusal(h);
+    bool both = true;
+    for (int side = AT_START; side <= AT_END; side++) {
+        lent_check(h, side, &outcome);
+        bool ok = is_given(number) && by_rules == number;
+        tally(ok, "%s: check_groups gives %u, the rules %d, expected %d; %s", name, (unsigned)outcome.number, by_rules,
+              number, outcome.fault ? outcome.fault : "bounds kept");
+        both = both && ok;
+    }
+    return both;
+}
+
+void judge_number(int number, const struct plant *p, const int *leader, const int *choke, const char *name)
 {
     struct handed h = write_lists(p, leader, choke);
-    int by_rules = check_refusal(&h);
-    lent_check(&h, lent_side(r), &outcome);
-    bool ok = is_given(number) && by_rules == number;
-    tally(ok, "%s: check_groups gives %u, the rules %d, expected %d; %s", name, (unsigned)outcome.number, by_rules, number,
-          outcome.fault ? outcome.fault : "bounds kept");
-    if (!ok)
+    if (!expect_number(number, &h, name))
         plant_print(p);
+}
+
+void judge_handed_number(int number, const struct handed *h, const char *name)
+{
+    expect_number(number, h, name);
 }
