@@ -29,28 +29,13 @@ static void some(const struct family *f, struct rng *r, int count, int low, int 
     }
 }
 
-/*
- * Hubs that have too few places for all leaves, so that some are left; each leaf is at one hub or two, by which walks go
- * from hub to hub. A few hubs are linked.
- */
-static void link_scarce(struct plant *p, struct rng *r)
-{
-    int hubs = (p->n - 1) / (p->limit + 1);
-    for (int v = hubs; v < p->n && hubs > 0; v++)
-        for (int times = rng_between(r, 1, 2); times > 0; times--)
-            plant_link(p, rng_below(r, hubs), v);
-    for (int u = rng_below(r, 4); u + 1 < hubs; u += rng_between(r, 1, 4))
-        plant_link(p, u, u + 1);
-}
-
 static void too_few_places(struct rng *r)
 {
-    static const struct family f = {"too few places", link_scarce, false};
-    some(&f, r, 3000, 7, 10, 2);
-    some(&f, r, 500, 7, 40, 0);
-    some(&f, r, 30, 41, 120, 0);
+    some(&scarce, r, 3000, 7, 10, 2);
+    some(&scarce, r, 500, 7, 40, 0);
+    some(&scarce, r, 30, 41, 120, 0);
     for (int limit = 2; limit <= MAX_LIMIT; limit++)
-        some(&f, r, 10, limit + 2, 5 * limit + 6, limit);
+        some(&scarce, r, 10, limit + 2, 5 * limit + 6, limit);
 }
 
 int main(void)

@@ -25,6 +25,8 @@ const struct family families[] = {
 
 const int family_count = sizeof families / sizeof families[0];
 
+const struct family scarce = {"too few places", link_scarce, false};
+
 const struct family *family_named(const char *name)
 {
     const struct family *f = families;

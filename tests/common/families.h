@@ -14,6 +14,9 @@ struct family {
 extern const struct family families[];
 extern const int family_count;
 
+/* One that is not among them: hubs with too few places for all leaves, so that some are left. */
+extern const struct family scarce;
+
 /* A plant of n gateways of one family, mostly with gateways, links and order shuffled; limit 0 for any. */
 void family_make(const struct family *f, struct plant *p, struct rng *r, int n, int limit);
 

@@ -111,3 +111,17 @@ void link_near_tree(struct plant *p, struct rng *r)
     link_tree(p, r);
     family_fill(p, r, p->m + rng_between(r, 1, 1 + p->n / 6));
 }
+
+/*
+ * Hubs that have too few places for all leaves, so that some are left; each leaf is at one hub or two, by which walks go
+ * from hub to hub. A few hubs are linked.
+ */
+void link_scarce(struct plant *p, struct rng *r)
+{
+    int hubs = (p->n - 1) / (p->limit + 1);
+    for (int v = hubs; v < p->n && hubs > 0; v++)
+        for (int times = rng_between(r, 1, 2); times > 0; times--)
+            plant_link(p, rng_below(r, hubs), v);
+    for (int u = rng_below(r, 4); u + 1 < hubs; u += rng_between(r, 1, 4))
+        plant_link(p, u, u + 1);
+}

@@ -17,6 +17,7 @@ void link_bipartite(struct plant *p, struct rng *r);
 void link_tree(struct plant *p, struct rng *r);
 void link_deep_tree(struct plant *p, struct rng *r);
 void link_near_tree(struct plant *p, struct rng *r);
+void link_scarce(struct plant *p, struct rng *r);
 
 void link_crowd(struct plant *p, struct rng *r);
 void link_stairs(struct plant *p, struct rng *r);
