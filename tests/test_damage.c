@@ -4,12 +4,13 @@
 #include "families.h"
 #include "file_rules.h"
 #include "judge.h"
+#include "judge_check.h"
 #include "lent.h"
 #include "placing.h"
 #include "tally.h"
 #include "why.h"
 
-enum { FILES = 12000, ROOM = 8192, NUMBERS = 31, WAYS = 12 };
+enum { FILES = 12000, ROOM = 8192, NUMBERS = 33, WAYS = 12 };
 
 static uint8_t file[ROOM];
 static size_t len;
@@ -198,6 +199,14 @@ static int check_why(struct rng *r, int which, uint32_t gateway)
     return number;
 }
 
+/* The lists of the papers' rules for a plant, as bytes. */
+static void write_lists(const struct plant *p, uint8_t *out)
+{
+    static struct answer a;
+    judge_expect(p, p->n, &a);
+    answer_write(p->n, a.leader, a.choke, out);
+}
+
 /* The damage reaches every refusal. */
 static void reaches(const char *call, const int *seen, const int *numbers, int count)
 {
@@ -210,20 +219,26 @@ int main(void)
     static struct plant p;
     static const int all[] = {0, 1, 2, 3, 4, 6, 7, 8, 9, 10, 12, 20, 24};
     static const int all_of_why[] = {0, 1, 2, 3, 4, 6, 7, 8, 9, 10, 12, 20, 30};
-    int seen[NUMBERS] = {0}, seen_after[NUMBERS] = {0}, seen_why[NUMBERS] = {0};
+    static const int all_of_check[] = {0, 1, 2, 3, 4, 6, 7, 8, 9, 12, 20, 31, 32};
+    static uint8_t lists[3 * MAX_GATEWAYS];
+    int seen[NUMBERS] = {0}, seen_after[NUMBERS] = {0}, seen_why[NUMBERS] = {0}, seen_check[NUMBERS] = {0};
     struct rng r = {4};
 
     for (int i = 0; i < FILES; i++) {
         family_make(&families[rng_below(&r, family_count)], &p, &r, rng_between(&r, 0, 20), 0);
         uint32_t gateway = any_gateway(&p, &r);
+        write_lists(&p, lists);
         len = plant_write(&p, file);
         ways[i % WAYS](&r);
+        struct handed h = handed_of(file, len, p.n, lists);
         seen[check(&r, i)]++;
         seen_after[check_after(&r, i)]++;
         seen_why[check_why(&r, i, gateway)]++;
+        seen_check[judge_handed(&h, &r, "damaged file", i)]++;
     }
     reaches("plan_groups", seen, all, 12);
     reaches("plan_groups_after", seen_after, all, 13);
     reaches("why_alone", seen_why, all_of_why, 13);
+    reaches("check_groups", seen_check, all_of_check, 13);
     return tally_end();
 }
