@@ -12,30 +12,53 @@
 #include "plan_groups.h"
 #include "tally.h"
 
-enum { BELOW = 1 << 20, PAINT = 0xA7, PLANTS = 40, ROUNDS = 20 };
+enum { BELOW = 1 << 20, PAINT = 0xA7, PLANTS = 48, ROUNDS = 20, SHARERS = 6 };
 
-/* Which call: plan_groups, plan_groups_after or why_alone. */
-enum call { ALL, SO_FAR, WHY };
+/* Which call: plan_groups, plan_groups_after, why_alone or check_groups. */
+enum call { ALL, SO_FAR, WHY, CHECK };
 
-static const char *const names[] = {"all", "so far", "why"};
+static const char *const names[] = {"all", "so far", "why", "check"};
 
 /* One call: what is lent, and what came back. */
 struct job {
     uint8_t file[MAX_FILE], out[WHY_ALONE_OUT_MAX];
-    size_t len, out_len;
+    uint8_t lists[PLAN_GROUPS_OUT_MAX]; /* for check_groups, as plan_groups writes them */
+    size_t n, len, out_len;
     enum call call;
-    uint32_t asked; /* the placings, or the gateway */
+    uint32_t asked; /* the placings, the gateway, or how the lists are damaged */
     uint32_t number;
 };
 
 static struct plant plant;
 
+/* A fault in the choke bytes, or in the leaders. */
+static void damage(struct job *j, uint32_t how)
+{
+    if (how == 1)
+        j->lists[2 * j->n] = 2;
+    if (how == 2)
+        put_number(j->lists, plant.n);
+}
+
 static void job_of(struct job *j, enum call call, uint32_t asked)
 {
+    j->n = (size_t)plant.n;
     j->len = plant_write(&plant, j->file);
     j->out_len = call == WHY ? WHY_ALONE_OUT(plant.n) : PLAN_GROUPS_OUT(plant.n);
     j->call = call;
     j->asked = asked;
+}
+
+static void check_job_of(struct job *j, uint32_t how)
+{
+    job_of(j, CHECK, how);
+    plan_groups(j->file, j->len, j->lists, sizeof j->lists);
+    damage(j, how);
+}
+
+static uint32_t check(const struct job *j)
+{
+    return check_groups(j->file, j->len, j->lists, 2 * j->n, j->lists + 2 * j->n, j->n);
 }
 
 static void *plan_one(void *j)
@@ -50,6 +73,9 @@ static void *plan_one(void *j)
         break;
     case WHY:
         job->number = why_alone(job->file, job->len, job->asked, job->out, job->out_len);
+        break;
+    case CHECK:
+        job->number = check(job);
         break;
     }
     return NULL;
@@ -128,6 +154,17 @@ static void check_job(const char *name, struct job *j)
           (unsigned)j->number, used);
 }
 
+/* The lists that plan_groups gave, without a fault and with one. */
+static void check_lists_given(const char *name, struct job *j)
+{
+    memcpy(j->lists, j->out, sizeof j->lists);
+    j->call = CHECK;
+    for (uint32_t how = 0; how <= 2; how++) {
+        damage(j, how);
+        check_job(name, j);
+    }
+}
+
 /* More placings than gateways are refused, and so is a gateway that is not there; whether one alone was explained. */
 static bool check_stack(const char *name)
 {
@@ -135,6 +172,7 @@ static bool check_stack(const char *name)
     const uint32_t n = (uint32_t)plant.n, placings[] = {n / 2, n, n + 1}, gateways[] = {n, last_alone()};
     job_of(&j, ALL, 0);
     check_job(name, &j);
+    check_lists_given(name, &j);
     for (int i = 0; i < 3; i++) {
         job_of(&j, SO_FAR, placings[i]);
         check_job(name, &j);
@@ -186,26 +224,34 @@ static void *plan_side(void *s)
     return NULL;
 }
 
-/* Returns how many of the side's jobs explain one alone. */
-static int fill_side(struct side *s, struct rng *r, pthread_barrier_t *both)
+/* How many jobs of a call are accepted. */
+static int count_accepted(const struct job *jobs, enum call call)
 {
-    int explained = 0;
+    int count = 0;
+    for (int i = 0; i < PLANTS; i++)
+        count += jobs[i].call == call && jobs[i].number == 0;
+    return count;
+}
+
+static void fill_side(struct side *s, struct rng *r, pthread_barrier_t *both)
+{
     s->both = both;
     s->differ = 0;
     for (int i = 0; i < PLANTS; i++) {
-        enum call call = (enum call)(i % 3);
+        enum call call = (enum call)(i % 4);
         if (call == WHY) /* somebody is alone there */
             family_make(family_named("hubs"), &plant, r, rng_between(r, 20, 100), 2);
         else
             family_make(&families[rng_below(r, family_count)], &plant, r, rng_between(r, 1, 100), 0);
-        job_of(&s->jobs[i], call, call == WHY ? last_alone() : (uint32_t)rng_between(r, 0, plant.n));
-        if (i % 8 == 7)
+        if (call == CHECK)
+            check_job_of(&s->jobs[i], (uint32_t)rng_below(r, 3));
+        else
+            job_of(&s->jobs[i], call, call == WHY ? last_alone() : (uint32_t)rng_between(r, 0, plant.n));
+        if (i % 9 == 7)
             s->jobs[i].len--;
         s->alone[i] = s->jobs[i];
         plan(&s->alone[i]);
-        explained += call == WHY && s->alone[i].number == 0;
     }
-    return explained;
 }
 
 static void at_once(struct rng *r)
@@ -215,8 +261,10 @@ static void at_once(struct rng *r)
     pthread_t threads[2];
     must(pthread_barrier_init(&both, NULL, 2) == 0, "no barrier");
     for (int i = 0; i < 2; i++) {
-        int explained = fill_side(&sides[i], r, &both);
+        fill_side(&sides[i], r, &both);
+        int explained = count_accepted(sides[i].alone, WHY), good = count_accepted(sides[i].alone, CHECK);
         tally(explained >= 8, "only %d calls of a thread explain one alone", explained);
+        tally(good >= 2 && good <= 9, "%d calls of a thread accept lists", good);
     }
     for (int i = 0; i < 2; i++)
         must(pthread_create(&threads[i], NULL, plan_side, &sides[i]) == 0, "no thread");
@@ -227,10 +275,64 @@ static void at_once(struct rng *r)
     pthread_barrier_destroy(&both);
 }
 
+/* One of some threads that check the same lists in the same areas at once. */
+struct sharer {
+    const struct job *jobs;
+    pthread_barrier_t *all;
+    int differ;
+};
+
+static void *check_shared(void *s)
+{
+    struct sharer *sharer = s;
+    for (int i = 0; i < ROUNDS * PLANTS; i++) {
+        const struct job *j = &sharer->jobs[i % PLANTS];
+        pthread_barrier_wait(sharer->all);
+        sharer->differ += check(j) != j->number;
+    }
+    return NULL;
+}
+
+/* Lists in memory that cannot be written once they stand there. */
+static const struct job *fill_shared(struct rng *r)
+{
+    size_t size = PLANTS * sizeof(struct job);
+    struct job *jobs = mmap(NULL, size, PROT_READ | PROT_WRITE, MAP_PRIVATE | MAP_ANONYMOUS, -1, 0);
+    must(jobs != MAP_FAILED, "no memory for shared lists");
+    for (int i = 0; i < PLANTS; i++) {
+        family_make(i % 2 == 0 ? &scarce : &families[i % family_count], &plant, r, rng_between(r, 1, 200), 0);
+        check_job_of(&jobs[i], (uint32_t)(i % 3));
+        plan(&jobs[i]);
+    }
+    must(mprotect(jobs, size, PROT_READ) == 0, "no memory for shared lists");
+    return jobs;
+}
+
+static void shared(struct rng *r)
+{
+    const struct job *jobs = fill_shared(r);
+    struct sharer sharers[SHARERS];
+    pthread_barrier_t all;
+    pthread_t threads[SHARERS];
+    tally(count_accepted(jobs, CHECK) == PLANTS / 3, "%d lists are accepted", count_accepted(jobs, CHECK));
+    must(pthread_barrier_init(&all, NULL, SHARERS) == 0, "no barrier");
+    for (int i = 0; i < SHARERS; i++) {
+        sharers[i] = (struct sharer){jobs, &all, 0};
+        must(pthread_create(&threads[i], NULL, check_shared, &sharers[i]) == 0, "no thread");
+    }
+    for (int i = 0; i < SHARERS; i++) {
+        must(pthread_join(threads[i], NULL) == 0, "no thread");
+        tally(sharers[i].differ == 0, "thread %d: %d of %d answers differ from those of one thread", i, sharers[i].differ,
+              ROUNDS * PLANTS);
+    }
+    pthread_barrier_destroy(&all);
+}
+
 int main(void)
 {
     struct rng r = {9};
     stacks(&r);
     at_once(&r);
+    shared(&r);
     return tally_end();
 }
