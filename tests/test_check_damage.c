@@ -110,13 +110,16 @@ static void any_choke(struct rng *r)
     choke[any_gateway(r)] = bytes[rng_below(r, 6)];
 }
 
-/* All that stands past n becomes anything. */
+/* Longer lists, with anything past n. */
 static void past(struct rng *r)
 {
-    for (size_t i = 2 * (size_t)plant.n; i < ROOM; i++)
-        leaders[i] = (uint8_t)rng_below(r, 256);
-    for (size_t i = (size_t)plant.n; i < ROOM; i++)
-        choke[i] = (uint8_t)rng_below(r, 256);
+    for (int v = plant.n; v < ROOM / 2; v++) {
+        const int entries[] = {any_gateway(r), v, ALONE, rng_below(r, 65536)};
+        put_leader(v, entries[rng_below(r, 4)]);
+        choke[v] = (uint8_t)rng_below(r, rng_below(r, 2) == 0 ? 2 : 256);
+    }
+    leaders_len += (size_t)rng_below(r, 40);
+    choke_len += (size_t)rng_below(r, 20);
 }
 
 /* Mostly not below what is just enough. */

@@ -176,6 +176,22 @@ static void members(int limit, int hub)
     }
 }
 
+/* A hub that leads far too many, also such numbers of them as are few once they are cut to fewer bits. */
+static void many_members(int limit)
+{
+    open_plant(MAX_GATEWAYS, limit);
+    for (int v = 1; v < plant.n; v++)
+        plant_link(&plant, 0, v);
+    for (int power = 32; power < MAX_GATEWAYS; power *= 2) {
+        for (int v = 0; v < plant.n; v++)
+            leader[v] = v <= power + 1 ? 0 : ALONE;
+        expect(31, "far too many members");
+        for (int v = power + 2; v <= power + limit; v++)
+            leader[v] = 0;
+        expect(31, "far too many members");
+    }
+}
+
 /* A ring of pairs from 0 on, and others without a link. Only these are alone, and without a set the difference says so. */
 static void open_ring(int ring, int others, int limit)
 {
@@ -285,6 +301,8 @@ int main(void)
         members(limit, limit + 1);
         falling(limit);
     }
+    many_members(2);
+    many_members(MAX_LIMIT);
     for (int power = 1; power <= 14; power++)
         for (int limit = 2; limit <= MAX_LIMIT; limit *= 2)
             for (int others = 0; others <= 3; others += 3)

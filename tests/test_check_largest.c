@@ -81,11 +81,13 @@ static void check(const char *name, struct rng *r)
     all_in_set(name);
 }
 
-/* As many random links as there may be. */
+/* As many links as there may be, all but the last by chance; of the last two gateways it is the only one. */
 static void random_links(int limit, struct rng *r)
 {
-    plant_open(&plant, ALL, limit);
-    family_fill(&plant, r, MAX_LINKS);
+    plant_open(&plant, ALL - 2, limit);
+    family_fill(&plant, r, MAX_LINKS - 1);
+    plant.n = ALL;
+    plant_link(&plant, ALL - 1, ALL - 2);
     rng_shuffle(r, plant.order, ALL);
     tally(plant.m == MAX_LINKS, "only %d links", plant.m);
     plan("random links");
@@ -135,6 +137,19 @@ static void stars(int limit, struct rng *r)
     check("stars", r);
 }
 
+/* Stars of one leaf more than T: each hub leads T, and all hubs are the choke set. With T = 2 there are 256 of them. */
+static void full_stars(int limit, struct rng *r)
+{
+    open_lists(limit);
+    for (int v = 0; v < ALL - ALL % (limit + 2); v++) {
+        int u = v - v % (limit + 2) + 1;
+        plant_link(&plant, v, u);
+        lists.leader[v] = v % (limit + 2) == 0 ? ALONE : u;
+        lists.choke[u] = 1;
+    }
+    check("full stars", r);
+}
+
 /* One star of all: the hub leads T, and the others are alone. */
 static void one_star(int hub, int limit, struct rng *r)
 {
@@ -165,6 +180,7 @@ int main(void)
     hubs(8, 2);
     for (int limit = 2; limit <= MAX_LIMIT; limit += 7) {
         stars(limit, &r);
+        full_stars(limit, &r);
         one_star(0, limit, &r);
         one_star(ALL - 1, limit, &r);
         no_links(limit);
