@@ -12,24 +12,16 @@
 enum { MOST = 5, MOST_SETS = 243, FEW = 3 };
 
 static struct plant plant;
-static uint8_t file[MAX_FILE];
+static uint8_t file[MAX_FILE], sets[MOST_SETS][MOST]; /* sets: every choke list */
 static size_t len;
-
-/* Every choke list: its bytes, whether all are 0 or 1, and its difference. */
-static struct {
-    uint8_t bytes[MOST];
-    bool good;
-    int difference;
-} sets[MOST_SETS];
-
 static int set_count;
 
 /* What was met in one plant. */
 struct met {
-    int most;           /* the most that a packing covers */
-    int least;          /* the least that an accepted list covers */
-    int shown, unshown; /* of the packings that cover the most: accepted with some choke list, or with none */
-    int wrong;
+    int wrong;   /* answers that are not the rules' own */
+    int most;    /* the most that a packing covers */
+    int unshown; /* packings that cover so many and are accepted with no choke list */
+    int least;   /* the least that an accepted list covers */
 };
 
 static int power(int of, int times)
@@ -40,16 +32,9 @@ static int power(int of, int times)
 static void list_sets(void)
 {
     set_count = power(3, plant.n);
-    for (int i = 0; i < set_count; i++) {
-        int choke[MOST] = {0};
-        sets[i].good = true;
-        for (int v = 0, rest = i; v < plant.n; v++, rest /= 3) {
-            choke[v] = rest % 3;
-            sets[i].bytes[v] = (uint8_t)choke[v];
-            sets[i].good = sets[i].good && choke[v] < 2;
-        }
-        sets[i].difference = packing_difference(&plant, choke);
-    }
+    for (int i = 0; i < set_count; i++)
+        for (int v = 0, rest = i; v < plant.n; v++, rest /= 3)
+            sets[i][v] = (uint8_t)(rest % 3);
 }
 
 /* The list of that number: the digits 0 to n are entries, and n + 1 stands for 65535. */
@@ -62,56 +47,48 @@ static void make_list(int number, int *leader, uint8_t *leaders)
     }
 }
 
-/* Whether check_groups gives the number for the choke list i. */
-static bool gives(uint32_t number, const uint8_t *leaders, int i)
+/* How many of so many choke lists, from the first on and then at even steps, are accepted with a leader list. */
+static int count_accepted(const uint8_t *leaders, int first, int count, struct met *met)
 {
-    return check_groups(file, len, leaders, 2 * (size_t)plant.n, sets[i].bytes, (size_t)plant.n) == number;
+    int accepted = 0;
+    for (int i = 0; i < count; i++) {
+        const uint8_t *set = sets[(first + i * (set_count / count)) % set_count];
+        struct handed h = {file, len, leaders, 2 * (size_t)plant.n, set, (size_t)plant.n};
+        uint32_t number = check_groups(h.file, h.len, h.leaders, h.leaders_len, h.choke, h.choke_len);
+        met->wrong += number != (uint32_t)check_refusal(&h);
+        accepted += number == 0;
+    }
+    return accepted;
 }
 
-/* A packing with every choke list. */
-static void check_packing(const uint8_t *leaders, int alone, struct met *met)
+static void check_list(int number, bool few, struct met *met)
 {
-    int covered = plant.n - alone;
-    bool shown = false;
-    for (int i = 0; i < set_count; i++) {
-        bool fits = sets[i].good && sets[i].difference == alone;
-        met->wrong += !gives(fits ? 0 : 32, leaders, i);
-        shown = shown || fits;
+    int leader[MOST];
+    uint8_t leaders[2 * MOST];
+    make_list(number, leader, leaders);
+    bool packing = packing_is(&plant, leader);
+    int covered = plant.n - packing_alone(&plant, leader);
+    bool shown = count_accepted(leaders, number, few && !packing ? FEW : set_count, met) > 0;
+    if (packing && covered > met->most) {
+        met->most = covered;
+        met->unshown = 0;
     }
+    met->unshown += packing && covered == met->most && !shown;
     if (shown && covered < met->least)
         met->least = covered;
-    if (covered > met->most) {
-        met->most = covered;
-        met->shown = met->unshown = 0;
-    }
-    met->shown += shown && covered == met->most;
-    met->unshown += !shown && covered == met->most;
-}
-
-/* Any other list with every choke list, or with so many. */
-static void check_other(const uint8_t *leaders, int number, int count, struct met *met)
-{
-    for (int i = 0; i < count; i++)
-        met->wrong += !gives(31, leaders, count == set_count ? i : (number + i * set_count / count) % set_count);
 }
 
 static void check_plant(const char *name, int which, bool few)
 {
-    struct met met = {.least = plant.n};
-    int leader[MOST], lists = power(plant.n + 2, plant.n);
-    uint8_t leaders[2 * MOST];
+    struct met met = {.least = plant.n + 1};
+    int lists = power(plant.n + 2, plant.n);
     len = plant_write(&plant, file);
     list_sets();
-    for (int i = 0; i < lists; i++) {
-        make_list(i, leader, leaders);
-        if (packing_is(&plant, leader))
-            check_packing(leaders, packing_alone(&plant, leader), &met);
-        else
-            check_other(leaders, i, few ? FEW : set_count, &met);
-    }
-    tally(met.wrong == 0, "%s %d: %d lists are given another number than by the rules", name, which, met.wrong);
-    tally(met.shown > 0 && met.unshown == 0, "%s %d: %d lists that cover the most are not shown", name, which, met.unshown);
-    tally(met.least == met.most, "%s %d: one that is shown covers %d, the most are %d", name, which, met.least, met.most);
+    for (int i = 0; i < lists; i++)
+        check_list(i, few, &met);
+    tally(met.wrong == 0, "%s %d: %d numbers are not the rules' own", name, which, met.wrong);
+    tally(met.unshown == 0, "%s %d: %d lists that cover the most are never accepted", name, which, met.unshown);
+    tally(met.least == met.most, "%s %d: an accepted list covers %d, the most are %d", name, which, met.least, met.most);
     if (met.wrong > 0)
         plant_print(&plant);
 }

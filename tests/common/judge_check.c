@@ -36,8 +36,7 @@ int judge_lists(const struct plant *p, const int *leader, const int *choke, stru
     return number;
 }
 
-/* Whether both tests passed. */
-static bool expect_number(int number, const struct handed *h, const char *name)
+bool judge_handed_number(int number, const struct handed *h, const char *name)
 {
     int by_rules = check_refusal(h);
     bool both = true;
@@ -54,11 +53,6 @@ static bool expect_number(int number, const struct handed *h, const char *name)
 void judge_number(int number, const struct plant *p, const int *leader, const int *choke, const char *name)
 {
     struct handed h = write_lists(p, leader, choke);
-    if (!expect_number(number, &h, name))
+    if (!judge_handed_number(number, &h, name))
         plant_print(p);
-}
-
-void judge_handed_number(int number, const struct handed *h, const char *name)
-{
-    expect_number(number, h, name);
 }

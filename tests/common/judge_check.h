@@ -12,10 +12,10 @@ int judge_handed(const struct handed *h, struct rng *r, const char *name, int wh
 /* The same for a plant's file and two lists of n entries. */
 int judge_lists(const struct plant *p, const int *leader, const int *choke, struct rng *r, const char *name, int which);
 
-/* Two tests, at either side: check_groups and the rules both give this number for the lists. A plant that fails is shown. */
-void judge_number(int number, const struct plant *p, const int *leader, const int *choke, const char *name);
+/* Two tests, at either side: check_groups and the rules both give this number. Whether they passed. */
+bool judge_handed_number(int number, const struct handed *h, const char *name);
 
-/* The same for any three areas. */
-void judge_handed_number(int number, const struct handed *h, const char *name);
+/* The same for a plant's file and two lists of n entries. A plant that fails is shown. */
+void judge_number(int number, const struct plant *p, const int *leader, const int *choke, const char *name);
 
 #endif
