@@ -275,9 +275,10 @@ static void at_once(struct rng *r)
     pthread_barrier_destroy(&both);
 }
 
-/* One of some threads that check the same lists in the same areas at once. */
+/* One of some threads that check the same lists in the same areas, each from another of them on. */
 struct sharer {
     const struct job *jobs;
+    int first;
     pthread_barrier_t *all;
     int differ;
 };
@@ -285,9 +286,9 @@ struct sharer {
 static void *check_shared(void *s)
 {
     struct sharer *sharer = s;
+    pthread_barrier_wait(sharer->all);
     for (int i = 0; i < ROUNDS * PLANTS; i++) {
-        const struct job *j = &sharer->jobs[i % PLANTS];
-        pthread_barrier_wait(sharer->all);
+        const struct job *j = &sharer->jobs[(sharer->first + i) % PLANTS];
         sharer->differ += check(j) != j->number;
     }
     return NULL;
@@ -300,7 +301,7 @@ static const struct job *fill_shared(struct rng *r)
     struct job *jobs = mmap(NULL, size, PROT_READ | PROT_WRITE, MAP_PRIVATE | MAP_ANONYMOUS, -1, 0);
     must(jobs != MAP_FAILED, "no memory for shared lists");
     for (int i = 0; i < PLANTS; i++) {
-        family_make(i % 2 == 0 ? &scarce : &families[i % family_count], &plant, r, rng_between(r, 1, 200), 0);
+        family_make(i % 2 == 0 ? &scarce : family_named("deep tree"), &plant, r, rng_between(r, 60, 180), 0);
         check_job_of(&jobs[i], (uint32_t)(i % 3));
         plan(&jobs[i]);
     }
@@ -317,7 +318,7 @@ static void shared(struct rng *r)
     tally(count_accepted(jobs, CHECK) == PLANTS / 3, "%d lists are accepted", count_accepted(jobs, CHECK));
     must(pthread_barrier_init(&all, NULL, SHARERS) == 0, "no barrier");
     for (int i = 0; i < SHARERS; i++) {
-        sharers[i] = (struct sharer){jobs, &all, 0};
+        sharers[i] = (struct sharer){jobs, i * PLANTS / SHARERS, &all, 0};
         must(pthread_create(&threads[i], NULL, check_shared, &sharers[i]) == 0, "no thread");
     }
     for (int i = 0; i < SHARERS; i++) {
