@@ -16,6 +16,7 @@ use Rattle.plant_file.specs.PlantFile.{fileN, fileT, fileM, fileLinks, fileRefu
 use Rattle.plant_file.specs.Load.{loadRefusal, loadLinks}
 use Rattle.plant_file.proofs.Accepted.{file-allowed, file-links-sound}
 use Rattle.plant_file.proofs.LinksByIndex.{links-long}
+use Rattle.plant_file.proofs.Loading.{load-places}
 use Rattle.plant_file.proofs.Refusing.{then-file, then-alone}
 use Rattle.checker.specs.Check.{listsRefusal, checkRefusal}
 use Rattle.checker.specs.Pre.{Checkable}
@@ -39,34 +40,30 @@ pub load-refused : (file leaders choke : List ℕ) {a b e : ℕ} → e ≡ loadR
 unfolding checkRefusal
 load-refused file leaders choke of ends places z = first-refused _ (load-own file of ends places) z
 
--- the links that were loaded into ls, and the answer by them
-module _ (file ls os : List ℕ) {e : ℕ} (of : e ≡ loadRefusal file (length ls) (length os)) (ends : length ls ≡ ENDS) (places : length os ≡ GATEWAYS) where
-  module _ (z : e ≡ 0) {new : List ℕ} (loads : new ≡ loadLinks file ls os) {m : ℕ} (is : m ≡ fileM file) where
-    own : e ≡ fileRefusal file
-    own = load-own file of ends places
+-- no refusal: the links that were loaded over ls, and the answer by them
+module _ (file ls os : List ℕ) {e : ℕ} (of : e ≡ loadRefusal file (length ls) (length os)) (z : e ≡ 0) {new : List ℕ} (loads : new ≡ loadLinks file ls os) {m : ℕ} (is : m ≡ fileM file) where
+  fine : fileRefusal file ≡ 0
+  fine = load-places file (length ls) (length os) of z .0
 
-    fine : fileRefusal file ≡ 0
-    fine = sym own ∙ z
+  written-links : new ≡ written (2 * fileM file) (fileLinks file) ls
+  unfolding loadLinks
+  written-links = loads ∙ rw (sym of ∙ z)
 
-    written-links : new ≡ written (2 * fileM file) (fileLinks file) ls
-    unfolding loadLinks
-    written-links = loads ∙ rw (sym of ∙ z)
+  pub links-room : 2 * m ≤ length new
+  links-room = rw (is, written-links) (written-room (2 * fileM file) (fileLinks file) ls (links-long file))
 
-    pub links-room : 2 * m ≤ length new
-    links-room = rw (is, written-links) (written-room (2 * fileM file) (fileLinks file) ls (links-long file))
+  links-front : take (2 * m) new ≡ fileLinks file
+  links-front = rw (is, written-links) (written-front (2 * fileM file) (fileLinks file) ls (links-long file))
 
-    links-front : take (2 * m) new ≡ fileLinks file
-    links-front = rw (is, written-links) (written-front (2 * fileM file) (fileLinks file) ls (links-long file))
+  pub links-count : 2 * m ≡ length (take (2 * m) new)
+  links-count = sym (ap length links-front ∙ links-long file ∙ ap (λ (k : ℕ). 2 * k) (sym is))
 
-    pub links-count : 2 * m ≡ length (take (2 * m) new)
-    links-count = sym (ap length links-front ∙ links-long file ∙ ap (λ (k : ℕ). 2 * k) (sym is))
+  module _ {n : ℕ} (gateways : n ≡ fileN file) where
+    pub links-checkable : Checkable n (take (2 * m) new)
+    links-checkable = record { few = rw gateways (file-allowed file fine .few); ends = rw (gateways, links-front) (file-links-sound file fine) }
 
-    module _ {n : ℕ} (gateways : n ≡ fileN file) where
-      pub links-checkable : Checkable n (take (2 * m) new)
-      links-checkable = record { few = rw gateways (file-allowed file fine .few); ends = rw (gateways, links-front) (file-links-sound file fine) }
-
-      pub loaded-checked : {t r : ℕ} {limits : List ℕ} (leaders choke : List ℕ) → t ≡ fileT file → limits ≡ replicate GATEWAYS t → r ≡ listsRefusal n (at limits) (linked (take (2 * m) new)) leaders choke → r ≡ checkRefusal file leaders choke
-      unfolding checkRefusal common
-      loaded-checked {t} leaders choke f g h =
-          first-passed own z (h ∙ rw (gateways, links-front) (lists-below (fileN file) _ (common (fileT file)) (linked (fileLinks file)) leaders choke
-          (λ u l. rw g (getD-replicate GATEWAYS u t 0 (omega (arith, file-allowed file fine .few)) ∙ f))))
+    pub loaded-checked : {t r : ℕ} {limits : List ℕ} (leaders choke : List ℕ) → t ≡ fileT file → limits ≡ replicate GATEWAYS t → r ≡ listsRefusal n (at limits) (linked (take (2 * m) new)) leaders choke → r ≡ checkRefusal file leaders choke
+    unfolding checkRefusal common
+    loaded-checked {t} leaders choke f g h =
+        first-passed (z ∙ sym fine) z (h ∙ rw (gateways, links-front) (lists-below (fileN file) _ (common (fileT file)) (linked (fileLinks file)) leaders choke
+        (λ u l. rw g (getD-replicate GATEWAYS u t 0 (omega (arith, file-allowed file fine .few)) ∙ f))))

@@ -46,23 +46,23 @@ slice-aggregate-of-lists c = search needs
 array-share-prefix-links : tie.Need-array-share-prefix-links
 array-share-prefix-links c = let fine = c .before .before .before .before .before in
     let load = fine .before .before .before in
-    links-room _ _ _ (load .load .ensures .0) (omega arith) (omega arith) (fine .if1 .left) (load .load .ensures .1 .0) (c .before .before .link-count .ensures)
+    links-room _ _ _ (load .load .ensures .0) (fine .if1 .left) (load .load .ensures .1 .0) (c .before .before .link-count .ensures)
 
 slice-aggregate-of-lists-2 : tie.Need-slice-aggregate-of-lists-2
 slice-aggregate-of-lists-2 c = let fine = c .before .before .before .before .before .before in
     let load = fine .before .before .before in
-    links-count _ _ _ (load .load .ensures .0) (omega arith) (omega arith) (fine .if1 .left) (load .load .ensures .1 .0) (c .before .before .before .link-count .ensures)
+    links-count _ _ _ (load .load .ensures .0) (fine .if1 .left) (load .load .ensures .1 .0) (c .before .before .before .link-count .ensures)
 
 of-lists-requires : tie.Need-of-lists-requires
 of-lists-requires c κs = let fine = c .before .before .before .before .before .before in
     let load = fine .before .before .before in
-    links-checkable _ _ _ (load .load .ensures .0) (omega arith) (omega arith) (fine .if1 .left) (load .load .ensures .1 .0) (c .before .before .before .link-count .ensures) (c .before .before .gateways .ensures)
+    links-checkable _ _ _ (load .load .ensures .0) (fine .if1 .left) (load .load .ensures .1 .0) (c .before .before .before .link-count .ensures) (c .before .before .gateways .ensures)
 
 returns-2 : tie.Need-returns-2
 returns-2 c = let n = c .before .before .before in
     let fine = n .before .before .before .before in
     let load = fine .before .before .before in
-    loaded-checked _ _ _ (load .load .ensures .0) (omega arith) (omega arith) (fine .if1 .left) (load .load .ensures .1 .0) (n .before .link-count .ensures) (n .gateways .ensures) _ _ (n .before .before .before .limit .ensures) (n .before .before .bytes .ensures) (c .of-lists .ensures)
+    loaded-checked _ _ _ (load .load .ensures .0) (fine .if1 .left) (load .load .ensures .1 .0) (n .before .link-count .ensures) (n .gateways .ensures) _ _ (n .before .before .before .limit .ensures) (n .before .before .bytes .ensures) (c .of-lists .ensures)
 
 pub check-lists-spec : {M : Type 1} → statement M
 check-lists-spec =
