@@ -13,18 +13,14 @@ use Rattle.packing.specs.Plant.{NONE, at, common, linked}
 use Rattle.packing.specs.Grouping.{isAlone, isGrouping}
 use Rattle.packing.specs.Choke.{isDifference}
 use Rattle.packing.specs.Refusals.{firstOf}
-use Rattle.packing.proofs.Tests.{by-bool, iff-test, any-ext}
+use Rattle.packing.proofs.Tests.{by-bool, any-ext}
 use Rattle.packing.proofs.Sums.{count-ext}
-use Rattle.packing.proofs.Turns.{Says}
+use Rattle.packing.proofs.Turns.{says-iff}
 use Rattle.packing.proofs.Checks.{says-grouping, says-difference}
 use Rattle.packing.proofs.Below.{grouping-limits, difference-limits, grouping-below, difference-below}
 use Rattle.plant_file.specs.PlantFile.{fileN, fileT, fileLinks, fileRefusal}
 use Rattle.checker.specs.Check.{inSet, aloneCount, leadersOff, chokeOff, listsRefusal, checkRefusal}
 use Rattle.checker.specs.Claim.{FirstOnly}
-
--- tests that say conditions which follow from each other are equal
-says-iff : {a b : Bool} {A B : Type 0} → Says a A → Says b B → (A → B) → (B → A) → a ≡ b
-says-iff {a} {b} s t to from = iff-test a b (λ e. by-bool b (λ q. q) (λ q. absurd (t .fails q (to (s .holds e))))) (λ e. by-bool a (λ q. q) (λ q. absurd (s .fails q (from (t .holds e)))))
 
 pub lists-below : (n : ℕ) (limit limit' : ℕ → ℕ) (adj : ℕ → ℕ → Bool) (leaders choke : List ℕ) → ((u : ℕ) → u < n → limit u ≡ limit' u)
     → listsRefusal n limit adj leaders choke ≡ listsRefusal n limit' adj leaders choke

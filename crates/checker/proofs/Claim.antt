@@ -2,7 +2,7 @@
 use Prim.Native.Nat.{ℕ, _<_, _≤_}
 use mathlib.Core.Path.{_≡_, refl, _∙_}
 use mathlib.Core.Logic.{_⊎_, inl, inr, ⊎-elim}
-use mathlib.Core.Bool.{Bool, true, _||_}
+use mathlib.Core.Bool.{Bool, _||_}
 use mathlib.Core.List.{List}
 use native.Mathlib.Omega.{arith}
 use lib.Dec.{eqb, ltb}
@@ -13,7 +13,7 @@ use Rattle.packing.specs.Plant.{at, common, linked}
 use Rattle.packing.specs.Grouping.{isGrouping}
 use Rattle.packing.proofs.Tests.{by-bool, not-test, or-false-l, or-false-r, any-none, any-fails}
 use Rattle.packing.proofs.Refusals.{refuse-none, first-none}
-use Rattle.packing.proofs.Turns.{Says}
+use Rattle.packing.proofs.Turns.{Says, says-true}
 use Rattle.packing.proofs.Links.{linked-sym}
 use Rattle.packing.proofs.Groupings.{Sym, Loopless}
 use Rattle.packing.proofs.Checks.{says-grouping, says-difference, difference-most, covered-alone}
@@ -25,10 +25,6 @@ use Rattle.checker.specs.Claim.{Accepted, AcceptsExactly, CoversMost, Ac
 
 pub bit-cases : (x : ℕ) → x ≤ 1 → (x ≡ 0) ⊎ (x ≡ 1)
 bit-cases x l = by-bool (eqb x 0) (λ e. inl (eqb-true x 0 e)) (λ e. let some : x ≡ 0 → ⊥ = eqb-false x 0 e in inr (omega arith))
-
--- a test that says a condition holds where the condition does
-says-true : {b : Bool} {A : Type 0} → Says b A → A → b ≡ true
-says-true {b} s a = by-bool b (λ e. e) (λ e. absurd (s .fails e a))
 
 module _ (file leaders choke : List ℕ) where
   groups : Says (isGrouping (fileN file) (common (fileT file)) (linked (fileLinks file)) (at leaders)) (GroupingOf file (at leaders))

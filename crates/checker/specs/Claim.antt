@@ -17,13 +17,17 @@ use Rattle.plant_file.specs.FilePlant.{GroupingOf, DifferenceOf}
 use Rattle.checker.specs.Check.{inSet, aloneCount, checkRefusal}
 
 -- "It accepts exactly if every entry is 65535, or its own number with one to T members, or a linked gateway that leads itself, and the choke difference equals the number of 65535 entries."
--- The first is what a grouping is (packing/specs/Grouping.antt). The difference is stated as a sum: one below zero is none.
+-- The first is what a grouping is (packing/specs/Grouping.antt). The difference is stated as a sum, so one below zero is no number.
 pub record Accepted (file leaders choke : List ℕ) : Type 0 where
+  -- the file is accepted
   pub of-file : fileRefusal file ≡ 0
+  -- n entries at least, and the first n are a grouping of its plant
   pub entries : fileN file ≤ length leaders
   pub grouping : GroupingOf file (at leaders)
+  -- n choke bytes at least, and each of the first n is 0 or 1
   pub bytes : fileN file ≤ length choke
   pub zero-or-one : (v : ℕ) → v < fileN file → (at choke v ≡ 0) ⊎ (at choke v ≡ 1)
+  -- the difference is the number alone
   pub difference : DifferenceOf file (inSet choke) (aloneCount (fileN file) leaders)
 
 unfoldable pub AcceptsExactly : Type 0

@@ -15,7 +15,7 @@ use Rattle.packing.specs.Plant.{at, firstLinks, joins, linked}
 use Rattle.packing.specs.Orders.{repeatsOrOutside}
 use Rattle.packing.specs.Refusals.{refuse}
 use Rattle.packing.specs.Turns.{Turn, done, named, FirstNamed, SameLink, LinkThere, firstEnd, secondEnd, RepeatsOrOutside}
-use Rattle.packing.proofs.Tests.{clash, not-i, or-l, or-r, or-cases, or-false-l, or-false-r, any-elim, any-intro}
+use Rattle.packing.proofs.Tests.{by-bool, clash, iff-test, not-i, or-l, or-r, or-cases, or-false-l, or-false-r, any-elim, any-intro}
 
 -- a test says just what a condition in words says
 pub record Says (b : Bool) (Condition : Type 0) : Type 0 where
@@ -84,6 +84,14 @@ says-not false s = record { holds = λ e. s .fails refl; fails = λ e p. true≢
 -- a condition in other words
 pub says-as : {b : Bool} {A B : Type 0} → (A → B) → (B → A) → Says b A → Says b B
 says-as to from s = record { holds = λ e. to (s .holds e); fails = λ e p. s .fails e (from p) }
+
+-- a test holds where its condition does, ..
+pub says-true : {b : Bool} {A : Type 0} → Says b A → A → b ≡ true
+says-true {b} s a = by-bool b (λ e. e) (λ e. absurd (s .fails e a))
+
+-- .. and two whose conditions follow from each other are equal
+pub says-iff : {a b : Bool} {A B : Type 0} → Says a A → Says b B → (A → B) → (B → A) → a ≡ b
+says-iff {a} {b} s t to from = iff-test a b (λ e. says-true t (to (s .holds e))) (λ e. says-true s (from (t .holds e)))
 
 says-join : (a b x y : ℕ) → Says (joins a b x y) (SameLink a b x y)
 says-join a b x y = says-either _ _ (says-both _ _ (says-same a x) (says-same b y)) (says-both _ _ (says-same a y) (says-same b x))
