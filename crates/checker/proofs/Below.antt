@@ -9,14 +9,13 @@ use lib.ListN.{length, take}
 use lib.Seq.{getD-take, length-take-le}
 use borrow.Author.Tests.{ltb-true, ltb-false, lt-ltb, le-ltb}
 use Rattle.packing.specs.Count.{any}
-use Rattle.packing.specs.Plant.{NONE, at, common, linked}
-use Rattle.packing.specs.Grouping.{isAlone, isGrouping}
+use Rattle.packing.specs.Plant.{at, common, linked}
+use Rattle.packing.specs.Grouping.{isGrouping}
 use Rattle.packing.specs.Choke.{isDifference}
 use Rattle.packing.specs.Refusals.{firstOf}
 use Rattle.packing.proofs.Tests.{by-bool, any-ext}
-use Rattle.packing.proofs.Sums.{count-ext}
 use Rattle.packing.proofs.Turns.{says-iff}
-use Rattle.packing.proofs.Checks.{says-grouping, says-difference}
+use Rattle.packing.proofs.Checks.{says-grouping, says-difference, alone-below}
 use Rattle.packing.proofs.Below.{grouping-limits, difference-limits, grouping-below, difference-below}
 use Rattle.plant_file.specs.PlantFile.{fileN, fileT, fileLinks, fileRefusal}
 use Rattle.checker.specs.Check.{inSet, aloneCount, leadersOff, chokeOff, listsRefusal, checkRefusal}
@@ -55,7 +54,7 @@ module _ (n : ℕ) (leaders choke : List ℕ) where
 
   alone-first : aloneCount n (take n leaders) ≡ aloneCount n leaders
   unfolding aloneCount
-  alone-first = count-ext n (isAlone (at (take n leaders))) (isAlone (at leaders)) (λ v l. ap (λ (x : ℕ). eqb x NONE) (entry-first leaders v l))
+  alone-first = alone-below n (at (take n leaders)) (at leaders) (entry-first leaders)
 
   set-first : (v : ℕ) → v < n → inSet (take n choke) v ≡ inSet choke v
   unfolding inSet

@@ -2,7 +2,7 @@
 use Prim.Native.Nat.{ℕ, _+_, _*_, _/_, _<_, _≤_}
 use mathlib.Core.Path.{_≡_, sym, ap, _∙_}
 use mathlib.Core.Logic.{inl, inr, ⊎-elim}
-use mathlib.Core.Bool.{false, not}
+use mathlib.Core.Bool.{false}
 use mathlib.Core.List.{List}
 use native.Mathlib.Omega.{arith}
 use lib.Dec.{eqb, ltb}
@@ -10,14 +10,13 @@ use lib.ListN.{length, drop, length-drop}
 use lib.Seq.{getD-take, getD-drop, length-take-le}
 use borrow.Author.Tests.{ltb-true, ltb-false}
 use Rattle.packing.specs.Count.{count}
-use Rattle.packing.specs.Plant.{NONE, at, common, linked}
+use Rattle.packing.specs.Plant.{at, common, linked}
 use Rattle.packing.specs.Grouping.{isAlone, covered}
 use Rattle.packing.specs.Turns.{done}
 use Rattle.packing.proofs.Tests.{by-bool}
-use Rattle.packing.proofs.Sums.{count-ext}
 use Rattle.packing.proofs.Lists.{listOf-length, listOf-at}
 use Rattle.packing.proofs.Below.{grouping-below, difference-below}
-use Rattle.packing.proofs.Checks.{alone-uncovered}
+use Rattle.packing.proofs.Checks.{alone-uncovered, alone-below, covered-below}
 use Rattle.packing.proofs.Turns.{Says, turn-done, turn-named, says-as}
 use Rattle.plant_file.specs.PlantFile.{number, fileN, fileT, fileLinks}
 use Rattle.plant_file.specs.FilePlant.{GroupingOf}
@@ -52,15 +51,15 @@ module _ (file leaders : List ℕ) (long : 2 * fileN file ≤ length leaders) wh
   grouping-says : GroupingOf file (at (entriesIn leaders)) → GroupingOf file (leaderAt leaders)
   grouping-says = grouping-below (fileN file) (common (fileT file)) (linked (fileLinks file)) (at (entriesIn leaders)) (leaderAt leaders) entry-is
 
-  says-grouping : GroupingOf file (leaderAt leaders) → GroupingOf file (at (entriesIn leaders))
-  says-grouping = grouping-below (fileN file) (common (fileT file)) (linked (fileLinks file)) (leaderAt leaders) (at (entriesIn leaders)) (λ v l. sym (entry-is v l))
+  grouping-of : GroupingOf file (leaderAt leaders) → GroupingOf file (at (entriesIn leaders))
+  grouping-of = grouping-below (fileN file) (common (fileT file)) (linked (fileLinks file)) (leaderAt leaders) (at (entriesIn leaders)) (λ v l. sym (entry-is v l))
 
   alone-is : aloneCount (fileN file) (entriesIn leaders) ≡ count (fileN file) (isAlone (leaderAt leaders))
   unfolding aloneCount
-  alone-is = count-ext (fileN file) (isAlone (at (entriesIn leaders))) (isAlone (leaderAt leaders)) (λ v l. ap (λ (x : ℕ). eqb x NONE) (entry-is v l))
+  alone-is = alone-below (fileN file) (at (entriesIn leaders)) (leaderAt leaders) entry-is
 
   covered-is : count (fileN file) (covered (at (entriesIn leaders))) ≡ count (fileN file) (covered (leaderAt leaders))
-  covered-is = count-ext (fileN file) (covered (at (entriesIn leaders))) (covered (leaderAt leaders)) (λ v l. ap (λ (x : ℕ). not (eqb x NONE)) (entry-is v l))
+  covered-is = covered-below (fileN file) (at (entriesIn leaders)) (leaderAt leaders) entry-is
 
 -- each way, what is accepted
 module _ (file leaders choke : List ℕ) where
@@ -74,7 +73,7 @@ module _ (file leaders choke : List ℕ) where
   unfolding inSet
   of-bytes a =
       let long = a .entries in
-      record { of-file = a .of-file; entries = bytes-long (fileN file) leaders long; grouping = says-grouping file leaders long (a .grouping); bytes = a .bytes; zero-or-one = a .zero-or-one; difference = rw (alone-is file leaders long) (a .difference) }
+      record { of-file = a .of-file; entries = bytes-long (fileN file) leaders long; grouping = grouping-of file leaders long (a .grouping); bytes = a .bytes; zero-or-one = a .zero-or-one; difference = rw (alone-is file leaders long) (a .difference) }
 
 pub bytes-accepts-exactly : BytesAcceptsExactly
 unfolding BytesAcceptsExactly groupsCheck
@@ -99,14 +98,13 @@ module _ (file out : List ℕ) (z : groupsRefusal file (length out) ≡ 0) where
   own-bytes =
       let ((grouping, _, difference), bits, _) = bytes-plan file out z in
       let room = groups-room file out z in
-      let alone = count-ext (fileN file) (isAlone (leaderAt (groupsOut file out))) (isAlone (leaderAt (leaderBytes (fileN file) (groupsOut file out)))) (λ v l. ap (λ (x : ℕ). eqb x NONE) (leader-kept v l)) in
       record {
         of-file = groups-fine file out z;
         entries = omega (arith, length-take-le (2 * fileN file) (groupsOut file out) (omega arith));
         grouping = grouping-below (fileN file) (common (fileT file)) (linked (fileLinks file)) _ _ leader-kept grouping;
         bytes = omega (arith, length-drop (2 * fileN file) (groupsOut file out), length-take-le (fileN file) (drop (2 * fileN file) (groupsOut file out)) (omega (arith, length-drop (2 * fileN file) (groupsOut file out))));
         zero-or-one = λ v l. bit-cases _ (rw (choke-kept v l) at (bits v l));
-        difference = difference-below (fileN file) (common (fileT file)) (linked (fileLinks file)) _ _ _ _ (λ v l. ap (λ (x : ℕ). eqb x 1) (choke-kept v l)) (sym (alone-uncovered (fileN file) (leaderAt (groupsOut file out))) ∙ alone) difference;
+        difference = difference-below (fileN file) (common (fileT file)) (linked (fileLinks file)) _ _ _ _ (λ v l. ap (λ (x : ℕ). eqb x 1) (choke-kept v l)) (sym (alone-uncovered (fileN file) (leaderAt (groupsOut file out))) ∙ alone-below (fileN file) _ _ leader-kept) difference;
       }
 
 pub own-accepted : OwnAccepted
@@ -118,7 +116,7 @@ unfolding OwnChokeBytes OwnAccepted groupsCheck OneChokeList
 own-choke-bytes file out leaders z =
     let one = one-choke-list file (entriesIn (leaderBytes (fileN file) (groupsOut file out))) (chokeBytes (fileN file) (groupsOut file out)) (entriesIn leaders) (own-accepted file out z) in (
       λ y. let (entries, grouping, most) = one .0 y in let long = entries-long (fileN file) leaders entries in (long, grouping-says file leaders long grouping, λ other group. rw (← covered-is file leaders long) (most other group)),
-      λ p. let (long, grouping, most) = p in one .1 (bytes-long (fileN file) leaders long, says-grouping file leaders long grouping, λ other group. rw (covered-is file leaders long) (most other group)),
+      λ p. let (long, grouping, most) = p in one .1 (bytes-long (fileN file) leaders long, grouping-of file leaders long grouping, λ other group. rw (covered-is file leaders long) (most other group)),
     )
 
 -- the refusals in words
@@ -128,7 +126,7 @@ module _ (file leaders : List ℕ) where
     where
       to : NoPacking file (entriesIn leaders) → NoPackingBytes file leaders
       to p = by-bool (ltb (length leaders) (2 * fileN file)) (λ e. inl (ltb-true (length leaders) (2 * fileN file) e))
-          (λ e. let long = ltb-false (length leaders) (2 * fileN file) e in ⊎-elim (λ q. absurd (omega (arith, bytes-long (fileN file) leaders long))) (λ no. inr (λ g. no (says-grouping file leaders long g))) p)
+          (λ e. let long = ltb-false (length leaders) (2 * fileN file) e in ⊎-elim (λ q. absurd (omega (arith, bytes-long (fileN file) leaders long))) (λ no. inr (λ g. no (grouping-of file leaders long g))) p)
 
       from : NoPackingBytes file leaders → NoPacking file (entriesIn leaders)
       from p = by-bool (ltb (length (entriesIn leaders)) (fileN file)) (λ e. inl (ltb-true (length (entriesIn leaders)) (fileN file) e))

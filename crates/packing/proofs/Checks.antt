@@ -1,11 +1,13 @@
 -- 02, change 6: what the tests of a grouping and of a choke difference say, and that a difference that is the number alone shows the most covered, whoever wrote the lists.
 use Prim.Native.Nat.{ℕ, _+_, _<_, _≤_}
-use mathlib.Core.Path.{_≡_, refl, sym, _∙_}
+use mathlib.Core.Path.{_≡_, refl, sym, ap, _∙_}
 use mathlib.Core.Logic.{⊎-elim}
 use mathlib.Core.Bool.{Bool, true, false, not, _&&_, _||_}
 use native.Mathlib.Omega.{arith}
+use lib.Dec.{eqb}
 use borrow.Author.Tests.{ltb-true, not-true, not-false}
 use Rattle.packing.specs.Count.{count, sumOver, all, any}
+use Rattle.packing.specs.Plant.{NONE}
 use Rattle.packing.specs.Grouping.{Grouping, isGrouping, isAlone, isLeader, isMember, covered}
 use Rattle.packing.specs.Choke.{stranded, ChokeDifference, isDifference}
 use Rattle.packing.specs.Holders.{held, Feasible}
@@ -52,6 +54,13 @@ covered-alone n g =
       count-all n (λ v. true) (λ v l. refl),
       count-split n (λ v. true) (covered g),
     )
+
+-- entries from n on are not counted
+pub alone-below : (n : ℕ) (g h : ℕ → ℕ) → ((v : ℕ) → v < n → g v ≡ h v) → count n (isAlone g) ≡ count n (isAlone h)
+alone-below n g h same = count-ext n (isAlone g) (isAlone h) (λ v l. ap (λ (x : ℕ). eqb x NONE) (same v l))
+
+pub covered-below : (n : ℕ) (g h : ℕ → ℕ) → ((v : ℕ) → v < n → g v ≡ h v) → count n (covered g) ≡ count n (covered h)
+covered-below n g h same = omega (arith, covered-alone n g, covered-alone n h, alone-below n g h same)
 
 -- what a stranded gateway is linked to is in the set
 stranded-into : (n : ℕ) (adj : ℕ → ℕ → Bool) (s : ℕ → Bool) (x u : ℕ) → stranded n adj s x ≡ true → u < n → adj x u ≡ true → s u ≡ true

@@ -1,22 +1,20 @@
 -- What no refusal of a file says.
 use Prim.Native.Nat.{ℕ, zero, suc, _+_, _*_, _<_, _≤_}
-use mathlib.Core.Path.{_≡_, sym, _∙_}
-use mathlib.Core.Logic.{⊎-elim}
+use mathlib.Core.Path.{_≡_, refl, sym, _∙_}
 use mathlib.Core.Bool.{true, false, not, _||_}
-use mathlib.Core.List.{List, []}
+use mathlib.Core.List.{List, [], _∷_, _++_}
 use native.Mathlib.Numerals.{add-one}
 use native.Mathlib.Omega.{arith}
 use lib.Dec.{eqb, ltb, leb}
 use lib.ListN.{length, take}
-use borrow.Author.Tests.{ltb-false, leb-false, eqb-true, eqb-false, not-false}
+use borrow.Author.Tests.{lt-ltb, ltb-false, leb-false, eqb-true, eqb-false, ne-eqb, not-false}
 use Rattle.packing.specs.Plant.{GATEWAYS, LINKS, LOWEST, HIGHEST, at, linked}
 use Rattle.packing.proofs.Tests.{or-false-l, or-false-r}
 use Rattle.packing.proofs.Prefixes.{IsOrder}
 use Rattle.packing.specs.Orders.{repeatsOrOutside}
 use Rattle.packing.proofs.Refusals.{refuse-none, first-none}
-use Rattle.packing.proofs.Turns.{says-linked}
 use Rattle.sound.specs.Sound.{endsSound}
-use Rattle.sound.proofs.Meaning.{mean-ends}
+use Rattle.sound.proofs.Meaning.{ends-mean}
 use Rattle.sound.proofs.Orders.{order-right}
 use Rattle.plant_file.specs.PlantFile.{number, fileN, fileT, fileM, fileLinks, fileOrder, beginsPLT, endsRefusal, linksRefusal, fileRefusal}
 use Rattle.plant_file.proofs.LinksByIndex.{links-long}
@@ -95,12 +93,19 @@ pub file-link-allowed : (file : List ℕ) → fileRefusal file ≡ 0 → (i : �
     → LinkAllowed (fileN file) (take (2 * i) (fileLinks file)) (at (fileLinks file) (2 * i)) (at (fileLinks file) (2 * i + 1))
 file-link-allowed file z i h = link-allowed (fileN file) (fileLinks file) (file-allowed file z .links) i (omega (arith, links-long file))
 
--- what an accepted file's links join: two gateways that differ
-pub file-ends : (file : List ℕ) → fileRefusal file ≡ 0 → (x y : ℕ) → linked (fileLinks file) x y ≡ true → (x < fileN file) × (y < fileN file) × (x ≡ y → ⊥)
-file-ends file z x y e =
-    let (i, l, same) = says-linked (fileM file) (fileLinks file) x y (links-long file) .holds e in
-    let a = file-link-allowed file z i l in
-    ⊎-elim (λ q. (rw (← q .0) (a .first), rw (← q .1) (a .second), λ d. a .differ (q .0 ∙ d ∙ sym (q .1)))) (λ q. (rw (← q .1) (a .second), rw (← q .0) (a .first), λ d. a .differ (q .0 ∙ sym d ∙ sym (q .1)))) same
+-- the ends of links that are not refused differ and are below n
+links-sound : (n : ℕ) (before l : List ℕ) → linksRefusal n before l ≡ 0 → endsSound n l ≡ true
+unfolding linksRefusal endsSound
+links-sound n before [] z = refl
+links-sound n before (a ∷ []) z = refl
+links-sound n before (a ∷ b ∷ rest) z =
+    let (one, later) = first-none (endsRefusal n before a b) _ z in
+    let f = ends-allowed n before a b one in
+    rw (ne-eqb a b (f .differ), lt-ltb a n (f .first), lt-ltb b n (f .second)) (links-sound n (before ++ (a ∷ b ∷ [])) rest later)
 
+-- .. of an accepted file: they join two gateways that differ
 pub file-links-sound : (file : List ℕ) → fileRefusal file ≡ 0 → endsSound (fileN file) (fileLinks file) ≡ true
-file-links-sound file z = mean-ends (fileN file) (fileLinks file) (file-ends file z)
+file-links-sound file z = links-sound (fileN file) [] (fileLinks file) (file-allowed file z .links)
+
+pub file-ends : (file : List ℕ) → fileRefusal file ≡ 0 → (x y : ℕ) → linked (fileLinks file) x y ≡ true → (x < fileN file) × (y < fileN file) × (x ≡ y → ⊥)
+file-ends file z = ends-mean (fileN file) (fileLinks file) (file-links-sound file z)

@@ -69,7 +69,7 @@ ends-mean n (a ∷ b ∷ l) e x y j =
     apart : a ≡ b → ⊥
     apart = eqb-false a b (not-true (eqb a b) (and-l (not (eqb a b)) (ltb a n) low))
 
-pub mean-ends : (n : ℕ) (l : List ℕ) → ((x y : ℕ) → linked l x y ≡ true → (x < n) × (y < n) × (x ≡ y → ⊥)) → endsSound n l ≡ true
+mean-ends : (n : ℕ) (l : List ℕ) → ((x y : ℕ) → linked l x y ≡ true → (x < n) × (y < n) × (x ≡ y → ⊥)) → endsSound n l ≡ true
 unfolding endsSound linked
 mean-ends n [] h = refl
 mean-ends n (a ∷ []) h = refl
