@@ -36,9 +36,11 @@ module _ (file leaders choke : List ℕ) where
   pub accepted-of : checkRefusal file leaders choke ≡ 0 → Accepted file leaders choke
   unfolding checkRefusal listsRefusal leadersOff chokeOff
   accepted-of z =
+      let first : 0 < 31 = omega arith in
+      let second : 0 < 32 = omega arith in
       let (fine, lists) = first-none (fileRefusal file) _ z in
-      let (packs, rest) = refuse-none _ 31 _ (omega arith) lists in
-      let (chokes, _) = refuse-none _ 32 0 (omega arith) rest in
+      let (packs, rest) = refuse-none _ 31 _ first lists in
+      let (chokes, _) = refuse-none _ 32 0 second rest in
       let bytes = or-false-l _ _ chokes in
       record {
         of-file = fine;
