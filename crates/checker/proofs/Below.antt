@@ -1,12 +1,12 @@
 -- The checker looks at nothing from n on: of limits, leader lists and choke lists.
-use Prim.Native.Nat.{ℕ, zero, suc, _<_, _≤_}
+use Prim.Native.Nat.{ℕ, _<_}
 use mathlib.Core.Path.{_≡_, sym, ap}
 use mathlib.Core.Bool.{Bool}
-use mathlib.Core.List.{List, [], _∷_}
+use mathlib.Core.List.{List}
 use native.Mathlib.Omega.{arith}
 use lib.Dec.{eqb, ltb}
-use lib.ListN.{length, take}
-use lib.Seq.{getD-take, length-take-le}
+use lib.ListN.{length, take, length-take}
+use lib.Seq.{getD-take}
 use borrow.Author.Tests.{ltb-true, ltb-false, lt-ltb, le-ltb}
 use Rattle.packing.specs.Count.{any}
 use Rattle.packing.specs.Plant.{at, common, linked}
@@ -37,16 +37,11 @@ lists-below n limit limit' adj leaders choke same = rw (groups, differs)
         says-iff (says-difference n limit adj (inSet choke) (aloneCount n leaders)) (says-difference n limit' adj (inSet choke) (aloneCount n leaders))
         (difference-limits n limit limit' adj same (inSet choke) (aloneCount n leaders)) (difference-limits n limit' limit adj back (inSet choke) (aloneCount n leaders))
 
-take-less : (n : ℕ) (l : List ℕ) → length (take n l) ≤ length l
-take-less zero l = omega arith
-take-less (suc n) [] = omega arith
-take-less (suc n) (x ∷ l) = omega (arith, take-less n l)
-
 -- there are n entries in a list exactly if there are n in its first n
 take-short : (n : ℕ) (l : List ℕ) → ltb (length (take n l)) n ≡ ltb (length l) n
 take-short n l =
-    by-bool (ltb (length l) n) (λ e. rw e (lt-ltb (length (take n l)) n (omega (arith, ltb-true (length l) n e, take-less n l))))
-    (λ e. rw e (le-ltb (length (take n l)) n (omega (arith, length-take-le n l (ltb-false (length l) n e)))))
+    by-bool (ltb (length l) n) (λ e. rw e (lt-ltb (length (take n l)) n (omega (arith, ltb-true (length l) n e, length-take n l))))
+    (λ e. rw e (le-ltb (length (take n l)) n (omega (arith, ltb-false (length l) n e, length-take n l))))
 
 module _ (n : ℕ) (leaders choke : List ℕ) where
   entry-first : (l : List ℕ) (v : ℕ) → v < n → at (take n l) v ≡ at l v

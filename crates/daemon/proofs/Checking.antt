@@ -1,6 +1,6 @@
 -- The leader list that the checker is handed: the entries that the bytes say, cut at 1,024.
 use Prim.Native.Nat.{ℕ, zero, suc, _*_, _/_, _<_, _≤_}
-use mathlib.Core.Path.{_≡_, refl, sym, ap, _∙_}
+use mathlib.Core.Path.{_≡_, refl, sym, _∙_}
 use mathlib.Core.List.{List}
 use native.Mathlib.Omega.{arith}
 use lib.Dec.{ltb}
@@ -8,9 +8,9 @@ use lib.ListN.{length, take}
 use lib.Seq.{length-take-le, getD-take}
 use borrow.Author.Tests.{lt-ltb, le-ltb, ltb-true, ltb-false}
 use Rattle.packing.specs.Lists.{listOf, written}
-use Rattle.packing.specs.Plant.{GATEWAYS, at}
+use Rattle.packing.specs.Plant.{GATEWAYS}
 use Rattle.packing.proofs.Tests.{by-bool}
-use Rattle.packing.proofs.Lists.{list-is, listOf-length, listOf-ext, listOf-at, written-front}
+use Rattle.packing.proofs.Lists.{list-by, listOf-length, listOf-at, written-front}
 use Rattle.packing.proofs.Refusals.{first-refused}
 use Rattle.plant_file.specs.PlantFile.{number, fileN, fileRefusal}
 use Rattle.plant_file.proofs.Accepted.{file-allowed}
@@ -37,9 +37,7 @@ module _ (len : ℕ) where
 -- the first values of a list of values
 take-listOf : (n k : ℕ) (f : ℕ → ℕ) → n ≤ k → take n (listOf k f) ≡ listOf n f
 take-listOf n k f l =
-    let long : length (take n (listOf k f)) ≡ n = length-take-le n (listOf k f) (omega (arith, listOf-length k f)) in
-    list-is (take n (listOf k f)) ∙ ap (λ (m : ℕ). listOf m (at (take n (listOf k f)))) long
-    ∙ listOf-ext n (at (take n (listOf k f))) f (λ v q. getD-take n (listOf k f) v 0 q ∙ listOf-at k f v (omega arith))
+    list-by n (take n (listOf k f)) f (length-take-le n (listOf k f) (omega (arith, listOf-length k f))) (λ v q. getD-take n (listOf k f) v 0 q ∙ listOf-at k f v (omega arith))
 
 -- what stands past 1,024 entries is not looked at
 cut-alike : (file choke : List ℕ) (k : ℕ) (f : ℕ → ℕ) → GATEWAYS ≤ k → checkRefusal file (listOf GATEWAYS f) choke ≡ checkRefusal file (listOf k f) choke

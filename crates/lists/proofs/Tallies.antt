@@ -10,11 +10,11 @@ use lib.ListN.{length, set, replicate, length-set, List·getD-eq-default}
 use lib.Seq.{getD-set-same, getD-set-other}
 use borrow.Author.Tests.{eqb-true, eqb-false, ltb-true, ltb-false}
 use Rattle.packing.specs.Count.{pick, count, sum}
-use Rattle.packing.specs.Lists.{listOf, tallyOf}
+use Rattle.packing.specs.Lists.{tallyOf}
 use Rattle.packing.specs.Plant.{GATEWAYS, at}
 use Rattle.packing.proofs.Tests.{by-bool}
 use Rattle.packing.proofs.Sums.{count-suc, count-bound}
-use Rattle.packing.proofs.Lists.{list-is, listOf-length, listOf-ext, listOf-at, listOf-same}
+use Rattle.packing.proofs.Lists.{list-by, listOf-length, listOf-at, listOf-same}
 
 module _ (l : List ℕ) where
   pub tally-at : (n v : ℕ) → v < GATEWAYS → at (tallyOf n l) v ≡ count n (λ i. eqb (at l i) v)
@@ -38,7 +38,7 @@ module _ (l : List ℕ) where
   unfolding tallyOf
   tally-suc i =
       let counts : List ℕ = set (tallyOf i l) (at l i) (at (tallyOf i l) (at l i) + 1) in
-      list-is counts ∙ ap (λ (m : ℕ). listOf m (at counts)) (length-set (tallyOf i l) (at l i) _ ∙ tally-length i) ∙ listOf-ext GATEWAYS (at counts) (λ v. count (i + 1) (λ j. eqb (at l j) v)) (one-more i)
+      list-by GATEWAYS counts (λ v. count (i + 1) (λ j. eqb (at l j) v)) (length-set (tallyOf i l) (at l i) _ ∙ tally-length i) (one-more i)
 
 -- the loop: the first i entries are counted
 pub record Counted (n : ℕ) (l counts : List ℕ) (i : ℕ) : Type 0 where

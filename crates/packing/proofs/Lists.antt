@@ -50,6 +50,10 @@ zero-at (suc n) (suc v) = zero-at n v
 pub list-is : (l : List ℕ) → l ≡ listOf (length l) (λ i. getD l i 0)
 list-is l = ext-getD 0 l (listOf (length l) (λ i. getD l i 0)) (sym (listOf-length (length l) (λ i. getD l i 0))) (λ i h. sym (listOf-at (length l) (λ i. getD l i 0) i h))
 
+-- .. and so is one whose entries are known
+pub list-by : (n : ℕ) (l : List ℕ) (f : ℕ → ℕ) → length l ≡ n → ((v : ℕ) → v < n → at l v ≡ f v) → l ≡ listOf n f
+list-by n l f long each = list-is l ∙ ap (λ (m : ℕ). listOf m (at l)) long ∙ listOf-ext n (at l) f each
+
 -- those below n with p: their number
 pub listWhere-length : (n : ℕ) (p : ℕ → Bool) → length (listWhere n p) ≡ count n p
 unfolding listWhere count sum

@@ -12,7 +12,7 @@ use Rattle.packing.specs.Count.{pick}
 use Rattle.packing.specs.Lists.{listOf}
 use Rattle.packing.specs.Plant.{GATEWAYS, at, joins, linked}
 use Rattle.packing.proofs.Tests.{and-l, and-r, and-i, or-l, or-r, or-cases, iff-test}
-use Rattle.packing.proofs.Lists.{list-is, listOf-ext}
+use Rattle.packing.proofs.Lists.{list-by, listOf-ext}
 use Rattle.packing.proofs.Flat.{pair-at, pair-end}
 use Rattle.lists.proofs.Marked.{marked-entry, marked-length}
 use Rattle.sound.specs.Marks.{Zeros, linkedWhere, noted, entryIs, linkedEntries}
@@ -120,12 +120,12 @@ module _ (p : ℕ → ℕ → Bool) (ls marks₀ : List ℕ) where
   pass-end {marks} {i} w h v q =
       w .bits v q ∙ ap (λ (b : Bool). pick b 1) (sym (or-false (eqb (at marks v) 1)) ∙ ap (λ (b : Bool). eqb (at marks v) 1 || b) (sym (where-short p (drop i ls) v (pair-end ls i h))) ∙ w .marked v q)
 
--- marks that are known entry by entry are a list
-pub marks-are : (n : ℕ) (marks : List ℕ) (f : ℕ → ℕ) → length marks ≡ n → ((v : ℕ) → v < length marks → at marks v ≡ f v) → marks ≡ listOf n f
-marks-are n marks f long each = list-is marks ∙ ap (λ (m : ℕ). listOf m (at marks)) long ∙ listOf-ext n (at marks) f (λ v l. each v (rw long l))
+-- the marks are those of p, ..
+pub marks-end : (p : ℕ → ℕ → Bool) (ls marks₀ : List ℕ) {marks : List ℕ} {i : ℕ} → Passed p ls marks₀ marks i → length ls ≤ i + 1 → length marks ≡ GATEWAYS → marks ≡ listOf GATEWAYS (λ v. pick (linkedWhere p ls v) 1)
+marks-end p ls marks₀ {marks} w h long = list-by GATEWAYS marks (λ v. pick (linkedWhere p ls v) 1) long (λ v l. pass-end p ls marks₀ w h v (rw long l))
 
 -- .. those of the gateways linked to their entries
 pub entries-end : (ls l marks₀ : List ℕ) {marks : List ℕ} {i : ℕ} → Passed (entryIs l) ls marks₀ marks i → length ls ≤ i + 1 → length marks ≡ GATEWAYS → marks ≡ linkedEntries ls l
 unfolding linkedEntries
-entries-end ls l marks₀ {marks} w h long =
-    marks-are GATEWAYS marks (λ v. pick (linked ls v (at l v)) 1) long (λ v q. pass-end (entryIs l) ls marks₀ w h v q ∙ ap (λ (b : Bool). pick b 1) (linked-entry ls l v))
+entries-end ls l marks₀ w h long =
+    marks-end (entryIs l) ls marks₀ w h long ∙ listOf-ext GATEWAYS (λ v. pick (linkedWhere (entryIs l) ls v) 1) (λ v. pick (linked ls v (at l v)) 1) (λ v q. ap (λ (b : Bool). pick b 1) (linked-entry ls l v))

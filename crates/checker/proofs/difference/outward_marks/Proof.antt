@@ -2,7 +2,7 @@ use Prim.Native.Nat.{_-_}
 use native.Mathlib.Omega.{arith}
 use lib.ListN.{length}
 use Rattle.sound.proofs.Tests.{all-zero}
-use Rattle.sound.proofs.LinkPass.{Passed, pass-start, pass-turn, pass-end, marks-are}
+use Rattle.sound.proofs.LinkPass.{Passed, pass-start, pass-turn, marks-end}
 use Rattle.checker.specs.Pre.{outward, outwardMarks}
 use Rattle.checker.proofs.Differences.{outward-noted}
 use borrow.Author.Needs.{needs}
@@ -70,7 +70,7 @@ loop-again c = let one = c .before .before .before .before .before in
 
 returns : tie.Need-returns Inv-loop μ-loop
 unfolding outwardMarks
-returns c = marks-are _ _ _ (omega arith) (pass-end _ _ _ (c .before .loop .inv) (c .loop-test .left))
+returns c = marks-end _ _ _ (c .before .loop .inv) (c .loop-test .left) (omega arith)
 
 pub outward-marks-spec : {M : Type 1} → statement M
 outward-marks-spec =
