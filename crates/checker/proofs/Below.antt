@@ -32,10 +32,10 @@ lists-below n limit limit' adj leaders choke same = rw (groups, differs)
     groups : isGrouping n limit adj (at leaders) ≡ isGrouping n limit' adj (at leaders)
     groups = says-iff (says-grouping n limit adj (at leaders)) (says-grouping n limit' adj (at leaders)) (grouping-limits n limit limit' adj same (at leaders)) (grouping-limits n limit' limit adj back (at leaders))
 
-    differs : isDifference n limit adj (inSet choke) (aloneCount n leaders) ≡ isDifference n limit' adj (inSet choke) (aloneCount n leaders)
+    differs : isDifference n limit adj (inSet choke) (aloneCount n (at leaders)) ≡ isDifference n limit' adj (inSet choke) (aloneCount n (at leaders))
     differs =
-        says-iff (says-difference n limit adj (inSet choke) (aloneCount n leaders)) (says-difference n limit' adj (inSet choke) (aloneCount n leaders))
-        (difference-limits n limit limit' adj same (inSet choke) (aloneCount n leaders)) (difference-limits n limit' limit adj back (inSet choke) (aloneCount n leaders))
+        says-iff (says-difference n limit adj (inSet choke) (aloneCount n (at leaders))) (says-difference n limit' adj (inSet choke) (aloneCount n (at leaders)))
+        (difference-limits n limit limit' adj same (inSet choke) (aloneCount n (at leaders))) (difference-limits n limit' limit adj back (inSet choke) (aloneCount n (at leaders)))
 
 -- there are n entries in a list exactly if there are n in its first n
 take-short : (n : ℕ) (l : List ℕ) → ltb (length (take n l)) n ≡ ltb (length l) n
@@ -47,7 +47,7 @@ module _ (n : ℕ) (leaders choke : List ℕ) where
   entry-first : (l : List ℕ) (v : ℕ) → v < n → at (take n l) v ≡ at l v
   entry-first l v k = getD-take n l v 0 k
 
-  alone-first : aloneCount n (take n leaders) ≡ aloneCount n leaders
+  alone-first : aloneCount n (at (take n leaders)) ≡ aloneCount n (at leaders)
   unfolding aloneCount
   alone-first = alone-below n (at (take n leaders)) (at leaders) (entry-first leaders)
 
@@ -66,9 +66,9 @@ module _ (n : ℕ) (leaders choke : List ℕ) where
       bytes : any n (λ v. ltb 1 (at (take n choke) v)) ≡ any n (λ v. ltb 1 (at choke v))
       bytes = any-ext n (λ v. ltb 1 (at (take n choke) v)) (λ v. ltb 1 (at choke v)) (λ v l. ap (ltb 1) (entry-first choke v l))
 
-      differs : isDifference n limit adj (inSet (take n choke)) (aloneCount n (take n leaders)) ≡ isDifference n limit adj (inSet choke) (aloneCount n leaders)
+      differs : isDifference n limit adj (inSet (take n choke)) (aloneCount n (at (take n leaders))) ≡ isDifference n limit adj (inSet choke) (aloneCount n (at leaders))
       differs =
-          says-iff (says-difference n limit adj (inSet (take n choke)) (aloneCount n (take n leaders))) (says-difference n limit adj (inSet choke) (aloneCount n leaders)) (difference-below n limit adj _ _ _ _ set-first alone-first)
+          says-iff (says-difference n limit adj (inSet (take n choke)) (aloneCount n (at (take n leaders)))) (says-difference n limit adj (inSet choke) (aloneCount n (at leaders))) (difference-below n limit adj _ _ _ _ set-first alone-first)
           (difference-below n limit adj _ _ _ _ (λ v l. sym (set-first v l)) (sym alone-first))
 
 pub first-only : FirstOnly

@@ -16,12 +16,13 @@ use Rattle.packing.proofs.Refusals.{refuse-none, first-none}
 use Rattle.packing.proofs.Turns.{Says, says-true}
 use Rattle.packing.proofs.Links.{linked-sym}
 use Rattle.packing.proofs.Groupings.{Sym, Loopless}
-use Rattle.packing.proofs.Checks.{says-grouping, says-difference, difference-most, covered-alone}
+use Rattle.packing.proofs.Checks.{says-grouping, says-difference, difference-most, covered-alone, alone-below}
+use Rattle.packing.proofs.Below.{grouping-below}
 use Rattle.plant_file.specs.PlantFile.{fileN, fileT, fileLinks, fileRefusal}
 use Rattle.plant_file.specs.FilePlant.{GroupingOf}
 use Rattle.plant_file.proofs.Accepted.{file-allowed, file-ends}
 use Rattle.checker.specs.Check.{inSet, aloneCount, leadersOff, chokeOff, listsRefusal, checkRefusal}
-use Rattle.checker.specs.Claim.{Accepted, AcceptsExactly, CoversMost, AcceptedCoversMost, OneChokeList}
+use Rattle.checker.specs.Claim.{Accepted, AcceptsExactly, CoversMost, AcceptedCoversMost, Best, OneChokeList}
 
 pub bit-cases : (x : ℕ) → x ≤ 1 → (x ≡ 0) ⊎ (x ≡ 1)
 bit-cases x l = by-bool (eqb x 0) (λ e. inl (eqb-true x 0 e)) (λ e. let some : x ≡ 0 → ⊥ = eqb-false x 0 e in inr (omega arith))
@@ -33,7 +34,7 @@ module _ (file leaders choke : List ℕ) where
   abbrev above : ℕ → Bool
   above v = ltb 1 (at choke v)
 
-  pub accepted-of : checkRefusal file leaders choke ≡ 0 → Accepted file leaders choke
+  pub accepted-of : checkRefusal file leaders choke ≡ 0 → Accepted file (length leaders) (at leaders) choke
   unfolding checkRefusal listsRefusal leadersOff chokeOff
   accepted-of z =
       let first : 0 < 31 = omega arith in
@@ -44,23 +45,23 @@ module _ (file leaders choke : List ℕ) where
       let bytes = or-false-l _ _ chokes in
       record {
         of-file = fine;
-        entries = ltb-false (length leaders) (fileN file) (or-false-l _ _ packs);
+        enough = ltb-false (length leaders) (fileN file) (or-false-l _ _ packs);
         grouping = groups .holds (not-false _ (or-false-r (ltb (length leaders) (fileN file)) _ packs));
         bytes = ltb-false (length choke) (fileN file) (or-false-l _ _ bytes);
         zero-or-one = λ v l. bit-cases (at choke v) (ltb-false 1 (at choke v) (any-fails (fileN file) above (or-false-r (ltb (length choke) (fileN file)) _ bytes) v l));
-        difference = says-difference (fileN file) (common (fileT file)) (linked (fileLinks file)) (inSet choke) (aloneCount (fileN file) leaders) .holds (not-false _ (or-false-r (ltb (length choke) (fileN file) || any (fileN file) above) _ chokes));
+        difference = says-difference (fileN file) (common (fileT file)) (linked (fileLinks file)) (inSet choke) (aloneCount (fileN file) (at leaders)) .holds (not-false _ (or-false-r (ltb (length choke) (fileN file) || any (fileN file) above) _ chokes));
       }
 
-  pub of-accepted : Accepted file leaders choke → checkRefusal file leaders choke ≡ 0
+  pub of-accepted : Accepted file (length leaders) (at leaders) choke → checkRefusal file leaders choke ≡ 0
   unfolding checkRefusal listsRefusal leadersOff chokeOff
   of-accepted a =
       rw (
         a .of-file,
-        le-ltb (length leaders) (fileN file) (a .entries),
+        le-ltb (length leaders) (fileN file) (a .enough),
         says-true groups (a .grouping),
         le-ltb (length choke) (fileN file) (a .bytes),
         any-none (fileN file) above (λ v l. le-ltb 1 (at choke v) (⊎-elim (λ q. omega arith) (λ q. omega arith) (a .zero-or-one v l))),
-        says-true (says-difference (fileN file) (common (fileT file)) (linked (fileLinks file)) (inSet choke) (aloneCount (fileN file) leaders)) (a .difference),
+        says-true (says-difference (fileN file) (common (fileT file)) (linked (fileLinks file)) (inSet choke) (aloneCount (fileN file) (at leaders))) (a .difference),
       )
 
 pub accepts-exactly : AcceptsExactly
@@ -89,16 +90,30 @@ pub one-choke-list : OneChokeList
 unfolding OneChokeList AcceptedCoversMost aloneCount
 one-choke-list file leaders choke others z = (to, from)
   where
-    a : Accepted file leaders choke
+    a : Accepted file (length leaders) (at leaders) choke
     a = accepted-of file leaders choke z
 
-    to : checkRefusal file others choke ≡ 0 → (fileN file ≤ length others) × GroupingOf file (at others) × CoversMost file (at others)
-    to y = let b = accepted-of file others choke y in (b .entries, b .grouping, accepted-covers-most file others choke y)
+    to : checkRefusal file others choke ≡ 0 → Best file (length others) (at others)
+    to y = let b = accepted-of file others choke y in (b .enough, b .grouping, accepted-covers-most file others choke y)
 
     -- both cover the most, so that as many are alone
-    from : (fileN file ≤ length others) × GroupingOf file (at others) × CoversMost file (at others) → checkRefusal file others choke ≡ 0
-    from (entries, grouping, most) =
-        of-accepted file others choke (record { of-file = a .of-file; entries = entries; grouping = grouping; bytes = a .bytes; zero-or-one = a .zero-or-one; difference = rw (← same most grouping) (a .difference) })
+    from : Best file (length others) (at others) → checkRefusal file others choke ≡ 0
+    from (enough, grouping, most) =
+        of-accepted file others choke (record { of-file = a .of-file; enough = enough; grouping = grouping; bytes = a .bytes; zero-or-one = a .zero-or-one; difference = rw (← same most grouping) (a .difference) })
       where
-        same : CoversMost file (at others) → GroupingOf file (at others) → aloneCount (fileN file) leaders ≡ aloneCount (fileN file) others
+        same : CoversMost file (at others) → GroupingOf file (at others) → aloneCount (fileN file) (at leaders) ≡ aloneCount (fileN file) (at others)
         same m g = omega (arith, m (at leaders) (a .grouping), accepted-covers-most file leaders choke z (at others) g, covered-alone (fileN file) (at leaders), covered-alone (fileN file) (at others))
+
+-- only the first n entries are looked at, where there are n
+pub accepted-below : (file choke : List ℕ) {entries : ℕ} {g h : ℕ → ℕ} → (fileN file ≤ entries → (v : ℕ) → v < fileN file → g v ≡ h v) → Accepted file entries g choke → Accepted file entries h choke
+unfolding aloneCount
+accepted-below file choke {g = g} {h = h} same a =
+    let alike = same (a .enough) in
+    record {
+      of-file = a .of-file;
+      enough = a .enough;
+      grouping = grouping-below (fileN file) (common (fileT file)) (linked (fileLinks file)) g h alike (a .grouping);
+      bytes = a .bytes;
+      zero-or-one = a .zero-or-one;
+      difference = rw (← alone-below (fileN file) g h alike) (a .difference);
+    }

@@ -59,7 +59,7 @@ module _ (n : ℕ) (links choke : List ℕ) (able : Checkable n links) (v : ℕ)
 -- the numbers counted, put together
 pub difference-means : (n : ℕ) (limits links leaders choke : List ℕ) → Checkable n links → {marks : List ℕ} {k alone total : ℕ} → marks ≡ outwardMarks links choke
     → k ≡ count n (λ v. not (inSet choke v) && not (eqb (at marks v) 1)) → alone ≡ count n (λ v. eqb (at leaders v) NONE) → total ≡ sumOver n (inSet choke) (at limits)
-    → eqb k (alone + total) ≡ isDifference n (at limits) (linked links) (inSet choke) (aloneCount n leaders)
+    → eqb k (alone + total) ≡ isDifference n (at limits) (linked links) (inSet choke) (aloneCount n (at leaders))
 unfolding isDifference aloneCount
 difference-means n limits links leaders choke able {marks} m c a s = rw (c, m, a, s, count-ext n (λ v. not (inSet choke v) && not (eqb (at (outwardMarks links choke) v) 1)) (stranded n (linked links) (inSet choke)) (stranded-means n links choke able))
 

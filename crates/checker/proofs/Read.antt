@@ -50,7 +50,7 @@ read-accepted n t ls os hs ok calls placed leaders choke z file fine d =
     of-accepted file _ _
     (record {
       of-file = fine;
-      entries = rw gateways (w .entries);
+      enough = rw gateways (w .entries);
       grouping = rw (gateways, limits, links) grouping;
       bytes = rw gateways (w .bytes);
       zero-or-one = λ v l. bit-cases _ (w .bits v (rw gateways at l));

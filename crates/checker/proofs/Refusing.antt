@@ -46,7 +46,7 @@ module _ (n : ℕ) (limit : ℕ → ℕ) (adj : ℕ → ℕ → Bool) (leaders c
             above : any n (λ v. ltb 1 (at choke v)) ≡ true
             above = not-false _ (bytes-mean n choke ∙ sym fits ∙ not-true f e)
 
-        module _ (low : not f ≡ false) {d : Bool} (differs : d ≡ isDifference n limit adj (inSet choke) (aloneCount n leaders)) where
+        module _ (low : not f ≡ false) {d : Bool} (differs : d ≡ isDifference n limit adj (inSet choke) (aloneCount n (at leaders))) where
           none : any n (λ v. ltb 1 (at choke v)) ≡ false
           none = not-true _ (bytes-mean n choke ∙ sym fits ∙ not-false f low)
 

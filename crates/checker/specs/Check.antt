@@ -15,9 +15,9 @@ use Rattle.plant_file.specs.PlantFile.{fileN, fileT, fileLinks, fileRefusal}
 unfoldable pub inSet : List ℕ → ℕ → Bool
 inSet choke v = eqb (at choke v) 1
 
--- "the number of 65535 entries" among the first n
-unfoldable pub aloneCount : ℕ → List ℕ → ℕ
-aloneCount n leaders = count n (isAlone (at leaders))
+-- "the number of 65535 entries" among the first n; g gives each entry
+unfoldable pub aloneCount : ℕ → (ℕ → ℕ) → ℕ
+aloneCount n g = count n (isAlone g)
 
 -- "31, a leader list under n entries or not a packing"
 unfoldable pub leadersOff : ℕ → (ℕ → ℕ) → (ℕ → ℕ → Bool) → List ℕ → Bool
@@ -26,7 +26,7 @@ leadersOff n limit adj leaders = ltb (length leaders) n || not (isGrouping n lim
 -- "32, a choke list under n bytes, a choke byte above 1 among the first n, or a difference that is off"
 unfoldable pub chokeOff : ℕ → (ℕ → ℕ) → (ℕ → ℕ → Bool) → List ℕ → List ℕ → Bool
 chokeOff n limit adj leaders choke =
-    ltb (length choke) n || any n (λ v. ltb 1 (at choke v)) || not (isDifference n limit adj (inSet choke) (aloneCount n leaders))
+    ltb (length choke) n || any n (λ v. ltb 1 (at choke v)) || not (isDifference n limit adj (inSet choke) (aloneCount n (at leaders)))
 
 -- .. in that turn, for a plant by its n, limits and links
 unfoldable pub listsRefusal : ℕ → (ℕ → ℕ) → (ℕ → ℕ → Bool) → List ℕ → List ℕ → ℕ

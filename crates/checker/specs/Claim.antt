@@ -18,20 +18,21 @@ use Rattle.checker.specs.Check.{inSet, aloneCount, checkRefusal}
 
 -- "It accepts exactly if every entry is 65535, or its own number with one to T members, or a linked gateway that leads itself, and the choke difference equals the number of 65535 entries."
 -- The first is what a grouping is (packing/specs/Grouping.antt). The difference is stated as a sum, so one below zero is no number.
-pub record Accepted (file leaders choke : List ℕ) : Type 0 where
+-- A leader list is how many entries it has, and g, which gives each of them: so the same is said of a list of numbers and of bytes.
+pub record Accepted (file : List ℕ) (entries : ℕ) (g : ℕ → ℕ) (choke : List ℕ) : Type 0 where
   -- the file is accepted
   pub of-file : fileRefusal file ≡ 0
   -- n entries at least, and the first n are a grouping of its plant
-  pub entries : fileN file ≤ length leaders
-  pub grouping : GroupingOf file (at leaders)
+  pub enough : fileN file ≤ entries
+  pub grouping : GroupingOf file g
   -- n choke bytes at least, and each of the first n is 0 or 1
   pub bytes : fileN file ≤ length choke
   pub zero-or-one : (v : ℕ) → v < fileN file → (at choke v ≡ 0) ⊎ (at choke v ≡ 1)
   -- the difference is the number alone
-  pub difference : DifferenceOf file (inSet choke) (aloneCount (fileN file) leaders)
+  pub difference : DifferenceOf file (inSet choke) (aloneCount (fileN file) g)
 
 unfoldable pub AcceptsExactly : Type 0
-AcceptsExactly = (file leaders choke : List ℕ) → (checkRefusal file leaders choke ≡ 0) ↔ Accepted file leaders choke
+AcceptsExactly = (file leaders choke : List ℕ) → (checkRefusal file leaders choke ≡ 0) ↔ Accepted file (length leaders) (at leaders) choke
 
 -- nothing past the first n is looked at
 unfoldable pub FirstOnly : Type 0
@@ -45,11 +46,15 @@ CoversMost file g = (other : ℕ → ℕ) → GroupingOf file other → count (f
 unfoldable pub AcceptedCoversMost : Type 0
 AcceptedCoversMost = (file leaders choke : List ℕ) → checkRefusal file leaders choke ≡ 0 → CoversMost file (at leaders)
 
+-- .. as a leader list by any hand should: it has n entries, is a grouping, and covers the most
+abbrev pub Best : List ℕ → ℕ → (ℕ → ℕ) → Type 0
+Best file entries g = (fileN file ≤ entries) × GroupingOf file g × CoversMost file g
+
 -- A choke list that is accepted with some leader list is accepted with just those that are groupings and cover the most. So one of them is enough to check leader lists by any hand.
 unfoldable pub OneChokeList : Type 0
 OneChokeList =
     (file leaders choke others : List ℕ) → checkRefusal file leaders choke ≡ 0
-    → (checkRefusal file others choke ≡ 0) ↔ ((fileN file ≤ length others) × GroupingOf file (at others) × CoversMost file (at others))
+    → (checkRefusal file others choke ≡ 0) ↔ Best file (length others) (at others)
 
 -- a file describes the plant told: it has its n, its T and its links. In which order the links came, and which end of a link is named first, does not matter, and neither does the file's order.
 pub record Describes (file : List ℕ) (told : Told) : Type 0 where

@@ -96,7 +96,7 @@ pub(crate) fn is_difference(
     choke: &[u8],
 ) -> bool
     requires { ⌜ Checkable n (now links) ⌝ }
-    ensures { λ r. ⌜ r ≡ isDifference n (at (now (limits .entry))) (linked (now (links .entry))) (inSet (now (choke .entry))) (aloneCount n (now (leaders .entry))) ⌝ }
+    ensures { λ r. ⌜ r ≡ isDifference n (at (now (limits .entry))) (linked (now (links .entry))) (inSet (now (choke .entry))) (aloneCount n (at (now (leaders .entry)))) ⌝ }
 {
     let marks = outward_marks(links, choke);
     let stranded = stranded_count(n, choke, &marks) as u32;

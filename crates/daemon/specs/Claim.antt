@@ -1,19 +1,17 @@
 -- 00, demands 2 and 3, and 02, changes 1, 2, 4, 5 and 6, of the bytes that the calls from C write or are handed. proofs/Claim.antt, proofs/WhyClaim.antt and proofs/CheckClaim.antt prove it.
-use Prim.Native.Nat.{ℕ, _+_, _*_, _<_, _≤_}
+use Prim.Native.Nat.{ℕ, _+_, _*_, _/_, _<_, _≤_}
 use mathlib.Core.Path.{_≡_}
-use mathlib.Core.Logic.{_⊎_, _↔_}
+use mathlib.Core.Logic.{_↔_}
 use mathlib.Core.List.{List}
 use lib.Dec.{eqb}
 use lib.ListN.{length, take, drop}
-use Rattle.packing.specs.Count.{count}
 use Rattle.packing.specs.Lists.{listOf}
 use Rattle.packing.specs.Plant.{at}
-use Rattle.packing.specs.Grouping.{isAlone, covered}
+use Rattle.packing.specs.Grouping.{covered}
 use Rattle.packing.specs.Pairs.{EarlierLeads}
 use Rattle.search.specs.ChokeSet.{chokeByte}
-use Rattle.plant_file.specs.PlantFile.{number, fileN, fileLinks, fileOrder, fileRefusal}
-use Rattle.plant_file.specs.FilePlant.{GroupingOf, DifferenceOf}
-use Rattle.checker.specs.Claim.{CoversMost}
+use Rattle.plant_file.specs.PlantFile.{number, fileN, fileLinks, fileOrder}
+use Rattle.checker.specs.Claim.{Accepted, CoversMost, Best}
 use Rattle.plan.specs.Plan.{stateAfter}
 use Rattle.plan.specs.Claim.{PlanOf, PlanSoFar, SumOfFewest, WhyOf}
 use Rattle.daemon.specs.Groups.{groupsRefusal, groupsOut, groupsAfterRefusal, groupsAfterOut}
@@ -107,18 +105,9 @@ BytesWhy =
 unfoldable pub BytesWhyRefused : Type 0
 BytesWhyRefused = (file : List ℕ) (v : ℕ) (out : List ℕ) → (aloneRefusal file v (length out) ≡ 0 → ⊥) → aloneOut file v out ≡ out
 
--- 02, change 6: what check_groups accepts, by the bytes that it is handed: leaders as those of plan_groups, and a choke byte for each gateway
-pub record BytesAccepted (file leaders choke : List ℕ) : Type 0 where
-  pub of-file : fileRefusal file ≡ 0
-  pub entries : 2 * fileN file ≤ length leaders
-  pub grouping : GroupingOf file (leaderAt leaders)
-  pub bytes : fileN file ≤ length choke
-  pub zero-or-one : (v : ℕ) → v < fileN file → (at choke v ≡ 0) ⊎ (at choke v ≡ 1)
-  pub difference : DifferenceOf file (λ v. eqb (at choke v) 1) (count (fileN file) (isAlone (leaderAt leaders)))
-
--- just these, ..
+-- 02, change 6: the leaders that a caller hands to check_groups stand as those of plan_groups, two bytes each; an odd last byte is none. It accepts just what the checker accepts (checker/specs/Claim.antt), ..
 unfoldable pub BytesAcceptsExactly : Type 0
-BytesAcceptsExactly = (file leaders choke : List ℕ) → (groupsCheck file leaders choke ≡ 0) ↔ BytesAccepted file leaders choke
+BytesAcceptsExactly = (file leaders choke : List ℕ) → (groupsCheck file leaders choke ≡ 0) ↔ Accepted file (length leaders / 2) (leaderAt leaders) choke
 
 -- .. which cover as many gateways as any grouping can
 unfoldable pub BytesCoverMost : Type 0
@@ -142,4 +131,4 @@ unfoldable pub OwnChokeBytes : Type 0
 OwnChokeBytes =
     (file out leaders : List ℕ) → groupsRefusal file (length out) ≡ 0
     → (groupsCheck file leaders (chokeBytes (fileN file) (groupsOut file out)) ≡ 0)
-    ↔ ((2 * fileN file ≤ length leaders) × GroupingOf file (leaderAt leaders) × CoversMost file (leaderAt leaders))
+    ↔ Best file (length leaders / 2) (leaderAt leaders)

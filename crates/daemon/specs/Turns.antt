@@ -1,17 +1,13 @@
 -- 01, "First to be named": the file's numbers, "then 10". 02, change 4: "Its list must now be 3n + 4 long, under number 10."
-use Prim.Native.Nat.{ℕ, _+_, _*_, _<_, _≤_}
+use Prim.Native.Nat.{ℕ, _+_, _*_, _/_, _<_, _≤_}
 use mathlib.Core.Path.{_≡_}
 use mathlib.Core.Logic.{_⊎_}
 use mathlib.Core.List.{List}
-use lib.Dec.{eqb}
 use lib.ListN.{length, replicate}
-use Rattle.packing.specs.Count.{count}
-use Rattle.packing.specs.Plant.{at}
-use Rattle.packing.specs.Grouping.{isAlone}
 use Rattle.packing.specs.Turns.{done, named, FirstNamed}
 use Rattle.plant_file.specs.PlantFile.{fileN}
-use Rattle.plant_file.specs.FilePlant.{GroupingOf, DifferenceOf}
 use Rattle.plant_file.specs.Turns.{fileTurn}
+use Rattle.checker.specs.Turns.{NoPacking, ChokeOff}
 use Rattle.daemon.specs.Groups.{groupsRefusal, groupsOut, groupsAfterRefusal}
 use Rattle.daemon.specs.Why.{aloneRefusal}
 use Rattle.daemon.specs.Check.{groupsCheck}
@@ -31,14 +27,8 @@ AloneExactly =
     (file : List ℕ) (v outLen : ℕ)
     → FirstNamed (fileTurn file (named 30 ((fileN file ≤ v) ⊎ (leaderAt (groupsOut file (replicate (3 * fileN file + 4) 0)) v ≡ 65535 → ⊥)) (named 10 (outLen < 4 * fileN file + 4) done))) (aloneRefusal file v outLen)
 
--- 02, change 6: 31 and 32 by the bytes that the call is handed; n entries are 2n bytes
-abbrev pub NoPackingBytes : List ℕ → List ℕ → Type 0
-NoPackingBytes file leaders = (length leaders < 2 * fileN file) ⊎ (GroupingOf file (leaderAt leaders) → ⊥)
-
-abbrev pub ChokeOffBytes : List ℕ → List ℕ → List ℕ → Type 0
-ChokeOffBytes file leaders choke =
-    ((length choke < fileN file) ⊎ ((v : ℕ) × (v < fileN file) × (1 < at choke v))) ⊎ (DifferenceOf file (λ v. eqb (at choke v) 1) (count (fileN file) (isAlone (leaderAt leaders))) → ⊥)
-
+-- 02, change 6: 31 and 32 by the bytes that the call is handed
 unfoldable pub GroupsCheckExactly : Type 0
 GroupsCheckExactly =
-    (file leaders choke : List ℕ) → FirstNamed (fileTurn file (named 31 (NoPackingBytes file leaders) (named 32 (ChokeOffBytes file leaders choke) done))) (groupsCheck file leaders choke)
+    (file leaders choke : List ℕ)
+    → FirstNamed (fileTurn file (named 31 (NoPacking file (length leaders / 2) (leaderAt leaders)) (named 32 (ChokeOff file (leaderAt leaders) choke) done))) (groupsCheck file leaders choke)

@@ -31,7 +31,7 @@ returns : tie.Need-returns
 returns c = let counted = c .before .before in
     let marked = counted .before .before in
     let start = marked .before .before .before .before .before in
-    difference-means _ (start .args .limits .now) (start .args .links .now) _ _ (start .pre) (marked .outward-marks .ensures) (counted .stranded-count .ensures) (c .before .count-of .ensures) (c .limits-sum .ensures .0)
+    difference-means _ (start .args .limits .now) (start .args .links .now) (start .args .leaders .now) _ (start .pre) (marked .outward-marks .ensures) (counted .stranded-count .ensures) (c .before .count-of .ensures) (c .limits-sum .ensures .0)
 
 pub is-difference-spec : {M : Type 1} → statement M
 is-difference-spec =
