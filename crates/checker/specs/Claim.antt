@@ -46,7 +46,7 @@ CoversMost file g = (other : ℕ → ℕ) → GroupingOf file other → count (f
 unfoldable pub AcceptedCoversMost : Type 0
 AcceptedCoversMost = (file leaders choke : List ℕ) → checkRefusal file leaders choke ≡ 0 → CoversMost file (at leaders)
 
--- .. as a leader list by any hand should: it has n entries, is a grouping, and covers the most
+-- a leader list that is as good as any: it has n entries, is a grouping, and covers the most
 abbrev pub Best : List ℕ → ℕ → (ℕ → ℕ) → Type 0
 Best file entries g = (fileN file ≤ entries) × GroupingOf file g × CoversMost file g
 
