@@ -31,6 +31,9 @@ extern "C" {
 /* The bytes of stack that are enough for a thread that makes the call: see below. */
 #define PLAN_GROUPS_STACK 114688
 
+/* The same for plan_groups_recursive. */
+#define PLAN_GROUPS_RECURSIVE_STACK 262144
+
 /*
  * Plans the groups of the plant that a plant file describes.
  *
@@ -159,6 +162,22 @@ uint32_t plan_groups_after(const uint8_t *file, size_t file_len, uint32_t placin
  * Each call makes the plan anew and takes about as long as plan_groups.
  */
 uint32_t why_alone(const uint8_t *file, size_t file_len, uint32_t gateway, uint8_t *out, size_t out_len);
+
+/*
+ * Plans the groups by the short search, which can be followed by pencil (docs/SHORT-SEARCH.md).
+ *
+ * All is as for plan_groups: what is lent, what is written, and the refusals, which are the same for every
+ * file and every out_len. Of what is written
+ *   - the choke bytes are those of plan_groups, byte for byte;
+ *   - the same gateways are covered: a leader is 65535 just where that of plan_groups is. Who leads whom may
+ *     be another;
+ *   - the number moved is counted in the same way, placing by placing, but need not be the least.
+ *
+ * What it uses. Its two functions call each other, at most 512 times each for a plant of 1,024 gateways, so
+ * it needs more stack than the others: a thread whose stack has PLAN_GROUPS_RECURSIVE_STACK bytes, with what
+ * the thread itself takes of them, can make the call on every file. All else is as for plan_groups.
+ */
+uint32_t plan_groups_recursive(const uint8_t *file, size_t file_len, uint8_t *out, size_t out_len);
 
 /*
  * Checks a leader list and a choke list that anyone made for the plant of a plant file.
