@@ -3,9 +3,12 @@ use Prim.Native.Nat.{ℕ, _+_, _<_, _≤_}
 use mathlib.Core.Path.{_≡_, refl, sym, _∙_}
 use mathlib.Core.Logic.{_⊎_, inl, inr, ⊎-elim}
 use mathlib.Core.Bool.{Bool, true, false}
+use mathlib.Core.List.{List}
 use native.Mathlib.Omega.{arith}
 use lib.Dec.{eqb, ltb}
+use lib.ListN.{length, drop}
 use borrow.Author.Tests.{eq-eqb, ne-eqb, ltb-true, ltb-false}
+use Rattle.packing.specs.Plant.{at}
 use Rattle.packing.specs.Holders.{held, Feasible}
 use Rattle.packing.specs.Moved.{Kept}
 use Rattle.packing.proofs.Tests.{by-bool, clash, below-suc, or-l, or-r, or-none, or-false-l}
@@ -25,6 +28,13 @@ pub record Left (n : ℕ) (limit : ℕ → ℕ) (adj : ℕ → ℕ → Bool) (h 
 -- Any way of placing v, from the holders h to h'.
 abbrev pub Placing : (n : ℕ) (limit : ℕ → ℕ) (adj : ℕ → ℕ → Bool) (h h' : ℕ → ℕ) (v : ℕ) → Type 0
 Placing n limit adj h h' v = Kept n limit adj h h' v ⊎ Left n limit adj h h' v
+
+-- .. in a list of holders: no entry past the first n changes, and each of these stays or becomes a gateway.
+pub record PlacedIn (n : ℕ) (limit : ℕ → ℕ) (adj : ℕ → ℕ → Bool) (hs hs' : List ℕ) (v : ℕ) : Type 0 where
+  pub placing : Placing n limit adj (at hs) (at hs') v
+  pub long : length hs' ≡ length hs
+  pub past : drop n hs' ≡ drop n hs
+  pub entries : (w : ℕ) → w < n → (at hs' w ≡ at hs w) ⊎ (at hs' w < n)
 
 -- The first k of the order are placed: the holders are feasible, nobody from place k on is held, and each placed gateway without holder has its pair.
 pub record Standing (n : ℕ) (limit : ℕ → ℕ) (adj : ℕ → ℕ → Bool) (order : ℕ → ℕ) (h : ℕ → ℕ) (k : ℕ) : Type 0 where

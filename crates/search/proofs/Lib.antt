@@ -18,6 +18,7 @@ pub mod Turns
 pub mod Settling
 pub mod Walking
 pub mod Reach
+pub mod Taken
 pub mod Shifting
 pub mod Placing
 pub mod Cuts

@@ -1,21 +1,21 @@
 -- 01's search is a way of placing: v is kept or left, as packing says it of holders before and after; and what either leaves of the list.
 use Prim.Native.Nat.{ℕ, zero, suc, _<_, _≤_}
 use mathlib.Core.Path.{_≡_, refl, sym, ap, _∙_}
-use mathlib.Core.Logic.{inl, inr, ⊎-elim}
-use mathlib.Core.Bool.{true, false, _||_, false≢true}
+use mathlib.Core.Logic.{_⊎_, inl, inr, ⊎-elim}
+use mathlib.Core.Bool.{true, false, false≢true}
 use mathlib.Core.List.{List, [], _∷_}
 use native.Mathlib.Nat.{not-suc-le-zero}
 use native.Mathlib.Omega.{arith}
 use lib.Dec.{eqb, ltb}
 use lib.ListN.{length, set, drop}
 use lib.Seq.{drop-set-lt, getD-set-same, getD-set-other, set-out}
-use borrow.Author.Tests.{eqb-true, eqb-false, eq-eqb, lt-ltb, ltb-true, ltb-false}
-use Rattle.packing.specs.Plant.{NONE, at, linked}
-use Rattle.packing.specs.Holders.{held, holds, Feasible}
+use borrow.Author.Tests.{eqb-true, eqb-false, eq-eqb, ltb-true, ltb-false}
+use Rattle.packing.specs.Plant.{at, linked}
+use Rattle.packing.specs.Holders.{holds, Feasible}
 use Rattle.packing.specs.Moved.{Kept}
 use Rattle.packing.proofs.Tests.{by-bool, clash, or-cases, or-l}
 use Rattle.packing.specs.Lists.{memberOf}
-use Rattle.packing.proofs.Placing.{Left, Placing}
+use Rattle.packing.proofs.Placing.{Left, Placing, PlacedIn}
 use Rattle.search.specs.Search.{found, more, seen, walk, settled, placedHolders}
 use Rattle.search.specs.Pre.{Placeable}
 use Rattle.search.proofs.States.{by-state, unseen-below, mark-keeps, placeable-startable}
@@ -44,6 +44,11 @@ pub record FoundFrom (n : ℕ) (limit : ℕ → ℕ) (ls hs : List ℕ) (v : ℕ
   pub seer : at from u ≡ x
   pub link : linked ls x u ≡ true
   pub free : holds n (at hs) u < limit u
+
+-- The list keeps its length.
+placed-length : (n : ℕ) (limit : ℕ → ℕ) (ls hs : List ℕ) (v : ℕ) → length (placedHolders n limit ls hs v) ≡ length hs
+unfolding placedHolders settled
+placed-length n limit ls hs v = by-state (walk n limit ls hs (v ∷ [])) (λ u x from e. rw e (shift-length n v from u x hs)) (λ queue from e. rw e)
 
 module _ {n : ℕ} (limit : ℕ → ℕ) (ls : List ℕ) {hs : List ℕ} {v : ℕ} (p : Placeable n hs v) where
   -- a search for v that found a place free
@@ -135,20 +140,19 @@ module _ {n : ℕ} (limit : ℕ → ℕ) (ls : List ℕ) {hs : List ℕ} {v : �
       (λ queue from e. rw e start)
 
   -- "Entries past these lengths never change"
-  pub placed-past : drop n (placedHolders n limit ls hs v) ≡ drop n hs
+  placed-past : drop n (placedHolders n limit ls hs v) ≡ drop n hs
   placed-past = placed-any (λ l. drop n l ≡ drop n hs) (λ l x u inside below e. drop-set-lt n l x u inside ∙ e) refl
 
-  -- each of the first n is a gateway or 65535 if it was so
-  pub placed-range : ((w : ℕ) → w < n → (held n (at hs) w || eqb (at hs w) NONE) ≡ true) → (w : ℕ) → w < n → (held n (at (placedHolders n limit ls hs v)) w || eqb (at (placedHolders n limit ls hs v) w) NONE) ≡ true
-  placed-range = placed-any (λ l. (w : ℕ) → w < n → (held n (at l) w || eqb (at l w) NONE) ≡ true) written
+  -- each of the first n stays or becomes a gateway
+  placed-entries : (w : ℕ) → w < n → (at (placedHolders n limit ls hs v) w ≡ at hs w) ⊎ (at (placedHolders n limit ls hs v) w < n)
+  placed-entries w k = placed-any (λ l. (at l w ≡ at hs w) ⊎ (at l w < n)) step (inl refl)
     where
-      written : (l : List ℕ) (x u : ℕ) → x < n → u < n → ((w : ℕ) → w < n → (held n (at l) w || eqb (at l w) NONE) ≡ true) → (w : ℕ) → w < n → (held n (at (set l x u)) w || eqb (at (set l x u) w) NONE) ≡ true
-      written l x u inside below e w k =
+      step : (l : List ℕ) (x u : ℕ) → x < n → u < n → (at l w ≡ at hs w) ⊎ (at l w < n) → (at (set l x u) w ≡ at hs w) ⊎ (at (set l x u) w < n)
+      step l x u inside below e =
           by-bool (eqb w x)
-          (λ q. by-bool (ltb x (length l)) (λ r. rw (eqb-true w x q, getD-set-same l x u 0 (ltb-true _ _ r), lt-ltb u n below)) (λ r. rw (set-out l x u (ltb-false _ _ r)) (e w k)))
-          (λ q. rw (getD-set-other l x w u 0 (eqb-false w x q)) (e w k))
+          (λ q. by-bool (ltb x (length l)) (λ r. inr (rw (eqb-true w x q, getD-set-same l x u 0 (ltb-true _ _ r)) below)) (λ r. rw (set-out l x u (ltb-false _ _ r)) e))
+          (λ q. rw (getD-set-other l x w u 0 (eqb-false w x q)) e)
 
--- The list keeps its length.
-pub placed-length : (n : ℕ) (limit : ℕ → ℕ) (ls hs : List ℕ) (v : ℕ) → length (placedHolders n limit ls hs v) ≡ length hs
-unfolding placedHolders settled
-placed-length n limit ls hs v = by-state (walk n limit ls hs (v ∷ [])) (λ u x from e. rw e (shift-length n v from u x hs)) (λ queue from e. rw e)
+  -- in the list
+  pub placed-in : Feasible n limit (linked ls) (at hs) → PlacedIn n limit (linked ls) hs (placedHolders n limit ls hs v) v
+  placed-in f = record { placing = place-is f; long = placed-length n limit ls hs v; past = placed-past; entries = placed-entries }

@@ -5,7 +5,7 @@ mod held;
 pub mod reached;
 mod shift;
 mod start;
-mod walk;
+pub mod walk;
 
 use crate::held::Rows;
 use crate::held::gather;
@@ -75,7 +75,7 @@ fn place_unheld(n: u16, v: u16, limits: &[u8], links: &[u16], holders: &mut [u16
 }
 
 // Whether v may be placed.
-fn is_placeable(n: u16, v: u16, holders: &[u16]) -> bool
+pub fn is_placeable(n: u16, v: u16, holders: &[u16]) -> bool
     ensures { λ r. ⌜ r ≡ placeable n (now (holders .entry)) v ⌝ }
 {
     if !sound::held::is_searchable(n, holders) {

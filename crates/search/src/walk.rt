@@ -13,7 +13,7 @@ ghost use Rattle.search.specs.Search.{more};
 ghost use Rattle.search.specs.Pre.{ForEach, ForSome, Is, Ready, Walkable};
 
 // The other end of the link a-b where x is an end of it; else none.
-fn other_end(a: u16, b: u16, x: u16) -> u16
+pub fn other_end(a: u16, b: u16, x: u16) -> u16
     ensures { λ r. ⌜ r ≡ cond (eqb a x) b (cond (eqb b x) a NONE) ⌝ }
 {
     if a == x {

@@ -1,0 +1,6 @@
+pub mod Marks
+pub mod Tries
+pub mod Closed
+pub mod Freed
+pub mod Calls
+pub mod Placing

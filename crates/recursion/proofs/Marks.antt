@@ -1,0 +1,64 @@
+-- Marks of who has been tried: one more is one fewer to try, and marks that only grow leave no more to try.
+use Prim.Native.Nat.{ℕ, suc, _+_, _<_, _≤_}
+use mathlib.Core.Path.{_≡_, refl, sym, ap, _∙_}
+use mathlib.Core.Bool.{Bool, true, false, not, _&&_, and-false}
+use mathlib.Core.List.{List}
+use native.Mathlib.Omega.{arith}
+use lib.Dec.{eqb}
+use lib.ListN.{length, length-set, replicate, length-replicate}
+use borrow.Author.Tests.{eqb-true, eqb-false, eq-eqb, ne-eqb, not-true}
+use Rattle.packing.specs.Count.{pick, count}
+use Rattle.packing.specs.Plant.{NONE, GATEWAYS}
+use Rattle.packing.proofs.Tests.{by-bool, clash, not-i, not-i-false}
+use Rattle.packing.proofs.Sums.{count-ext, count-mono, count-bound}
+use Rattle.packing.proofs.Moved.{count-point}
+use Rattle.search.proofs.States.{unseen-below, seen-marked, seen-other, seen-kept}
+use Rattle.recursion.specs.Recursion.{tried, mark}
+use Rattle.recursion.specs.Pre.{untried}
+
+-- whoever is not tried has a place among the marks
+pub untried-below : (marks : List ℕ) (u : ℕ) → tried marks u ≡ false → u < length marks
+untried-below marks u e = unseen-below marks u refl e
+
+-- 0 is a mark
+pub marked : (marks : List ℕ) (u : ℕ) → tried marks u ≡ false → tried (mark marks u) u ≡ true
+marked marks u e = seen-marked marks u 0 (untried-below marks u e) none
+  where
+    none : _≡_ {A = ℕ} 0 NONE → ⊥
+    none q = omega arith
+
+-- "the count of untried neighbours falls"
+pub untried-falls : (marks : List ℕ) (u : ℕ) → tried marks u ≡ false → untried marks ≡ untried (mark marks u) + 1
+unfolding untried
+untried-falls marks u e =
+    rw (length-set marks u 0)
+    (omega (
+      arith,
+      count-point (length marks) (λ w. not (tried marks w)) u (untried-below marks u e),
+      ap (λ (b : Bool). pick (not b) 1) e,
+      count-point (length marks) (λ w. not (tried (mark marks u) w)) u (untried-below marks u e),
+      ap (λ (b : Bool). pick (not b) 1) (marked marks u e),
+      count-ext (length marks) (λ w. not (tried (mark marks u) w) && not (eqb u w)) (λ w. not (tried marks w) && not (eqb u w)) rest,
+    ))
+  where
+    rest : (w : ℕ) → w < length marks → (not (tried (mark marks u) w) && not (eqb u w)) ≡ (not (tried marks w) && not (eqb u w))
+    rest w l = by-bool (eqb u w) (λ q. rw q (and-false (not (tried (mark marks u) w)) ∙ sym (and-false (not (tried marks w))))) (λ q. rw (seen-other marks u 0 w (λ r. eqb-false u w q (sym r))))
+
+-- marks that only grow: whoever was tried stays so
+pub record Grown (marks marks' : List ℕ) : Type 0 where
+  pub long : length marks' ≡ length marks
+  pub stay : (w : ℕ) → tried marks w ≡ true → tried marks' w ≡ true
+
+pub grown-same : (marks : List ℕ) → Grown marks marks
+grown-same marks = record { long = refl; stay = λ w e. e }
+
+pub grown-then : {a b c : List ℕ} → Grown a b → Grown b c → Grown a c
+grown-then g h = record { long = h .long ∙ g .long; stay = λ w e. h .stay w (g .stay w e) }
+
+pub grown-mark : (marks : List ℕ) (u : ℕ) → tried marks u ≡ false → Grown marks (mark marks u)
+grown-mark marks u e = record { long = length-set marks u 0; stay = λ w t. seen-kept marks u 0 w e t }
+
+pub grown-fewer : {a b : List ℕ} → Grown a b → untried b ≤ untried a
+unfolding untried
+grown-fewer {a} {b} g =
+    rw (g .long) (count-mono (length a) (λ w. not (tried b w)) (λ w. not (tried a w)) (λ w l e. by-bool (tried a w) (λ t. clash (tried b w) (g .stay w t) (not-true _ e)) (λ t. not-i _ t)))

@@ -1,0 +1,91 @@
+-- The short search is a way of placing: v is kept or left, as packing says it of holders before and after.
+use Prim.Native.Nat.{ℕ, suc, _+_, _*_, _<_, _≤_}
+use mathlib.Core.Path.{_≡_, refl, sym, ap, _∙_}
+use mathlib.Core.Logic.{inl, inr, ⊎-elim}
+use mathlib.Core.Bool.{Bool, true, _&&_, _||_}
+use mathlib.Core.List.{List}
+use native.Mathlib.Omega.{arith}
+use lib.Dec.{eqb, ltb}
+use lib.ListN.{length, replicate, length-replicate, List·getD-eq-default}
+use borrow.Author.Tests.{eqb-true, eq-eqb, ltb-true, ltb-false}
+use Rattle.packing.specs.Count.{pick}
+use Rattle.packing.specs.Plant.{NONE, at, linked}
+use Rattle.packing.specs.Holders.{held, Feasible}
+use Rattle.packing.specs.Moved.{Kept}
+use Rattle.packing.proofs.Tests.{by-bool, and-l, and-r, and-i, or-l, or-r, or-cases}
+use Rattle.packing.proofs.Sums.{count-bound}
+use Rattle.packing.proofs.Placing.{Left, Placing, PlacedIn}
+use Rattle.search.specs.Pre.{Placeable}
+use Rattle.search.proofs.States.{unseen-start}
+use Rattle.recursion.specs.Recursion.{Try, freed, failed, tried, findHolder, search, recursiveHolders}
+use Rattle.recursion.specs.Pre.{untried}
+use Rattle.recursion.proofs.Tries.{Ended}
+use Rattle.recursion.proofs.Closed.{Around, Closed}
+use Rattle.recursion.proofs.Freed.{FoundFor}
+use Rattle.recursion.proofs.Calls.{find-ended}
+
+pub by-try : {A : Type 0} (t : Try) → ((hs : List ℕ) → t ≡ freed hs → A) → ((marks : List ℕ) → t ≡ failed marks → A) → A
+by-try (freed hs) f g = f hs refl
+by-try (failed marks) f g = g marks refl
+
+-- n can be tried
+untried-start : (n : ℕ) → untried (replicate n NONE) ≤ n
+unfolding untried
+untried-start n = rw (length-replicate n NONE) (count-bound n _)
+
+module _ {n : ℕ} (limit : ℕ → ℕ) (ls : List ℕ) {hs : List ℕ} {v : ℕ} (p : Placeable n hs v) where
+  abbrev start : List ℕ
+  start = replicate n NONE
+
+  -- v has no holder
+  own : tried start (at hs v) ≡ true
+  own = rw (List·getD-eq-default {A = ℕ} start 0 {n = at hs v} (omega (arith, length-replicate {A = ℕ} n NONE, ltb-false (at hs v) n (p .free))))
+
+  searched : Ended (λ end. Closed n limit ls hs start end × Around n limit ls hs v end) (FoundFor n limit ls hs v start) (search n limit ls hs v)
+  unfolding search
+  searched = find-ended n limit ls hs (p .holders) (suc (2 * n)) v start (p .inside) (length-replicate n NONE) own (omega (arith, untried-start n))
+
+  module _ (f : Feasible n limit (linked ls) (at hs)) where
+    -- a place is freed
+    kept : (new : List ℕ) → FoundFor n limit ls hs v start new → Kept n limit (linked ls) (at hs) (at new) v
+    kept new q =
+        record {
+          feasible = record {
+            along = λ w l e. ⊎-elim (λ same. rw same (f .along w l (rw same at e))) (λ moved. moved .1) (q .entries w);
+            within = λ y l.
+                by-bool (eqb (q .place) y) (λ e. rw (← eqb-true (q .place) y e) (omega (arith, q .loads (q .place), q .room, one (q .place))))
+                (λ e. omega (arith, q .loads y, f .within y l, ap (λ (b : Bool). pick b 1) e));
+          };
+          holding = λ w l. q .holding w;
+        }
+      where
+        one : (w : ℕ) → pick (eqb w w) 1 ≡ 1
+        one w = ap (λ (b : Bool). pick b 1) (eq-eqb w w refl)
+
+    -- none is: v, and all that is held by whoever was tried
+    left : (end : List ℕ) → Closed n limit ls hs start end × Around n limit ls hs v end → Left n limit (linked ls) (at hs) (at hs) v
+    left end (c, around) =
+        record {
+          R = λ x. eqb x v || (held n (at hs) x && tried end (at hs x));
+          S = tried end;
+          tight = record {
+            closed = λ x u l k r link.
+                ⊎-elim (λ e. around u (rw (eqb-true x v e) at link))
+                (λ e. c .spent (at hs x) (unseen-start n (at hs x) (ltb-true _ _ (and-l _ _ e))) (and-r (held n (at hs) x) _ e) .around x l refl u link)
+                (or-cases (eqb x v) (held n (at hs) x && tried end (at hs x)) r);
+            full = λ u l s. omega (arith, c .spent u (unseen-start n u l) s .full, f .within u l);
+            owned = λ x l e s. or-r (eqb x v) _ (and-i (held n (at hs) x) _ e s);
+          };
+          mine = or-l (eqb v v) _ (eq-eqb v v refl);
+          others = λ x l r. ⊎-elim (λ e. inl (eqb-true x v e)) (λ e. inr (and-l _ _ e)) (or-cases (eqb x v) (held n (at hs) x && tried end (at hs x)) r);
+          unchanged = refl;
+        }
+
+    pub recursive-in : PlacedIn n limit (linked ls) hs (recursiveHolders n limit ls hs v) v
+    unfolding recursiveHolders
+    recursive-in =
+        by-try (search n limit ls hs v)
+        (λ new e.
+        let q = searched .whenFreed new e in
+        rw e (record { placing = inl (kept new q); long = q .long; past = q .past; entries = λ w l. ⊎-elim (λ same. inl same) (λ moved. inr (moved .0)) (q .entries w) }))
+        (λ end e. rw e (record { placing = inr (left end (searched .whenFailed end e)); long = refl; past = refl; entries = λ w l. inl refl }))
