@@ -8,7 +8,7 @@ use native.Mathlib.Nat.{not-suc-le-zero, le-antisymm, add-zero, add-suc, suc-add
 use native.Mathlib.Numerals.{add-one}
 use native.Mathlib.Omega.{arith}
 use lib.Dec.{eqb}
-use lib.ListN.{length, getD, set, take, drop, replicate, length-append, length-drop, length-set, replicate-append-replicate, List·getD-append}
+use lib.ListN.{length, getD, set, take, drop, replicate, length-append, length-drop, length-set, replicate-append-replicate, List·getD-append, drop-of-length-le}
 use lib.Seq.{getD-at, drop-cons, set-at, take-at, append-snoc, ext-getD, sets, drop-append-seam, getD-append-seam}
 use borrow.Author.Tests.{eqb-true, eq-eqb}
 use Rattle.packing.specs.Count.{pick, sum, count}
@@ -151,6 +151,11 @@ module _ (n : ℕ) (front lent : List ℕ) (long : length front ≡ n) where
   pub written-past : drop n (written n front lent) ≡ drop n lent
   unfolding written
   written-past = rw (← long) (drop-append-seam front (drop (length front) lent))
+
+  -- a lent list of no more entries
+  pub written-whole : length lent ≤ n → written n front lent ≡ front
+  unfolding written
+  written-whole few = ap (λ (l : List ℕ). front ++ l) (drop-of-length-le lent {i = n} few) ∙ append-nil front
 
   -- one entry more
   written-more : (x : ℕ) → n < length lent → set (written n front lent) n x ≡ written (n + 1) (front ++ (x ∷ [])) lent

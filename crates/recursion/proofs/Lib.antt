@@ -4,3 +4,5 @@ pub mod Closed
 pub mod Freed
 pub mod Calls
 pub mod Placing
+pub mod Loops
+pub mod Settling

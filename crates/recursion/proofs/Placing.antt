@@ -29,7 +29,7 @@ by-try (freed hs) f g = f hs refl
 by-try (failed marks) f g = g marks refl
 
 -- n can be tried
-untried-start : (n : ℕ) → untried (replicate n NONE) ≤ n
+pub untried-start : (n : ℕ) → untried (replicate n NONE) ≤ n
 unfolding untried
 untried-start n = rw (length-replicate n NONE) (count-bound n _)
 

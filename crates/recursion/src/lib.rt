@@ -1,4 +1,6 @@
 // The short search (02, change 7): finds a holder for a gateway by two functions that call each other.
+mod moved;
+
 use search::Placed;
 use search::walk::other_end;
 ghost use mathlib.Core.Path.{_≡_};
@@ -62,4 +64,32 @@ fn free_place(
         x += 1;
     }
     false
+}
+
+// Places v, which may be placed. Returns how many have another holder afterwards.
+fn place_unheld(n: u16, v: u16, limits: &[u8], links: &[u16], holders: &mut [u16]) -> u16
+    requires { ⌜ Placeable n (now holders) v ⌝ }
+    ensures holders { λ _. ⌜ now (holders .exit) ≡ recursiveHolders n (at (now (limits .entry))) (now (links .entry)) (now (holders .entry)) v ⌝ }
+    ensures moved { λ r. ⌜ r ≡ moved n (at (now (holders .entry))) (at (recursiveHolders n (at (now (limits .entry))) (now (links .entry)) (now (holders .entry)) v)) ⌝ }
+{
+    let before = moved::copy(holders);
+    let mut tried = lists::marks::nones();
+    let end = n as usize;
+    find_holder(n, v, limits, links, holders, &mut tried[..end]);
+    moved::count(n, &before, holders)
+}
+
+// Places v by a limit for each gateway, 0 past the list's end. Answers whether v may be placed, and how many gateways have another holder afterwards; if it may not, nothing is changed.
+pub fn place(n: u16, v: u16, limits: &[u8], links: &[u16], holders: &mut [u16]) -> Placed
+    ensures answer { λ r. ⌜ r ≡ recursiveAnswer n (at (now (limits .entry))) (now (links .entry)) (now (holders .entry)) v ⌝ }
+    ensures holders { λ _. ⌜ now (holders .exit) ≡ recursiveAfter n (at (now (limits .entry))) (now (links .entry)) (now (holders .entry)) v ⌝ }
+{
+    if !search::is_placeable(n, v, holders) {
+        return Placed {
+            done: false,
+            moved: 0,
+        };
+    }
+    let moved = place_unheld(n, v, limits, links, holders);
+    Placed { done: true, moved }
 }

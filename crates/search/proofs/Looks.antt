@@ -1,11 +1,11 @@
 -- Looks from a gateway: the three ways of one by the table, and the loop over the gateway's links.
-use Prim.Native.Nat.{ℕ, _+_, _-_, _<_, _≤_}
+use Prim.Native.Nat.{ℕ, _+_, _<_, _≤_}
 use mathlib.Core.Path.{_≡_, refl, sym, ap, _∙_}
 use mathlib.Core.Bool.{Bool, true, false, cond}
 use mathlib.Core.List.{List, [], _∷_}
 use native.Mathlib.Omega.{arith}
 use lib.Dec.{eqb}
-use lib.ListN.{length, set, take, drop, List·getD-eq-default}
+use lib.ListN.{length, set, take, drop}
 use lib.Seq.{length-take-le}
 use borrow.Author.Tests.{eq-eqb, ne-eqb, ltb-true, ltb-false}
 use Rattle.packing.specs.Plant.{NONE, GATEWAYS, at, neighbours}
@@ -19,7 +19,7 @@ use Rattle.search.specs.Table.{rowAt}
 use Rattle.search.specs.Pre.{TableOf, ForSome, ForEach, Is, Ready, rowHasPlace, Joinable, Joined}
 use Rattle.search.proofs.Queue.{heldBy-length}
 use Rattle.search.proofs.Rows.{table-holds, table-place}
-use Rattle.search.proofs.States.{unseen-below, look-seen, look-free, look-full, look-going, going-room, visit-found}
+use Rattle.search.proofs.States.{unseen-below, none-seen, look-seen, look-free, look-full, look-going, going-room, visit-found}
 use Rattle.search.proofs.Results.{found-state, more-state, more-within, found-is, more-is, some-then}
 
 -- The three ways of a look. The lent list of marks is from' once u is marked, k is u's entry, t is u's limit, and b says whether its row has a place.
@@ -63,10 +63,7 @@ link-visit : (n : ℕ) (limit : ℕ → ℕ) (hs : List ℕ) (x a b : ℕ) (rest
 unfolding visit neighbours
 link-visit n limit hs x a b rest queue from long e =
     by-bool (eqb a x) (λ p. rw (e, p))
-    (λ p. by-bool (eqb b x) (λ q. rw (e, p, q)) (λ q. rw (e, p, q) (ap (visit n limit hs x (neighbours rest x)) (sym (look-seen n limit hs x NONE queue from none)))))
-  where
-    none : seen from NONE ≡ true
-    none = rw (List·getD-eq-default {A = ℕ} from 0 {n = NONE} (omega arith))
+    (λ p. by-bool (eqb b x) (λ q. rw (e, p, q)) (λ q. rw (e, p, q) (ap (visit n limit hs x (neighbours rest x)) (sym (look-seen n limit hs x NONE queue from (none-seen from long))))))
 
 visit-short : (n : ℕ) (limit : ℕ → ℕ) (hs : List ℕ) (x : ℕ) (ls : List ℕ) (s : Search) → length ls ≤ 1 → visit n limit hs x (neighbours ls x) s ≡ s
 unfolding visit neighbours

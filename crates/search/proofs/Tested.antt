@@ -1,7 +1,7 @@
 -- The tests that `place` and `choke_set` make of what they are lent: what each says, and what the call leaves by it. b is its answer.
 use Prim.Native.Nat.{ℕ, _<_, _≤_}
 use mathlib.Core.Path.{_≡_, refl, sym, _∙_}
-use mathlib.Core.Bool.{Bool, true, false, not}
+use mathlib.Core.Bool.{Bool, true, false, not, cond}
 use mathlib.Core.List.{List}
 use lib.Dec.{ltb, leb}
 use lib.ListN.{length}
@@ -64,15 +64,14 @@ module _ (n : ℕ) (hs : List ℕ) (v : ℕ) {b : Bool} (e : b ≡ placeable n h
   pub place-free : not b ≡ false → Placeable n hs v
   place-free t = placeable-means n hs v (sym e ∙ not-false b t)
 
-  pub place-refuses : (limit : ℕ → ℕ) (ls : List ℕ) → not b ≡ true
-      → (_≡_ {A = Placed} (record { done = false; moved = 0 }) (placeAnswer n limit ls hs v)) × (hs ≡ holdersAfter n limit ls hs v)
-  unfolding holdersAfter movedBy
-  place-refuses limit ls f = let no : placeable n hs v ≡ false = sym e ∙ not-true b f in rw no (λ i. record { done = false; moved = sym (moved-none n (at hs)) i }, refl)
+  -- by any way of placing that gives new holders
+  pub place-refuses : (new : List ℕ) → not b ≡ true
+      → (_≡_ {A = Placed} (record { done = false; moved = 0 }) (record { done = placeable n hs v; moved = moved n (at hs) (at (cond (placeable n hs v) new hs)) })) × (hs ≡ cond (placeable n hs v) new hs)
+  place-refuses new f = let not-may : placeable n hs v ≡ false = sym e ∙ not-true b f in rw not-may (λ i. record { done = false; moved = sym (moved-none n (at hs)) i }, refl)
 
-  pub place-places : (limit : ℕ → ℕ) (ls : List ℕ) {hs' : List ℕ} {r : ℕ} → not b ≡ false → hs' ≡ placedHolders n limit ls hs v → r ≡ moved n (at hs) (at (placedHolders n limit ls hs v))
-      → (_≡_ {A = Placed} (record { done = true; moved = r }) (placeAnswer n limit ls hs v)) × (hs' ≡ holdersAfter n limit ls hs v)
-  unfolding holdersAfter movedBy
-  place-places limit ls t h m = let may : placeable n hs v ≡ true = sym e ∙ not-false b t in rw may (λ i. record { done = true; moved = m i }, h)
+  pub place-places : {new hs' : List ℕ} {r : ℕ} → not b ≡ false → hs' ≡ new → r ≡ moved n (at hs) (at new)
+      → (_≡_ {A = Placed} (record { done = true; moved = r }) (record { done = placeable n hs v; moved = moved n (at hs) (at (cond (placeable n hs v) new hs)) })) × (hs' ≡ cond (placeable n hs v) new hs)
+  place-places t h m = let may : placeable n hs v ≡ true = sym e ∙ not-false b t in rw may (λ i. record { done = true; moved = m i }, h)
 
 -- what the test of the lent lists says, and what it takes
 pub chokeable-means : (n : ℕ) (hs : List ℕ) (room : ℕ) → chokeable n hs room ≡ true → Searchable n hs × (n ≤ room)
