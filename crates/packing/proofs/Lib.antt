@@ -10,6 +10,7 @@ pub mod Tight
 pub mod Hall
 pub mod TightPairs
 pub mod Placing
+pub mod SameKept
 pub mod Moved
 pub mod Groupings
 pub mod Below

@@ -1,7 +1,7 @@
 -- Laws of links and neighbours.
 use Prim.Native.Nat.{ℕ, _*_, _-_}
 use mathlib.Core.Path.{_≡_, refl, sym, ap, _∙_}
-use mathlib.Core.Bool.{Bool, false, _&&_, _||_, and-comm, or-comm, or-assoc}
+use mathlib.Core.Bool.{Bool, true, false, cond, _&&_, _||_, and-comm, or-comm, or-assoc}
 use mathlib.Core.List.{List, [], _∷_, _++_}
 use native.Mathlib.Omega.{arith}
 use lib.Dec.{eqb}
@@ -42,3 +42,28 @@ linked-parts m (p ∷ q ∷ rest) k x y e = rw (linked-parts (m - 1) rest k x y 
 pub linked-append : (m : ℕ) (l : List ℕ) (a b x y : ℕ) → length l ≡ 2 * m → linked (l ++ (a ∷ b ∷ [])) x y ≡ (linked l x y || joins a b x y)
 unfolding linked
 linked-append m l a b x y e = linked-parts m l (a ∷ b ∷ []) x y e ∙ ap (λ (t : Bool). linked l x y || t) (or-comm (joins a b x y) false)
+
+-- the neighbours by the first m links, and then by the rest
+neighbours-append : (m : ℕ) (l k : List ℕ) (x : ℕ) → length l ≡ 2 * m → neighbours (l ++ k) x ≡ neighbours l x ++ neighbours k x
+unfolding neighbours
+neighbours-append m [] k x e = refl
+neighbours-append m (a ∷ []) k x e = absurd (omega arith)
+neighbours-append m (a ∷ b ∷ l) k x e = rw (neighbours-append (m - 1) l k x (omega arith)) (end (eqb a x) (eqb b x))
+  where
+    end : (p q : Bool) → cond p (b ∷ (neighbours l x ++ neighbours k x)) (cond q (a ∷ (neighbours l x ++ neighbours k x)) (neighbours l x ++ neighbours k x))
+        ≡ cond p (b ∷ neighbours l x) (cond q (a ∷ neighbours l x) (neighbours l x)) ++ neighbours k x
+    end true q = refl
+    end false true = refl
+    end false false = refl
+
+-- The link a-b again, after a list of whole links that has it: what does not depend on a number that is in a list already goes by the neighbours without it.
+module _ (m : ℕ) (ls rest : List ℕ) (a b x : ℕ) (whole : length ls ≡ 2 * m) (there : linked ls a b ≡ true) where
+  pub neighbours-again : {B : Type 0} (f : List ℕ → B) → ((us ws : List ℕ) (u : ℕ) → memberOf us u ≡ true → f (us ++ u ∷ ws) ≡ f (us ++ ws))
+      → f (neighbours (ls ++ a ∷ b ∷ rest) x) ≡ f (neighbours (ls ++ rest) x)
+  unfolding neighbours
+  neighbours-again f again =
+      rw (neighbours-append m ls (a ∷ b ∷ rest) x whole, neighbours-append m ls rest x whole)
+      (by-bool (eqb a x) (λ e. rw e (again (neighbours ls x) (neighbours rest x) b (neighbours-linked ls x b ∙ (rw (eqb-true a x e) at there))))
+      (λ e.
+      by-bool (eqb b x) (λ g. rw (e, g) (again (neighbours ls x) (neighbours rest x) a (neighbours-linked ls x a ∙ linked-sym ls x a ∙ (rw (eqb-true b x g) at there))))
+      (λ g. rw (e, g))))

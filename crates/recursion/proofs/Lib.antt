@@ -2,7 +2,9 @@ pub mod Marks
 pub mod Tries
 pub mod Closed
 pub mod Freed
+pub mod Grows
 pub mod Calls
 pub mod Placing
 pub mod Loops
 pub mod Settling
+pub mod Alike

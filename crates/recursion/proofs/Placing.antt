@@ -19,14 +19,10 @@ use Rattle.search.specs.Pre.{Placeable}
 use Rattle.search.proofs.States.{unseen-start}
 use Rattle.recursion.specs.Recursion.{Try, freed, failed, tried, findHolder, search, recursiveHolders}
 use Rattle.recursion.specs.Pre.{untried}
-use Rattle.recursion.proofs.Tries.{Ended}
+use Rattle.recursion.proofs.Tries.{by-try, Ended}
 use Rattle.recursion.proofs.Closed.{Around, Closed}
 use Rattle.recursion.proofs.Freed.{FoundFor}
 use Rattle.recursion.proofs.Calls.{find-ended}
-
-pub by-try : {A : Type 0} (t : Try) → ((hs : List ℕ) → t ≡ freed hs → A) → ((marks : List ℕ) → t ≡ failed marks → A) → A
-by-try (freed hs) f g = f hs refl
-by-try (failed marks) f g = g marks refl
 
 -- n can be tried
 pub untried-start : (n : ℕ) → untried (replicate n NONE) ≤ n

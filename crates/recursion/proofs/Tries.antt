@@ -45,6 +45,10 @@ not-both e = true≢false (ap isFreed e)
     isFreed (freed hs) = true
     isFreed (failed m) = false
 
+pub by-try : {A : Type 0} (t : Try) → ((hs : List ℕ) → t ≡ freed hs → A) → ((marks : List ℕ) → t ≡ failed marks → A) → A
+by-try (freed hs) f g = f hs refl
+by-try (failed marks) f g = g marks refl
+
 -- what is known of a call by how it ended
 pub record Ended (fails frees : List ℕ → Type 0) (t : Try) : Type 0 where
   pub whenFailed : (marks : List ℕ) → t ≡ failed marks → fails marks

@@ -1,7 +1,7 @@
 -- What the choke walk reaches: from any start, what it queued and what it saw are the least pair that has the start and is closed.
 -- Where a tight pair has the start, the walk's pair is tight too. The choke set is the walk from all without holder, and gives demand 2's difference.
 use Prim.Native.Nat.{ℕ, _<_, _≤_}
-use mathlib.Core.Path.{_≡_, sym, ap, _∙_}
+use mathlib.Core.Path.{_≡_, refl, sym, ap, _∙_}
 use mathlib.Core.Bool.{Bool, true, false, not}
 use mathlib.Core.List.{List}
 use native.Mathlib.Omega.{arith}
@@ -12,10 +12,12 @@ use Rattle.packing.specs.Choke.{ChokeDifference}
 use Rattle.packing.proofs.Links.{linked-sym}
 use Rattle.packing.specs.Lists.{memberOf}
 use Rattle.packing.proofs.Tight.{Tight}
+use Rattle.packing.proofs.TightPairs.{transfer}
+use Rattle.packing.proofs.SameKept.{feasible-alike, tight-alike}
 use Rattle.packing.proofs.Barrier.{barrier-difference}
 use Rattle.search.specs.Search.{Search, seen}
 use Rattle.search.specs.Pre.{Startable}
-use Rattle.search.specs.ChokeSet.{chokeWalk, seenIn, queuedIn, walkSaw, walkQueued, inChoke}
+use Rattle.search.specs.ChokeSet.{chokeWalk, seenIn, queuedIn, walkSaw, walkQueued, withoutHolder, inChoke}
 use Rattle.search.proofs.Reach.{Exhausted, walk-exhausted, walk-runs-out, start-below}
 use Rattle.search.proofs.Unheld.{unheld-in, unheld-out, unheld-startable}
 
@@ -87,3 +89,18 @@ module _
         let s = unheld-startable n hs few in
         barrier-difference (λ x u l k e. linked-sym ls u x ∙ e) two f (walk-tight ls s t (λ v l m. left v l (unheld-out n hs v m .1)))
         (λ v l e. walk-closed ls s .starts v l (unheld-in n hs v l e))
+
+-- Other holders of the same gateways, of the same plant: the pair of the walk here is tight under them too, so their walk stays within it.
+module _
+    (n : ℕ) (ls ls' hs hs' : List ℕ) (few : n ≤ GATEWAYS) {limit : ℕ → ℕ} {R S : ℕ → Bool} (t : Tight n limit (linked ls) (at hs) R S)
+    (left : (v : ℕ) → v < n → held n (at hs) v ≡ false → R v ≡ true) (f : Feasible n limit (linked ls) (at hs)) (f' : Feasible n limit (linked ls') (at hs'))
+    (links : (x u : ℕ) → x < n → u < n → linked ls x u ≡ linked ls' x u) (same : (v : ℕ) → v < n → held n (at hs) v ≡ held n (at hs') v)
+  where
+    pub choke-within : (u : ℕ) → u < n → inChoke n ls' hs' u ≡ true → inChoke n ls hs u ≡ true
+    unfolding inChoke
+    choke-within u l =
+        let s = unheld-startable n hs few in
+        let pair = walk-tight ls s t (λ v q m. left v q (unheld-out n hs v m .1)) in
+        let there = tight-alike (λ w q. refl) links (transfer f pair (feasible-alike (λ w q. refl) (λ x w p q. sym (links x w p q)) f') (λ v q r e. sym (same v q) ∙ e)) in
+        walk-least ls' (unheld-startable n hs' few) (walkQueued n ls hs (withoutHolder n hs)) (walkSaw n ls hs (withoutHolder n hs)) 
+        (tight-closed there (λ v q m. walk-closed ls s .starts v q (unheld-in n hs v q (same v q ∙ unheld-out n hs' v m .1)))) .1 u l

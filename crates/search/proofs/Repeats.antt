@@ -10,7 +10,7 @@ use lib.ListN.{length, set}
 use borrow.Author.Tests.{eqb-true}
 use Rattle.packing.specs.Plant.{NONE, linked, neighbours}
 use Rattle.packing.proofs.Tests.{by-bool, or-cases}
-use Rattle.packing.proofs.Links.{neighbours-linked, linked-sym}
+use Rattle.packing.proofs.Links.{neighbours-again}
 use Rattle.packing.specs.Lists.{memberOf}
 use Rattle.search.specs.Search.{Search, found, more, seen, look, visit, walk, settled, placedHolders}
 use Rattle.search.specs.Pre.{Startable, Placeable}
@@ -51,32 +51,11 @@ module _ (n : ℕ) (limit : ℕ → ℕ) (hs : List ℕ) (x : ℕ) (some : x ≡
       (λ q f v. rw v (ap (visit n limit hs x ws) (look-seen n limit hs x u q f (visit-sees us u queue from v (inl m)))))
       ∙ sym (visit-append us ws (more queue from))
 
--- the neighbours by the first m links, and then by the rest
-neighbours-append : (m : ℕ) (l k : List ℕ) (x : ℕ) → length l ≡ 2 * m → neighbours (l ++ k) x ≡ neighbours l x ++ neighbours k x
-unfolding neighbours
-neighbours-append m [] k x e = refl
-neighbours-append m (a ∷ []) k x e = absurd (omega arith)
-neighbours-append m (a ∷ b ∷ l) k x e = rw (neighbours-append (m - 1) l k x (omega arith)) (end (eqb a x) (eqb b x))
-  where
-    end : (p q : Bool) → cond p (b ∷ (neighbours l x ++ neighbours k x)) (cond q (a ∷ (neighbours l x ++ neighbours k x)) (neighbours l x ++ neighbours k x))
-        ≡ cond p (b ∷ neighbours l x) (cond q (a ∷ neighbours l x) (neighbours l x)) ++ neighbours k x
-    end true q = refl
-    end false true = refl
-    end false false = refl
-
 -- The link a-b again, after a list of whole links that has it.
 module _ (n : ℕ) (limit : ℕ → ℕ) (hs : List ℕ) (m : ℕ) (ls rest : List ℕ) (a b : ℕ) (whole : length ls ≡ 2 * m) (there : linked ls a b ≡ true) where
   link-repeat : (x : ℕ) → (x ≡ NONE → ⊥) → (queue from : List ℕ)
       → visit n limit hs x (neighbours (ls ++ a ∷ b ∷ rest) x) (more queue from) ≡ visit n limit hs x (neighbours (ls ++ rest) x) (more queue from)
-  unfolding neighbours
-  link-repeat x some queue from =
-      rw (neighbours-append m ls (a ∷ b ∷ rest) x whole, neighbours-append m ls rest x whole)
-      (by-bool (eqb a x)
-      (λ e. rw e (visit-repeat n limit hs x some (neighbours ls x) (neighbours rest x) b queue from (neighbours-linked ls x b ∙ (rw (eqb-true a x e) at there))))
-      (λ e.
-      by-bool (eqb b x)
-      (λ f. rw (e, f) (visit-repeat n limit hs x some (neighbours ls x) (neighbours rest x) a queue from (neighbours-linked ls x a ∙ linked-sym ls x a ∙ (rw (eqb-true b x f) at there))))
-      (λ f. rw (e, f))))
+  link-repeat x some queue from = neighbours-again m ls rest a b x whole there (λ us. visit n limit hs x us (more queue from)) (λ us ws u. visit-repeat n limit hs x some us ws u queue from)
 
   -- the walk is the one without it
   pub walk-repeat : {start : List ℕ} → Startable n hs start → walk n limit (ls ++ a ∷ b ∷ rest) hs start ≡ walk n limit (ls ++ rest) hs start

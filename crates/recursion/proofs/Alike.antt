@@ -1,0 +1,127 @@
+-- Searches that are the same: by another number of calls that is enough, by limits that are equal for every gateway, with a link listed once more.
+use Prim.Native.Nat.{ℕ, zero, suc, _+_, _*_, _<_, _≤_}
+use mathlib.Core.Path.{_≡_, refl, sym, ap, _∙_}
+use mathlib.Core.Bool.{Bool, true, false, cond}
+use mathlib.Core.List.{List, [], _∷_, _++_}
+use native.Mathlib.Omega.{arith}
+use lib.Dec.{ltb}
+use lib.ListN.{length, length-set, replicate, length-replicate}
+use Rattle.packing.specs.Lists.{memberOf}
+use Rattle.packing.specs.Plant.{NONE, GATEWAYS, at, common, linked, neighbours}
+use Rattle.packing.specs.Holders.{holds}
+use Rattle.packing.proofs.Tests.{by-bool}
+use Rattle.packing.proofs.Links.{neighbours-again}
+use Rattle.search.specs.Search.{heldBy, placeable}
+use Rattle.search.specs.Pre.{Placeable}
+use Rattle.search.proofs.Limits.{same-limits}
+use Rattle.search.proofs.Tested.{placeable-holds}
+use Rattle.recursion.specs.Recursion.{Try, freed, failed, tried, mark, orElse, tryEach, takes, unlessTried, findHolder, freePlace, search, settled, recursiveHolders, recursiveAfter}
+use Rattle.recursion.specs.Pre.{untried}
+use Rattle.recursion.specs.Enough.{EnoughCalls}
+use Rattle.recursion.specs.Twice.{RecursiveFirst}
+use Rattle.recursion.proofs.Marks.{untried-below, untried-falls, Grown, grown-fewer}
+use Rattle.recursion.proofs.Tries.{by-try, Ended, ended-takes}
+use Rattle.recursion.proofs.Grows.{Growing, each-tried, unless-grows, find-grows, free-grows}
+use Rattle.recursion.proofs.Placing.{untried-start}
+
+-- Two attempts that are the same with marks that have Inv, which a failed one keeps, are the same one after the other.
+module _ (f g : ℕ → List ℕ → Try) (Inv : List ℕ → Type 0) (same : (x : ℕ) (marks : List ℕ) → Inv marks → f x marks ≡ g x marks) (keeps : (x : ℕ) (marks : List ℕ) → Inv marks → Ended Inv (λ hs. Unit {0}) (f x marks)) where
+  pub each-alike : (xs marks : List ℕ) → Inv marks → tryEach f xs marks ≡ tryEach g xs marks
+  unfolding tryEach
+  each-alike [] marks i = refl
+  each-alike (x ∷ xs) marks i =
+      by-try (f x marks) (λ hs e. rw (← same x marks i, e))
+      (λ next e. rw (← same x marks i, e) (each-alike xs next (keeps x marks i .whenFailed next e)))
+
+-- .. where each is passed by or marked first
+module _
+    (f g : ℕ → List ℕ → Try) (Inv : List ℕ → Type 0) (grows : Growing f)
+    (same : (u : ℕ) (marks : List ℕ) → Inv marks → tried marks u ≡ false → f u (mark marks u) ≡ g u (mark marks u)) (later : (a b : List ℕ) → Grown a b → Inv a → Inv b)
+  where
+    pub unless-alike : (us marks : List ℕ) → Inv marks → tryEach (unlessTried f) us marks ≡ tryEach (unlessTried g) us marks
+    unless-alike =
+        each-alike (unlessTried f) (unlessTried g) Inv (λ u marks i. by-bool (tried marks u) (λ e. rw e) (λ e. rw e (same u marks i e)))
+        (λ u marks i. record { whenFailed = λ end e. later marks end (unless-grows f grows u marks .whenFailed end e .0) i; whenFreed = λ hs e. tt })
+
+takes-grows : (v : ℕ) (f : ℕ → List ℕ → Try) → Growing f → Growing (λ u marks. takes v u (f u marks))
+takes-grows v f grows u marks = ended-takes v u (f u marks) (grows u marks) (λ end g. g) (λ hs t. t)
+
+-- Enough calls.
+module _ (n : ℕ) (limit : ℕ → ℕ) (ls hs : List ℕ) where
+  enough : (j k : ℕ)
+      → ((v : ℕ) (marks : List ℕ) → 2 * untried marks + 1 ≤ j → 2 * untried marks + 1 ≤ k → findHolder j n limit ls hs v marks ≡ findHolder k n limit ls hs v marks)
+      × ((u : ℕ) (marks : List ℕ) → 2 * untried marks + 2 ≤ j → 2 * untried marks + 2 ≤ k → freePlace j n limit ls hs u marks ≡ freePlace k n limit ls hs u marks)
+  unfolding findHolder freePlace
+  enough zero k = ((λ v marks l m. absurd (omega arith)), λ u marks l m. absurd (omega arith))
+  enough (suc j) zero = ((λ v marks l m. absurd (omega arith)), λ u marks l m. absurd (omega arith))
+  enough (suc j) (suc k) =
+      let (find, free) = enough j k in (
+        (λ v marks l m.
+        unless-alike (λ u now. takes v u (freePlace j n limit ls hs u now)) (λ u now. takes v u (freePlace k n limit ls hs u now)) (λ now. untried now ≤ untried marks)
+        (takes-grows v (λ u now. freePlace j n limit ls hs u now) (free-grows n limit ls hs j))
+        (λ u now i e. ap (takes v u) (free u (mark now u) (omega (arith, untried-falls now u e)) (omega (arith, untried-falls now u e)))) (λ a b g i. omega (arith, grown-fewer g)) (neighbours ls v) marks (omega arith)),
+        λ u marks l m.
+        ap (cond (ltb (holds n (at hs) u) (limit u)) (freed hs))
+        (each-alike (λ x now. findHolder j n limit ls hs x now) (λ x now. findHolder k n limit ls hs x now) (λ now. untried now ≤ untried marks)
+        (λ x now i. find x now (omega arith) (omega arith))
+        (λ x now i. record { whenFailed = λ end e. omega (arith, grown-fewer (find-grows n limit ls hs j x now .whenFailed end e)); whenFreed = λ hs e. tt }) (heldBy n hs u) marks (omega arith)),
+      )
+
+pub enough-calls : EnoughCalls
+unfolding EnoughCalls search
+enough-calls calls n limit ls hs v l = enough n limit ls hs calls (suc (2 * n)) .0 v (replicate n NONE) (omega (arith, untried-start n)) (omega (arith, untried-start n))
+
+-- Other limits and links: u's limit is looked at for gateways only, and what is gone through may be other neighbours that give the same.
+module _
+    (n : ℕ) (limit limit' : ℕ → ℕ) (ls ls' hs : List ℕ) (limits : (u : ℕ) → u < n → limit u ≡ limit' u)
+    (links : (attempt : ℕ → List ℕ → Try) → Growing attempt → (v : ℕ) (marks : List ℕ) → tryEach (unlessTried attempt) (neighbours ls v) marks ≡ tryEach (unlessTried attempt) (neighbours ls' v) marks)
+  where
+    alike : (calls : ℕ)
+        → ((v : ℕ) (marks : List ℕ) → length marks ≡ n → findHolder calls n limit ls hs v marks ≡ findHolder calls n limit' ls' hs v marks)
+        × ((u : ℕ) (marks : List ℕ) → length marks ≡ n → u < n → freePlace calls n limit ls hs u marks ≡ freePlace calls n limit' ls' hs u marks)
+    unfolding findHolder freePlace
+    alike zero = ((λ v marks long. refl), λ u marks long l. refl)
+    alike (suc calls) =
+        let (find, free) = alike calls in (
+          (λ v marks long.
+          unless-alike (λ u now. takes v u (freePlace calls n limit ls hs u now)) (λ u now. takes v u (freePlace calls n limit' ls' hs u now)) (λ now. length now ≡ n)
+          (takes-grows v (λ u now. freePlace calls n limit ls hs u now) (free-grows n limit ls hs calls))
+          (λ u now i e. ap (takes v u) (free u (mark now u) (length-set now u 0 ∙ i) (rw (← i) (untried-below now u e)))) (λ a b g i. g .long ∙ i) (neighbours ls v) marks long
+          ∙ links (λ u now. takes v u (freePlace calls n limit' ls' hs u now)) (takes-grows v (λ u now. freePlace calls n limit' ls' hs u now) (free-grows n limit' ls' hs calls)) v marks),
+          λ u marks long l.
+          rw (limits u l)
+          (ap (cond (ltb (holds n (at hs) u) (limit' u)) (freed hs))
+          (each-alike (λ x now. findHolder calls n limit ls hs x now) (λ x now. findHolder calls n limit' ls' hs x now) (λ now. length now ≡ n)
+          (λ x now i. find x now i) (λ x now i. record { whenFailed = λ end e. find-grows n limit ls hs calls x now .whenFailed end e .long ∙ i; whenFreed = λ hs e. tt }) (heldBy n hs u) marks long)),
+        )
+
+    pub holders-alike : (v : ℕ) → recursiveHolders n limit ls hs v ≡ recursiveHolders n limit' ls' hs v
+    unfolding recursiveHolders search
+    holders-alike v = ap (settled hs) (alike (suc (2 * n)) .0 v (replicate n NONE) (length-replicate n NONE))
+
+-- a call with a list of limits that are all t places by the common limit
+pub recursive-common : {n : ℕ} (t : ℕ) (ls : List ℕ) {hs : List ℕ} {v : ℕ} → Placeable n hs v → recursiveAfter n (at (replicate GATEWAYS t)) ls hs v ≡ recursiveHolders n (common t) ls hs v
+unfolding recursiveAfter
+recursive-common {n} t ls {hs} {v} p =
+    rw (placeable-holds p) (holders-alike n (at (replicate GATEWAYS t)) (common t) ls ls hs (same-limits t (p .few)) (λ attempt grows x marks. refl) v)
+
+-- "A link listed twice .. counts where it first stands": a neighbour that was gone through is tried, and trying it again changes nothing.
+each-append : (f : ℕ → List ℕ → Try) (xs ys marks : List ℕ) → tryEach f (xs ++ ys) marks ≡ orElse (tryEach f xs marks) (tryEach f ys)
+unfolding tryEach
+each-append f [] ys marks = refl
+each-append f (x ∷ xs) ys marks = by-try (f x marks) (λ hs e. rw e) (λ next e. rw e (each-append f xs ys next))
+
+each-again : (f : ℕ → List ℕ → Try) → Growing f → (us ws : List ℕ) (u : ℕ) (marks : List ℕ) → memberOf us u ≡ true
+    → tryEach (unlessTried f) (us ++ u ∷ ws) marks ≡ tryEach (unlessTried f) (us ++ ws) marks
+unfolding tryEach
+each-again f grows us ws u marks m =
+    each-append (unlessTried f) us (u ∷ ws) marks
+    ∙ by-try (tryEach (unlessTried f) us marks) (λ hs e. rw e) (λ end e. rw (e, each-tried f grows us marks .whenFailed end e .1 u m))
+    ∙ sym (each-append (unlessTried f) us ws marks)
+
+pub recursive-first : RecursiveFirst
+unfolding RecursiveFirst recursiveAfter
+recursive-first m ls rest a b whole there n limit hs v =
+    ap (λ (new : List ℕ). cond (placeable n hs v) new hs)
+    (holders-alike n limit limit (ls ++ a ∷ b ∷ rest) (ls ++ rest) hs (λ u l. refl)
+    (λ attempt grows x marks. neighbours-again m ls rest a b x whole there (λ us. tryEach (unlessTried attempt) us marks) (λ us ws u. each-again attempt grows us ws u marks)) v)
