@@ -1,15 +1,15 @@
 -- How many gateways a change of holders moves.
 use Prim.Native.Nat.{ℕ, suc, _+_, _<_, _≤_}
 use mathlib.Core.Path.{_≡_, refl, sym, ap, _∙_}
-use mathlib.Core.Bool.{Bool, not, _&&_, _||_, and-comm, and-false}
+use mathlib.Core.Bool.{Bool, true, false, not, _&&_, _||_, and-comm, and-false}
 use native.Mathlib.Omega.{arith}
 use lib.Dec.{eqb}
 use borrow.Author.Tests.{eqb-false, eq-eqb, ne-eqb}
 use Rattle.packing.specs.Count.{pick, count}
 use Rattle.packing.specs.Holders.{held}
 use Rattle.packing.specs.Moved.{Kept, moved, differs, differing, LeastMoved, Fewest}
-use Rattle.packing.proofs.Tests.{by-bool, and-r, not-i, not-i-false}
-use Rattle.packing.proofs.Sums.{sum-ext, sum-single, pick-and, count-mono, count-ext, count-split, count-none, count-bound}
+use Rattle.packing.proofs.Tests.{by-bool, clash, and-r, not-i, not-i-false}
+use Rattle.packing.proofs.Sums.{sum-ext, sum-single, pick-and, count-mono, count-ext, count-split, count-none, count-some, count-bound}
 
 -- A count below n is one at x and those at other places.
 pub count-point : (n : ℕ) (p : ℕ → Bool) (x : ℕ) → x < n → count n p ≡ pick (p x) 1 + count n (λ i. p i && not (eqb x i))
@@ -23,6 +23,13 @@ count-point n p x l =
 pub moved-none : (n : ℕ) (h : ℕ → ℕ) → moved n h h ≡ 0
 unfolding moved
 moved-none n h = count-none n (λ w. not (eqb (h w) (h w))) (λ w l. not-i-false (eqb (h w) (h w)) (eq-eqb (h w) (h w) refl))
+
+-- one that is held and was not is counted
+pub new-moved : (n : ℕ) (h h' : ℕ → ℕ) (v : ℕ) → v < n → held n h v ≡ false → held n h' v ≡ true → (h v ≡ h' v → ⊥) × (1 ≤ moved n h h')
+unfolding moved
+new-moved n h h' v l before after =
+    let other : h v ≡ h' v → ⊥ = λ q. clash (held n h v) (rw q after) before in
+    (other, count-some n (λ w. not (eqb (h w) (h' w))) v l (not-i _ (ne-eqb (h v) (h' v) other)))
 
 pub moved-bound : (n : ℕ) (h h' : ℕ → ℕ) → moved n h h' ≤ n
 unfolding moved

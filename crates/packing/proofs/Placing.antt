@@ -10,8 +10,9 @@ use lib.ListN.{length, drop}
 use borrow.Author.Tests.{eq-eqb, ne-eqb, ltb-true, ltb-false}
 use Rattle.packing.specs.Plant.{at}
 use Rattle.packing.specs.Holders.{held, Feasible}
-use Rattle.packing.specs.Moved.{Kept}
+use Rattle.packing.specs.Moved.{Kept, moved}
 use Rattle.packing.proofs.Tests.{by-bool, clash, below-suc, or-l, or-r, or-none, or-false-l}
+use Rattle.packing.proofs.Moved.{moved-none}
 use Rattle.packing.proofs.Tight.{Tight, Blocked}
 use Rattle.packing.proofs.TightPairs.{transfer-blocked}
 use Rattle.packing.proofs.Prefixes.{IsOrder, Among, order-place}
@@ -35,6 +36,11 @@ pub record PlacedIn (n : ℕ) (limit : ℕ → ℕ) (adj : ℕ → ℕ → Bool)
   pub long : length hs' ≡ length hs
   pub past : drop n hs' ≡ drop n hs
   pub entries : (w : ℕ) → w < n → (at hs' w ≡ at hs w) ⊎ (at hs' w < n)
+
+-- whoever is left by a placing has moved nobody
+pub left-moves-none : {n : ℕ} {limit : ℕ → ℕ} {adj : ℕ → ℕ → Bool} {h h' : ℕ → ℕ} {v : ℕ} → Placing n limit adj h h' v → v < n → held n h' v ≡ false → moved n h h' ≡ 0
+left-moves-none {n} {h = h} {h'} {v} p l e =
+    ⊎-elim (λ kept. clash (held n h' v) (kept .holding v l ∙ or-r (held n h v) (eqb v v) (eq-eqb v v refl)) e) (λ left. rw (left .unchanged) (moved-none n h)) p
 
 -- The first k of the order are placed: the holders are feasible, nobody from place k on is held, and each placed gateway without holder has its pair.
 pub record Standing (n : ℕ) (limit : ℕ → ℕ) (adj : ℕ → ℕ → Bool) (order : ℕ → ℕ) (h : ℕ → ℕ) (k : ℕ) : Type 0 where

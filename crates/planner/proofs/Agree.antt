@@ -13,7 +13,7 @@ use Rattle.sound.proofs.Orders.{order-right}
 use Rattle.planner.specs.declared.Small.{Small}
 use Rattle.planner.specs.Refusals.{openRefusal}
 use Rattle.planner.specs.State.{State, stateOf, limitOf, soundState}
-use Rattle.planner.specs.Calls.{opened, openCall, Call, link, order, place, read, conditions, callRefusal, changed, call}
+use Rattle.planner.specs.Calls.{opened, openCall, Call, link, order, placeBy, read, conditions, callRefusal, changed, call}
 use Rattle.planner.specs.Told.{Told, beginning, refuses, accepted, tellOne, tell, toldNumbers}
 use Rattle.planner.specs.Run.{afterOpen, run, runNumbers}
 use Rattle.planner.proofs.Conditions.{sound-number, open-allowed, link-allowed, order-allowed, place-allowed}
@@ -75,8 +75,8 @@ module _ (p : Told) (ls os hs : List ℕ) (a : Agrees p (stateTold p ls os hs)) 
         order = λ i l. written-at (p .n) numbers os (f .1) i l;
         made = made-order (a .made) numbers (f .0) (f .1) (order-right (p .n) numbers (f .2));
       }
-  accepted-told place z =
-      record { small = refl; limits = a .limits; links = a .links; room = a .room; order = a .order; made = made-place (a .made) (place-allowed (p .n) (p .placed) z) }
+  accepted-told (placeBy w) z =
+      record { small = refl; limits = a .limits; links = a .links; room = a .room; order = a .order; made = made-place (a .made) (place-allowed (p .n) (p .placed) z) w }
   accepted-told (read leaders choke) z = a
 
   -- one call, accepted or refused

@@ -14,7 +14,7 @@ use Rattle.planner.specs.Refusals.{openRefusal, linkConditions, placeCon
 use Rattle.planner.specs.State.{State}
 use Rattle.planner.specs.Calls.{read, readLeaders, readChoke}
 use Rattle.planner.specs.Told.{Told, beginning, refuses, accepted, tellOne, tell}
-use Rattle.planner.specs.Run.{linkCalls, placeCalls}
+use Rattle.planner.specs.Run.{linkCalls, placeCallsBy, placeCalls}
 use Rattle.planner.specs.Claims.{toldBy, AnyRead, OnlyPlacedCovered, UnplacedMayBeCovered, DifferenceIsAlone, DifferenceMayBeOff}
 use Rattle.planner.specs.Cases.{stands, star, after, leadersOf, chokeOf, early}
 use Rattle.planner.proofs.Table.{early-case}
@@ -24,7 +24,7 @@ starTold : Told
 starTold = record { n = 5; t = 3; limit = common 3; room = 8; links = star .links; m = 4; order = 0 ∷ 1 ∷ 2 ∷ 3 ∷ 4 ∷ []; placed = 1 }
 
 star-told : toldBy 5 3 (replicate 8 0) (linkCalls (star .links) ++ star .ordering ++ placeCalls 1) ≡ starTold
-unfolding starTold star linkCalls placeCalls beginning tell tellOne refuses accepted linkConditions placeConditions linked upTo listOf
+unfolding starTold star linkCalls placeCallsBy beginning tell tellOne refuses accepted linkConditions placeConditions linked upTo listOf
 star-told = refl
 
 read-fine : refuses starTold (read (replicate 5 0) (replicate 5 0)) ≡ 0

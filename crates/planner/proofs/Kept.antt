@@ -11,40 +11,40 @@ use Rattle.packing.specs.Plant.{at, linked}
 use Rattle.packing.specs.Holders.{held}
 use Rattle.packing.specs.Refusals.{byNumber}
 use Rattle.packing.proofs.Tests.{or-l, or-cases}
-use Rattle.packing.proofs.Placing.{Placing}
-use Rattle.search.proofs.Placing.{place-is}
+use Rattle.packing.proofs.Placing.{PlacedIn}
 use Rattle.planner.specs.declared.Small.{Small}
 use Rattle.planner.specs.State.{State, linksOf, limitOf}
-use Rattle.planner.specs.Calls.{Call, link, order, place, read, conditions, callRefusal, changed, call}
+use Rattle.planner.specs.Calls.{Way, Call, link, order, placeBy, read, conditions, callRefusal, changed, call}
 use Rattle.planner.specs.Told.{Told, refuses, accepted, tellOne}
 use Rattle.planner.specs.Run.{afterOpen, run}
 use Rattle.planner.specs.Claims.{toldBy, madeBy}
 use Rattle.planner.specs.Kept.{heldIn, PlacingKeeps, OthersKeep, HeldSince}
 use Rattle.planner.proofs.Conditions.{order-allowed, place-allowed}
+use Rattle.planner.proofs.Ways.{ways-place}
 use Rattle.planner.proofs.Next.{next-placeable}
 use Rattle.planner.proofs.Records.{accepted-sound}
 use Rattle.planner.proofs.Agree.{Agrees, run-append, call-agrees, run-agrees, open-agrees}
 use Rattle.planner.proofs.Demands.{tells-n}
 
 -- an accepted placing is a way of placing the next
-placing-of : (s : State) → callRefusal s place ≡ 0
-    → Placing (s .small .n) (limitOf s) (linked (linksOf s)) (at (s .holders)) (at (changed s place .holders)) (at (s .order) (s .small .k))
+pub placing-of : (s : State) (w : Way) → callRefusal s (placeBy w) ≡ 0
+    → PlacedIn (s .small .n) (limitOf s) (linked (linksOf s)) (s .holders) (changed s (placeBy w) .holders) (at (s .order) (s .small .k))
 unfolding changed conditions limitOf
-placing-of s z =
-    let (sound, next) = accepted-sound s place z in
-    place-is (limitOf s) (linksOf s) (next-placeable s sound (place-allowed (s .small .n) (s .small .k) next)) (sound .feasible)
+placing-of s w z =
+    let (sound, next) = accepted-sound s (placeBy w) z in
+    ways-place w (limitOf s) (linksOf s) (next-placeable s sound (place-allowed (s .small .n) (s .small .k) next)) (sound .feasible)
 
 -- who is held after it: those held before, and the next if it is kept
-held-after : (s : State) → callRefusal s place ≡ 0 → (v : ℕ) → v < s .small .n
-    → (held (s .small .n) (at (changed s place .holders)) v ≡ heldIn s v) ⊎ (held (s .small .n) (at (changed s place .holders)) v ≡ (heldIn s v || eqb v (at (s .order) (s .small .k))))
-held-after s z v l = ⊎-elim (λ kept. inr (kept .holding v l)) (λ left. inl (ap (λ (h : ℕ → ℕ). held (s .small .n) h v) (left .unchanged))) (placing-of s z)
+held-after : (s : State) (w : Way) → callRefusal s (placeBy w) ≡ 0 → (v : ℕ) → v < s .small .n
+    → (held (s .small .n) (at (changed s (placeBy w) .holders)) v ≡ heldIn s v) ⊎ (held (s .small .n) (at (changed s (placeBy w) .holders)) v ≡ (heldIn s v || eqb v (at (s .order) (s .small .k))))
+held-after s w z v l = ⊎-elim (λ kept. inr (kept .holding v l)) (λ left. inl (ap (λ (h : ℕ → ℕ). held (s .small .n) h v) (left .unchanged))) (placing-of s w z .placing)
 
 pub placing-keeps : PlacingKeeps
 unfolding PlacingKeeps call changed
-placing-keeps s z v l =
+placing-keeps s w z v l =
     rw z (
-      λ e. ⊎-elim (λ q. q ∙ e) (λ q. q ∙ or-l (heldIn s v) (eqb v (at (s .order) (s .small .k))) e) (held-after s z v l),
-      λ e. ⊎-elim (λ q. inl (sym q ∙ e)) (λ q. ⊎-elim (λ h. inl h) (λ h. inr (eqb-true _ _ h)) (or-cases (heldIn s v) (eqb v (at (s .order) (s .small .k))) (sym q ∙ e))) (held-after s z v l),
+      λ e. ⊎-elim (λ q. q ∙ e) (λ q. q ∙ or-l (heldIn s v) (eqb v (at (s .order) (s .small .k))) e) (held-after s w z v l),
+      λ e. ⊎-elim (λ q. inl (sym q ∙ e)) (λ q. ⊎-elim (λ h. inl h) (λ h. inr (eqb-true _ _ h)) (or-cases (heldIn s v) (eqb v (at (s .order) (s .small .k))) (sym q ∙ e))) (held-after s w z v l),
     )
 
 pub others-keep : OthersKeep
@@ -67,7 +67,7 @@ order-stays p c some = by c (refuses p c) refl
     by : (c : Call) (e : ℕ) → refuses p c ≡ e → byNumber e (accepted p c) p .order ≡ p .order
     by (link a b) zero z = refl
     by (order numbers) zero z = absurd (omega (arith, order-allowed (p .n) (p .placed) numbers refl z .0))
-    by place zero z = refl
+    by (placeBy w) zero z = refl
     by (read leaders choke) zero z = refl
     by c (suc e) z = refl
 
@@ -78,7 +78,7 @@ placed-rises p c = by c (refuses p c)
     by : (c : Call) (e : ℕ) → p .placed ≤ byNumber e (accepted p c) p .placed
     by (link a b) zero = omega arith
     by (order numbers) zero = omega arith
-    by place zero = omega arith
+    by (placeBy w) zero = omega arith
     by (read leaders choke) zero = omega arith
     by c (suc e) = omega arith
 
@@ -106,15 +106,15 @@ since-one {p} {s} a c i l = by c (callRefusal s c) refl
     below : at (p .order) i < s .small .n
     below = rw same (a .made .sound .order .below i inside)
 
-    other : callRefusal s place ≡ 0 → eqb (at (p .order) i) (at (s .order) (s .small .k)) ≡ false
-    other z =
-        let next = place-allowed (s .small .n) (s .small .k) (accepted-sound s place z .1) in
+    other : (w : Way) → callRefusal s (placeBy w) ≡ 0 → eqb (at (p .order) i) (at (s .order) (s .small .k)) ≡ false
+    other w z =
+        let next = place-allowed (s .small .n) (s .small .k) (accepted-sound s (placeBy w) z .1) in
         ne-eqb (at (p .order) i) (at (s .order) (s .small .k)) (λ e. absurd (omega (arith, placed, a .made .sound .order .once i (s .small .k) inside (omega (arith, a .made .sound .placed)) (sym same ∙ e))))
 
     by : (c : Call) (e : ℕ) → callRefusal s c ≡ e → heldIn (byNumber e (changed s c) s) (at (p .order) i) ≡ heldIn s (at (p .order) i)
     by (link a b) zero z = refl
     by (order numbers) zero z = refl
-    by place zero z = ⊎-elim (λ q. q) (λ q. q ∙ or-not _ _ (other z)) (held-after s z (at (p .order) i) below)
+    by (placeBy w) zero z = ⊎-elim (λ q. q) (λ q. q ∙ or-not _ _ (other w z)) (held-after s w z (at (p .order) i) below)
     by (read leaders choke) zero z = refl
     by c (suc e) z = refl
 

@@ -14,7 +14,7 @@ use Rattle.packing.proofs.Prefixes.{blocked-holders, blocked-groupings}
 use Rattle.packing.proofs.Placing.{Left, still-held, kept-held, left-blocked}
 use Rattle.stars.specs.Stars.{leaderList}
 use Rattle.planner.specs.State.{State, linksOf, limitOf}
-use Rattle.planner.specs.Calls.{place, changed, call}
+use Rattle.planner.specs.Calls.{Way, placeBy, changed, call}
 use Rattle.planner.specs.Told.{Told, refuses}
 use Rattle.planner.specs.Claims.{GroupingTold, BeforePlacing, NextLeft, CoversKept, LeftExactly, LeftExactlyOf, LeftExactlyByHolders, LeftExactlyByHoldersOf}
 use Rattle.planner.proofs.Conditions.{place-next}
@@ -28,61 +28,61 @@ abbrev KeptAnd : (n k : ℕ) (order h : ℕ → ℕ) (cover : ℕ → Bool) → 
 KeptAnd n k order h cover = (cover (order k) ≡ true) × ((i : ℕ) → i < k → held n h (order i) ≡ true → cover (order i) ≡ true)
 
 -- the next placing of a record made by accepted calls
-module _ {s : State} (made : Made s) (more : s .small .k < s .small .n) where
+module _ {s : State} (made : Made s) (more : s .small .k < s .small .n) (w : Way) where
   next : s .small .k ≡ s .small .n → ⊥
   next e = omega arith
 
   -- the next, once placed, is left: the placing is one that leaves it
-  left-when : held (s .small .n) (at (changed s place .holders)) (at (s .order) (s .small .k)) ≡ false
-      → Left (s .small .n) (limitOf s) (linked (linksOf s)) (at (s .holders)) (at (changed s place .holders)) (at (s .order) (s .small .k))
-  left-when e = ⊎-elim (λ kept. clash (held (s .small .n) (at (changed s place .holders)) (at (s .order) (s .small .k))) (kept-held (made .standing) more kept) e) (λ left. left) (next-placing made next)
+  left-when : held (s .small .n) (at (changed s (placeBy w) .holders)) (at (s .order) (s .small .k)) ≡ false
+      → Left (s .small .n) (limitOf s) (linked (linksOf s)) (at (s .holders)) (at (changed s (placeBy w) .holders)) (at (s .order) (s .small .k))
+  left-when e = ⊎-elim (λ kept. clash (held (s .small .n) (at (changed s (placeBy w) .holders)) (at (s .order) (s .small .k))) (kept-held (made .standing) more kept) e) (λ left. left) (next-placing made next w .placing)
 
   next-unheld : held (s .small .n) (at (s .holders)) (at (s .order) (s .small .k)) ≡ false
   next-unheld = made .standing .unplaced (s .small .k) (omega arith) more
 
-  left-holders : held (s .small .n) (at (changed s place .holders)) (at (s .order) (s .small .k)) ≡ false
+  left-holders : held (s .small .n) (at (changed s (placeBy w) .holders)) (at (s .order) (s .small .k)) ≡ false
       → (h : ℕ → ℕ) → Feasible (s .small .n) (limitOf s) (linked (linksOf s)) h → KeptAnd (s .small .n) (s .small .k) (at (s .order)) (at (s .holders)) (held (s .small .n) h) → ⊥
   left-holders e h f c =
       blocked-holders (s .small .k) (made .standing .ordered) more (left-blocked (made .standing) more (left-when e)) (made .standing .feasible) next-unheld f (c .0) (c .1)
 
-  left-groupings : held (s .small .n) (at (changed s place .holders)) (at (s .order) (s .small .k)) ≡ false
+  left-groupings : held (s .small .n) (at (changed s (placeBy w) .holders)) (at (s .order) (s .small .k)) ≡ false
       → (g : ℕ → ℕ) → Grouping (s .small .n) (limitOf s) (linked (linksOf s)) g → KeptAnd (s .small .n) (s .small .k) (at (s .order)) (at (s .holders)) (covered g) → ⊥
   left-groupings e g group c =
       let sound = made .sound in
       blocked-groupings (s .small .k) (made .standing .ordered) more (left-blocked (made .standing) more (left-when e)) (made .standing .feasible) next-unheld g (links-symmetric sound) (links-loopless sound) (limit-one sound) group (c .0) (c .1)
 
   -- a kept one is held together with all kept before it, and the reading of these holders covers them
-  kept-together : held (s .small .n) (at (changed s place .holders)) (at (s .order) (s .small .k)) ≡ true
-      → KeptAnd (s .small .n) (s .small .k) (at (s .order)) (at (s .holders)) (held (s .small .n) (at (changed s place .holders)))
-  kept-together e = (e, λ i l h. still-held (made .standing) more (next-placing made next) (at (s .order) i) (made .standing .ordered .below i (omega arith)) h)
+  kept-together : held (s .small .n) (at (changed s (placeBy w) .holders)) (at (s .order) (s .small .k)) ≡ true
+      → KeptAnd (s .small .n) (s .small .k) (at (s .order)) (at (s .holders)) (held (s .small .n) (at (changed s (placeBy w) .holders)))
+  kept-together e = (e, λ i l h. still-held (made .standing) more (next-placing made next w .placing) (at (s .order) i) (made .standing .ordered .below i (omega arith)) h)
 
-  kept-covered : held (s .small .n) (at (changed s place .holders)) (at (s .order) (s .small .k)) ≡ true
-      → KeptAnd (s .small .n) (s .small .k) (at (s .order)) (at (s .holders)) (covered (leaderList (s .small .n) (s .order) (changed s place .holders)))
+  kept-covered : held (s .small .n) (at (changed s (placeBy w) .holders)) (at (s .order) (s .small .k)) ≡ true
+      → KeptAnd (s .small .n) (s .small .k) (at (s .order)) (at (s .holders)) (covered (leaderList (s .small .n) (s .order) (changed s (placeBy w) .holders)))
   unfolding changed
   kept-covered e =
-      let cover = leaders-cover (made-place made next .sound) in
+      let cover = leaders-cover (made-place made next w .sound) in
       let together = kept-together e in (
         cover _ (made .standing .ordered .below (s .small .k) more) e,
         λ i l h. cover (at (s .order) i) (made .standing .ordered .below i (omega arith)) (together .1 i l h),
       )
 
   -- the holders after it are feasible, and their reading a grouping
-  feasible-after : Feasible (s .small .n) (limitOf s) (linked (linksOf s)) (at (changed s place .holders))
+  feasible-after : Feasible (s .small .n) (limitOf s) (linked (linksOf s)) (at (changed s (placeBy w) .holders))
   unfolding changed limitOf
-  feasible-after = made-place made next .standing .feasible
+  feasible-after = made-place made next w .standing .feasible
 
-  grouping-after : Grouping (s .small .n) (limitOf s) (linked (linksOf s)) (leaderList (s .small .n) (s .order) (changed s place .holders))
+  grouping-after : Grouping (s .small .n) (limitOf s) (linked (linksOf s)) (leaderList (s .small .n) (s .order) (changed s (placeBy w) .holders))
   unfolding changed limitOf
-  grouping-after = sound-grouping (made-place made next .sound)
+  grouping-after = sound-grouping (made-place made next w .sound)
 
 -- .. of one with the small part told
-module _ (p : Told) (ls os hs : List ℕ) (a : Agrees p (stateTold p ls os hs)) (more : p .placed < p .n) where
+module _ (w : Way) (p : Told) (ls os hs : List ℕ) (a : Agrees p (stateTold p ls os hs)) (more : p .placed < p .n) where
   after : List ℕ
-  after = changed (stateTold p ls os hs) place .holders
+  after = changed (stateTold p ls os hs) (placeBy w) .holders
 
-  holders-after : call (stateTold p ls os hs) place .state .holders ≡ after
+  holders-after : call (stateTold p ls os hs) (placeBy w) .state .holders ≡ after
   unfolding call after refuses
-  holders-after = rw (same-number a place ∙ sym (place-next (p .n) (p .placed) (λ e. omega arith)))
+  holders-after = rw (same-number a (placeBy w) ∙ sym (place-next (p .n) (p .placed) (λ e. omega arith)))
 
   by-own-order : (cover : ℕ → Bool) → CoversKept (p .n) p (stateTold p ls os hs) cover → KeptAnd (p .n) (p .placed) (at os) (at hs) cover
   by-own-order cover c = (rw (a .order (p .placed) more) (c .0), λ i l e. rw (a .order i (omega arith)) (c .1 i l (rw (a .order i (omega arith)) at e)))
@@ -90,29 +90,29 @@ module _ (p : Told) (ls os hs : List ℕ) (a : Agrees p (stateTold p ls os hs)) 
   by-told-order : (cover : ℕ → Bool) → KeptAnd (p .n) (p .placed) (at os) (at hs) cover → CoversKept (p .n) p (stateTold p ls os hs) cover
   by-told-order cover c = (rw (a .order (p .placed) more) at (c .0), λ i l e. rw (a .order i (omega arith)) at (c .1 i l (rw (a .order i (omega arith)) e)))
 
-  next-same : held (p .n) (at (call (stateTold p ls os hs) place .state .holders)) (at (p .order) (p .placed)) ≡ held (p .n) (at after) (at os (p .placed))
+  next-same : held (p .n) (at (call (stateTold p ls os hs) (placeBy w) .state .holders)) (at (p .order) (p .placed)) ≡ held (p .n) (at after) (at os (p .placed))
   next-same = rw (holders-after, a .order (p .placed) more)
 
-  exactly-groupings : NextLeft (p .n) p (stateTold p ls os hs) ↔ ((g : ℕ → ℕ) → GroupingTold (p .n) p g → CoversKept (p .n) p (stateTold p ls os hs) (covered g) → ⊥)
+  exactly-groupings : NextLeft w (p .n) p (stateTold p ls os hs) ↔ ((g : ℕ → ℕ) → GroupingTold (p .n) p g → CoversKept (p .n) p (stateTold p ls os hs) (covered g) → ⊥)
   unfolding after
   exactly-groupings = (
-    λ e g group c. left-groupings (a .made) more (sym next-same ∙ e) g
+    λ e g group c. left-groupings (a .made) more w (sym next-same ∙ e) g
         (rw (a .links) (grouping-limits (p .n) (p .limit) (limitOf (stateTold p ls os hs)) (linked (p .links)) (λ u l. sym (a .limits u l)) g group)) (by-own-order (covered g) c),
     λ no. next-same ∙ by-bool (held (p .n) (at after) (at os (p .placed)))
         (λ e. absurd (no (leaderList (p .n) os after)
-        (grouping-limits (p .n) (limitOf (stateTold p ls os hs)) (p .limit) (linked (p .links)) (a .limits) (leaderList (p .n) os after) (rw (a .links) at (grouping-after (a .made) more)))
-        (by-told-order (covered (leaderList (p .n) os after)) (kept-covered (a .made) more e)))) (λ e. e),
+        (grouping-limits (p .n) (limitOf (stateTold p ls os hs)) (p .limit) (linked (p .links)) (a .limits) (leaderList (p .n) os after) (rw (a .links) at (grouping-after (a .made) more w)))
+        (by-told-order (covered (leaderList (p .n) os after)) (kept-covered (a .made) more w e)))) (λ e. e),
   )
 
-  exactly-holders : NextLeft (p .n) p (stateTold p ls os hs) ↔ ((h : ℕ → ℕ) → Feasible (p .n) (p .limit) (linked (p .links)) h → CoversKept (p .n) p (stateTold p ls os hs) (held (p .n) h) → ⊥)
+  exactly-holders : NextLeft w (p .n) p (stateTold p ls os hs) ↔ ((h : ℕ → ℕ) → Feasible (p .n) (p .limit) (linked (p .links)) h → CoversKept (p .n) p (stateTold p ls os hs) (held (p .n) h) → ⊥)
   unfolding after
   exactly-holders = (
-    λ e h f c. left-holders (a .made) more (sym next-same ∙ e) h
+    λ e h f c. left-holders (a .made) more w (sym next-same ∙ e) h
         (rw (a .links) (feasible-limits (p .n) (p .limit) (limitOf (stateTold p ls os hs)) (linked (p .links)) (λ u l. sym (a .limits u l)) f)) (by-own-order (held (p .n) h) c),
     λ no. next-same ∙ by-bool (held (p .n) (at after) (at os (p .placed)))
         (λ e. absurd (no (at after)
-        (feasible-limits (p .n) (limitOf (stateTold p ls os hs)) (p .limit) (linked (p .links)) (a .limits) (rw (a .links) at (feasible-after (a .made) more)))
-        (by-told-order (held (p .n) (at after)) (kept-together (a .made) more e)))) (λ e. e),
+        (feasible-limits (p .n) (limitOf (stateTold p ls os hs)) (p .limit) (linked (p .links)) (a .limits) (rw (a .links) at (feasible-after (a .made) more w)))
+        (by-told-order (held (p .n) (at after)) (kept-together (a .made) more w e)))) (λ e. e),
   )
 
 -- .. so before any placing, whatever calls made the record
@@ -122,8 +122,8 @@ before-placing claim = after-calls (λ n told made. told .placed < n → claim n
 
 pub left-exactly : LeftExactly
 unfolding LeftExactly
-left-exactly = before-placing LeftExactlyOf exactly-groupings
+left-exactly w = before-placing (LeftExactlyOf w) (exactly-groupings w)
 
 pub left-exactly-by-holders : LeftExactlyByHolders
 unfolding LeftExactlyByHolders
-left-exactly-by-holders = before-placing LeftExactlyByHoldersOf exactly-holders
+left-exactly-by-holders w = before-placing (LeftExactlyByHoldersOf w) (exactly-holders w)

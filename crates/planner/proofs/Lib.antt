@@ -3,6 +3,7 @@ pub mod Conditions
 pub mod Turns
 pub mod Tells
 pub mod Outcomes
+pub mod Ways
 pub mod Next
 pub mod Made
 pub mod Agree

@@ -21,11 +21,11 @@ use Rattle.packing.proofs.Lists.{listOf-length, written-length, written-at, lis
 use Rattle.packing.proofs.Links.{linked-append}
 use Rattle.packing.proofs.Tight.{Blocked}
 use Rattle.packing.proofs.Prefixes.{IsOrder, order-place}
-use Rattle.packing.proofs.Placing.{Placing, Standing, standing-placed}
-use Rattle.search.proofs.Placing.{place-is, placed-range, placed-length}
+use Rattle.packing.proofs.Placing.{PlacedIn, Standing, standing-placed}
 use Rattle.sound.proofs.Meaning.{joined-ends}
 use Rattle.planner.specs.State.{State, withSmall, withHolders, linksOf, limitOf}
-use Rattle.planner.specs.Calls.{opened, onePlaced, link, order, place, changed}
+use Rattle.planner.specs.Calls.{opened, onePlaced, Way, link, order, placeBy, changed}
+use Rattle.planner.proofs.Ways.{ways-place}
 use Rattle.planner.proofs.Next.{SoundState, none-unheld, next-placeable}
 
 -- each placed gateway without holder has a tight pair around it, with only held gateways before it in the order
@@ -168,14 +168,16 @@ module _ {s : State} (made : Made s) where
     below : s .small .k < s .small .n
     below = omega (arith, made .sound .placed)
 
-    -- Every way of placing the next keeps it, if the list keeps its length and each of its first n entries is a gateway or 65535.
-    pub made-placed : (hs : List ℕ) → Placing (s .small .n) (limitOf s) (linked (linksOf s)) (at (s .holders)) (at hs) (at (s .order) (s .small .k))
-        → length hs ≡ length (s .holders) → ((w : ℕ) → w < s .small .n → (at hs w ≡ NONE) ⊎ (at hs w < s .small .n)) → Made (withHolders hs (withSmall (onePlaced (s .small)) s))
+    -- Every way of placing the next keeps it.
+    pub made-placed : (hs : List ℕ) → PlacedIn (s .small .n) (limitOf s) (linked (linksOf s)) (s .holders) hs (at (s .order) (s .small .k)) → Made (withHolders hs (withSmall (onePlaced (s .small)) s))
     unfolding limitOf
-    made-placed hs placing same range = record { sound = sound; standing = standing }
+    made-placed hs placed = record { sound = sound; standing = standing }
       where
+        range : (v : ℕ) → v < s .small .n → (at hs v ≡ NONE) ⊎ (at hs v < s .small .n)
+        range v l = ⊎-elim (λ same. rw same (made .sound .range v l)) (λ below. inr below) (placed .entries v l)
+
         standing : Standing (s .small .n) (limitOf s) (linked (linksOf s)) (at (s .order)) (at hs) (s .small .k + 1)
-        standing = standing-placed (made .standing) below placing
+        standing = standing-placed (made .standing) below (placed .placing)
 
         free : (i : ℕ) → s .small .k + 1 ≤ i → i < s .small .n → at hs (at (s .order) i) ≡ NONE
         free i p l =
@@ -192,7 +194,7 @@ module _ {s : State} (made : Made s) where
               placed = omega (arith, made .sound .placed);
               links-long = made .sound .links-long;
               order-long = made .sound .order-long;
-              holders-long = omega (arith, made .sound .holders-long);
+              holders-long = omega (arith, made .sound .holders-long, placed .long);
               ends = made .sound .ends;
               order = made .sound .order;
               range = range;
@@ -200,18 +202,12 @@ module _ {s : State} (made : Made s) where
               free = free;
             }
 
-    -- 01's search is one
-    pub next-placing : Placing (s .small .n) (limitOf s) (linked (linksOf s)) (at (s .holders)) (at (changed s place .holders)) (at (s .order) (s .small .k))
+    -- both searches are such
+    pub next-placing : (w : Way) → PlacedIn (s .small .n) (limitOf s) (linked (linksOf s)) (s .holders) (changed s (placeBy w) .holders) (at (s .order) (s .small .k))
     unfolding changed
-    next-placing = place-is (limitOf s) (linksOf s) (next-placeable s (made .sound) next) (made .standing .feasible)
+    next-placing w = ways-place w (limitOf s) (linksOf s) (next-placeable s (made .sound) next) (made .standing .feasible)
 
-    -- place keeps it
-    pub made-place : Made (changed s place)
+    -- placing keeps it
+    pub made-place : (w : Way) → Made (changed s (placeBy w))
     unfolding changed
-    made-place =
-        made-placed (changed s place .holders) next-placing (placed-length (s .small .n) (limitOf s) (linksOf s) (s .holders) (at (s .order) (s .small .k)))
-        (λ w l.
-        ⊎-elim (λ q. inr (ltb-true _ _ q)) (λ q. inl (eqb-true _ NONE q))
-        (or-cases (held (s .small .n) (at (changed s place .holders)) w) (eqb (at (changed s place .holders) w) NONE)
-        (placed-range (limitOf s) (linksOf s) (next-placeable s (made .sound) next)
-        (λ x p. ⊎-elim (λ q. or-r (held (s .small .n) (at (s .holders)) x) (eqb (at (s .holders) x) NONE) (eq-eqb (at (s .holders) x) NONE q)) (λ q. or-l (held (s .small .n) (at (s .holders)) x) (eqb (at (s .holders) x) NONE) (lt-ltb (at (s .holders) x) (s .small .n) q)) (made .sound .range x p)) w l)))
+    made-place w = made-placed (changed s (placeBy w) .holders) (next-placing w)

@@ -9,7 +9,8 @@ use Rattle.packing.specs.Plant.{at, linked}
 use Rattle.packing.specs.Holders.{held}
 use Rattle.packing.specs.Moved.{Fewest}
 use Rattle.packing.proofs.Tests.{by-bool}
-use Rattle.packing.proofs.Moved.{moved-none}
+use Rattle.packing.proofs.Moved.{moved-none, new-moved}
+use Rattle.packing.proofs.Placing.{PlacedIn, left-moves-none}
 use Rattle.search.specs.Search.{placeable, holdersAfter}
 use Rattle.search.specs.Pre.{Placeable}
 use Rattle.search.specs.Moved.{movedBy, NoneMoved, NewCounted, LeastPlaced}
@@ -18,7 +19,7 @@ use Rattle.search.proofs.Moved.{none-moved, new-counted, least-placed}
 use Rattle.sound.specs.Facts.{SoundMeans}
 use Rattle.sound.proofs.Facts.{sound-means-facts}
 use Rattle.planner.specs.State.{State, linksOf, limitOf, soundState}
-use Rattle.planner.specs.Calls.{Call, link, order, place, read, conditions, callRefusal, changed, call, callMoves}
+use Rattle.planner.specs.Calls.{Way, queued, placedBy, Call, link, order, placeBy, place, read, conditions, callRefusal, changed, call, callMoves}
 use Rattle.planner.specs.Turns.{SoundFacts}
 use Rattle.planner.specs.Kept.{heldIn, OthersKeep}
 use Rattle.planner.specs.Moved.{nextOf, NobodyMoved, NewOneMoved, FewestMoved}
@@ -26,48 +27,35 @@ use Rattle.planner.proofs.Next.{SoundState, next-placeable}
 use Rattle.planner.specs.Records.{PlaceGives, RefusedUnchanged}
 use Rattle.planner.proofs.Conditions.{place-allowed, place-next}
 use Rattle.planner.proofs.Records.{accepted-sound, place-gives, refused-call}
-use Rattle.planner.proofs.Kept.{others-keep}
+use Rattle.planner.proofs.Kept.{placing-of, others-keep}
 
 -- a call that leaves the holders as they are moves nobody
 same-holders : (s : State) (c : Call) → call s c .state .holders ≡ s .holders → callMoves s c ≡ 0
 unfolding callMoves
 same-holders s c e = rw e (moved-none (s .small .n) (at (s .holders)))
 
--- a record that takes a placing: the next may be placed, and the search's statements are about the holders after it
-module _ (s : State) (z : callRefusal s place ≡ 0) where
-  sound : SoundState s
-  sound = accepted-sound s place z .0
+-- a record that takes a placing, in either way
+module _ (s : State) (w : Way) (z : callRefusal s (placeBy w) ≡ 0) where
+  gateways : call s (placeBy w) .state .small .n ≡ s .small .n
+  unfolding PlaceGives call
+  gateways = place-gives s w z .gateways
 
+  -- the next may be placed
   next : Placeable (s .small .n) (s .holders) (nextOf s)
   unfolding conditions
-  next = next-placeable s sound (place-allowed (s .small .n) (s .small .k) (accepted-sound s place z .1))
+  next = let (sound, may) = accepted-sound s (placeBy w) z in next-placeable s sound (place-allowed (s .small .n) (s .small .k) may)
 
-  may : placeable (s .small .n) (s .holders) (nextOf s) ≡ true
-  may = placeable-holds next
-
-  after : call s place .state .holders ≡ holdersAfter (s .small .n) (limitOf s) (linksOf s) (s .holders) (nextOf s)
-  unfolding call changed
-  after = rw z (sym (holders-placed (limitOf s) (linksOf s) next))
-
-  moves : callMoves s place ≡ movedBy (s .small .n) (limitOf s) (linksOf s) (s .holders) (nextOf s)
-  unfolding callMoves movedBy
-  moves = rw after
-
-  gateways : call s place .state .small .n ≡ s .small .n
-  unfolding PlaceGives call
-  gateways = place-gives s z .gateways
-
-  -- whether it is kept
-  held-next : (b : Bool) → heldIn (call s place .state) (nextOf s) ≡ b → held (s .small .n) (at (holdersAfter (s .small .n) (limitOf s) (linksOf s) (s .holders) (nextOf s))) (nextOf s) ≡ b
-  held-next b e = rw (after, gateways) at e
+  placing : PlacedIn (s .small .n) (limitOf s) (linked (linksOf s)) (s .holders) (call s (placeBy w) .state .holders) (nextOf s)
+  unfolding call
+  placing = rw z (placing-of s w z)
 
 -- "0 for one left"
-left-zero : (s : State) → heldIn (call s place .state) (nextOf s) ≡ false → callMoves s place ≡ 0
-unfolding RefusedUnchanged NoneMoved call
-left-zero s e =
-    by-bool (eqb (callRefusal s place) 0)
-    (λ q. let z = eqb-true _ _ q in moves s z ∙ none-moved (s .small .n) (limitOf s) (linksOf s) (s .holders) (nextOf s) .1 (held-next s z false e))
-    (λ q. same-holders s place (ap (λ (x : State). x .holders) (refused-call s place (eqb-false _ _ q))))
+left-zero : (s : State) (w : Way) → heldIn (call s (placeBy w) .state) (nextOf s) ≡ false → callMoves s (placeBy w) ≡ 0
+unfolding RefusedUnchanged call callMoves
+left-zero s w e =
+    by-bool (eqb (callRefusal s (placeBy w)) 0)
+    (λ q. let z = eqb-true _ _ q in left-moves-none (placing s w z .placing) (next s w z .inside) (rw (gateways s w z) at e))
+    (λ q. same-holders s (placeBy w) (ap (λ (x : State). x .holders) (refused-call s (placeBy w) (eqb-false _ _ q))))
 
 pub nobody-moved : NobodyMoved
 unfolding NobodyMoved OthersKeep RefusedUnchanged
@@ -82,24 +70,35 @@ nobody-moved s =
     }
 
 -- a sound record that is not fully placed takes a placing
-accepts : (s : State) → SoundFacts s → s .small .k < s .small .n → callRefusal s place ≡ 0
+accepts : (s : State) (w : Way) → SoundFacts s → s .small .k < s .small .n → callRefusal s (placeBy w) ≡ 0
 unfolding callRefusal soundState conditions SoundMeans
-accepts s f more =
+accepts s w f more =
     rw (sound-means-facts (s .small .n) (s .small .t) (s .small .m) (s .small .k) (s .links) (s .order) (s .holders) .1 f) (sym (place-next (s .small .n) (s .small .k) (λ e. omega arith)))
 
 pub new-one-moved : NewOneMoved
-unfolding NewOneMoved NewCounted
-new-one-moved s f more kept =
-    let z = accepts s f more in
-    rw (after s z, moves s z) (new-counted (s .small .n) (limitOf s) (linksOf s) (s .holders) (nextOf s) (may s z) (held-next s z true kept))
+unfolding NewOneMoved callMoves
+new-one-moved s w f more kept =
+    let z = accepts s w f more in
+    let p = next s w z in
+    new-moved (s .small .n) (at (s .holders)) (at (call s (placeBy w) .state .holders)) (nextOf s) (p .inside) (p .free) (rw (gateways s w z) at kept)
+
+-- 01's search: its statements are about the holders after it
+module _ (s : State) (z : callRefusal s place ≡ 0) where
+  after : call s place .state .holders ≡ holdersAfter (s .small .n) (limitOf s) (linksOf s) (s .holders) (nextOf s)
+  unfolding call changed placedBy
+  after = rw z (sym (holders-placed (limitOf s) (linksOf s) (next s queued z)))
+
+  moves : callMoves s place ≡ movedBy (s .small .n) (limitOf s) (linksOf s) (s .holders) (nextOf s)
+  unfolding callMoves movedBy
+  moves = rw after
 
 -- "this number is the least possible"
 pub accepted-fewest : (s : State) → callRefusal s place ≡ 0 → held (s .small .n) (at (call s place .state .holders)) (nextOf s) ≡ true
     → Fewest (s .small .n) (limitOf s) (linked (linksOf s)) (at (s .holders)) (at (call s place .state .holders)) (nextOf s) (callMoves s place)
 unfolding LeastPlaced limitOf
 accepted-fewest s z kept =
-    rw (after s z, moves s z) (least-placed (s .small .n) (limitOf s) (linksOf s) (s .holders) (nextOf s) (may s z) (sound s z .feasible) (rw (after s z) at kept))
+    rw (after s z, moves s z) (least-placed (s .small .n) (limitOf s) (linksOf s) (s .holders) (nextOf s) (placeable-holds (next s queued z)) (accepted-sound s place z .0 .feasible) (rw (after s z) at kept))
 
 pub fewest-moved : FewestMoved
 unfolding FewestMoved
-fewest-moved s f more kept = let z = accepts s f more in accepted-fewest s z (rw (gateways s z) at kept)
+fewest-moved s f more kept = let z = accepts s queued f more in accepted-fewest s z (rw (gateways s queued z) at kept)

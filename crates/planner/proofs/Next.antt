@@ -10,19 +10,17 @@ use Rattle.packing.specs.Lists.{listOf, written}
 use Rattle.packing.specs.Plant.{GATEWAYS, NONE, at}
 use Rattle.packing.specs.Holders.{held}
 use Rattle.packing.specs.Moved.{moved}
-use Rattle.search.specs.Search.{placedHolders, holdersAfter}
-use Rattle.search.specs.Moved.{movedBy, placeAnswer}
-use Rattle.search.specs.declared.Placed.{Placed}
 use Rattle.search.specs.ChokeSet.{chokeByte, chokeWritten}
 use Rattle.search.specs.Pre.{Placeable}
 use Rattle.search.proofs.Tested.{chokeable-holds, choke-written}
-use Rattle.search.proofs.Limits.{placed-common}
 use Rattle.sound.specs.Sound.{isSound}
 use Rattle.sound.proofs.Meaning.{Sound, sound-means}
 use Rattle.sound.proofs.Searchable.{sound-searchable}
 use Rattle.stars.specs.Stars.{leaderList, leadersWritten}
 use Rattle.stars.proofs.Lent.{leaders-written}
 use Rattle.planner.specs.State.{State, linksOf, limitOf}
+use Rattle.planner.specs.Calls.{Way, placedBy}
+use Rattle.planner.proofs.Ways.{afterBy, ways-common}
 
 -- what it is for a record to be sound
 abbrev pub SoundState : State → Type 0
@@ -49,18 +47,17 @@ module _ (s : State) (sound : SoundState s) where
       }
 
   -- .. and so it is, with a list of T for each gateway
-  pub next-placed : (limits : List ℕ) {hs' : List ℕ} → (s .small .k ≡ s .small .n → ⊥) → limits ≡ replicate GATEWAYS (s .small .t)
-      → hs' ≡ holdersAfter (s .small .n) (at limits) (linksOf s) (s .holders) (at (s .order) (s .small .k))
-      → hs' ≡ placedHolders (s .small .n) (limitOf s) (linksOf s) (s .holders) (at (s .order) (s .small .k))
+  pub next-placed : (w : Way) (limits : List ℕ) {hs' : List ℕ} → (s .small .k ≡ s .small .n → ⊥) → limits ≡ replicate GATEWAYS (s .small .t)
+      → hs' ≡ afterBy w (s .small .n) (at limits) (linksOf s) (s .holders) (at (s .order) (s .small .k))
+      → hs' ≡ placedBy w (s .small .n) (limitOf s) (linksOf s) (s .holders) (at (s .order) (s .small .k))
   unfolding limitOf
-  next-placed limits more is e = e ∙ rw is (placed-common (s .small .t) (linksOf s) (next-placeable more))
+  next-placed w limits more is e = e ∙ rw is (ways-common w (s .small .t) (linksOf s) (next-placeable more))
 
   -- .. and so many are moved
-  pub next-moved : (limits : List ℕ) {a : Placed} → (s .small .k ≡ s .small .n → ⊥) → limits ≡ replicate GATEWAYS (s .small .t)
-      → a ≡ placeAnswer (s .small .n) (at limits) (linksOf s) (s .holders) (at (s .order) (s .small .k))
-      → a .moved ≡ moved (s .small .n) (at (s .holders)) (at (placedHolders (s .small .n) (limitOf s) (linksOf s) (s .holders) (at (s .order) (s .small .k))))
-  unfolding movedBy
-  next-moved limits more is e = ap (λ (b : Placed). b .moved) e ∙ ap (λ (l : List ℕ). moved (s .small .n) (at (s .holders)) (at l)) (next-placed limits more is refl)
+  pub next-moved : (w : Way) (limits : List ℕ) {m : ℕ} → (s .small .k ≡ s .small .n → ⊥) → limits ≡ replicate GATEWAYS (s .small .t)
+      → m ≡ moved (s .small .n) (at (s .holders)) (at (afterBy w (s .small .n) (at limits) (linksOf s) (s .holders) (at (s .order) (s .small .k))))
+      → m ≡ moved (s .small .n) (at (s .holders)) (at (placedBy w (s .small .n) (limitOf s) (linksOf s) (s .holders) (at (s .order) (s .small .k))))
+  next-moved w limits more is e = e ∙ ap (λ (l : List ℕ). moved (s .small .n) (at (s .holders)) (at l)) (next-placed w limits more is refl)
 
   -- the leader list and the choke bytes are written where there is a place for each
   pub leaders-placed : (leaders : List ℕ) {leaders' : List ℕ} → s .small .n ≤ length leaders → leaders' ≡ leadersWritten (s .small .n) (s .order) (s .holders) leaders

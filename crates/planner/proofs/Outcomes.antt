@@ -16,7 +16,7 @@ use Rattle.planner.specs.declared.Answer.{Answer}
 use Rattle.planner.specs.declared.PlaceAnswer.{PlaceAnswer}
 use Rattle.planner.specs.Refusals.{openRefusal}
 use Rattle.planner.specs.State.{State, stateOf, linksOf}
-use Rattle.planner.specs.Calls.{Outcome, outcome, answerOf, smallOpened, opened, openCall, Call, link, order, place, read, callRefusal, changed, call, callMoves, placeAnswerOf, readLeaders, readChoke}
+use Rattle.planner.specs.Calls.{Outcome, outcome, answerOf, smallOpened, opened, openCall, Call, link, order, Way, placeBy, read, callRefusal, changed, call, callMoves, placeAnswerOf, readLeaders, readChoke}
 
 outcome-refused : (changed kept : State) {e r : ℕ} → e ≡ r → (e ≡ 0 → ⊥) → _≡_ {A = Outcome} (record { refusal = e; state = kept }) (outcome r changed kept)
 outcome-refused changed kept g h = λ i. record { refusal = g i; state = refused changed kept g h i }
@@ -72,25 +72,25 @@ module _ (s : State) (c : Call) where
       → (_≡_ {A = Answer} (record { refusal = 0; small = changed s c .small }) (answerOf (call s c))) × (l ≡ list (call s c .state))
   list-accepted list g z e = let p = call-accepted g z in (ap answerOf p, e ∙ ap (λ (o : Outcome). list (o .state)) p)
 
--- place: its answer, with the number moved, and the holders
-module _ (s : State) where
+-- a placing: its answer, with the number moved, and the holders
+module _ (s : State) (c : Call) where
   -- the answer that an outcome of it makes
   answered : Outcome → PlaceAnswer
   answered o = record { refusal = o .refusal; small = o .state .small; moved = moved (s .small .n) (at (s .holders)) (at (o .state .holders)) }
 
-  pub place-refused : {e : ℕ} → e ≡ callRefusal s place → (e ≡ 0 → ⊥)
-      → (_≡_ {A = PlaceAnswer} (record { refusal = e; small = s .small; moved = 0 }) (placeAnswerOf s)) × (s .holders ≡ call s place .state .holders)
+  pub place-refused : {e : ℕ} → e ≡ callRefusal s c → (e ≡ 0 → ⊥)
+      → (_≡_ {A = PlaceAnswer} (record { refusal = e; small = s .small; moved = 0 }) (placeAnswerOf s c)) × (s .holders ≡ call s c .state .holders)
   unfolding callMoves answered
   place-refused {e} g h =
-      let p = call-refused s place g h in
+      let p = call-refused s c g h in
       ((λ i. record { refusal = e; small = s .small; moved = sym (moved-none (s .small .n) (at (s .holders))) i }) ∙ ap answered p, ap (λ (o : Outcome). o .state .holders) p)
 
-  pub place-accepted : {e r : ℕ} {hs' : List ℕ} → e ≡ callRefusal s place → e ≡ 0 → hs' ≡ changed s place .holders → r ≡ moved (s .small .n) (at (s .holders)) (at (changed s place .holders))
-      → (_≡_ {A = PlaceAnswer} (record { refusal = 0; small = changed s place .small; moved = r }) (placeAnswerOf s)) × (hs' ≡ call s place .state .holders)
+  pub place-accepted : {e r : ℕ} {hs' : List ℕ} → e ≡ callRefusal s c → e ≡ 0 → hs' ≡ changed s c .holders → r ≡ moved (s .small .n) (at (s .holders)) (at (changed s c .holders))
+      → (_≡_ {A = PlaceAnswer} (record { refusal = 0; small = changed s c .small; moved = r }) (placeAnswerOf s c)) × (hs' ≡ call s c .state .holders)
   unfolding callMoves answered
   place-accepted g z l m =
-      let p = call-accepted s place g z in
-      ((λ i. record { refusal = 0; small = changed s place .small; moved = m i }) ∙ ap answered p, l ∙ ap (λ (o : Outcome). o .state .holders) p)
+      let p = call-accepted s c g z in
+      ((λ i. record { refusal = 0; small = changed s c .small; moved = m i }) ∙ ap answered p, l ∙ ap (λ (o : Outcome). o .state .holders) p)
 
 -- the order once another is written over it
 pub replaced : (numbers os : List ℕ) {os' : List ℕ} {n : ℕ} → os' ≡ written (length numbers) numbers os → length numbers ≡ n → os' ≡ written n numbers os
@@ -127,10 +127,10 @@ module _ (s : State) where
       go zero = refl
       go (suc e) = refl
 
-  pub place-state : stateOf (call s place .state .small) (s .links) (s .order) (call s place .state .holders) ≡ call s place .state
+  pub place-state : (w : Way) → stateOf (call s (placeBy w) .state .small) (s .links) (s .order) (call s (placeBy w) .state .holders) ≡ call s (placeBy w) .state
   unfolding call changed
-  place-state = go (callRefusal s place)
+  place-state w = go (callRefusal s (placeBy w))
     where
-      go : (e : ℕ) → stateOf (byNumber e (changed s place) s .small) (s .links) (s .order) (byNumber e (changed s place) s .holders) ≡ byNumber e (changed s place) s
+      go : (e : ℕ) → stateOf (byNumber e (changed s (placeBy w)) s .small) (s .links) (s .order) (byNumber e (changed s (placeBy w)) s .holders) ≡ byNumber e (changed s (placeBy w)) s
       go zero = refl
       go (suc e) = refl

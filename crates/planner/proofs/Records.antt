@@ -16,7 +16,6 @@ use Rattle.packing.proofs.Below.{leads-below, same-itself, same-below}
 use Rattle.packing.proofs.Prefixes.{order-place}
 use Rattle.packing.proofs.Lists.{listOf-length, written-at, written-past, listed-at}
 use Rattle.packing.proofs.Refusals.{refuse-none, refused}
-use Rattle.search.proofs.Placing.{placed-past}
 use Rattle.sound.specs.Facts.{SoundMeans}
 use Rattle.sound.proofs.Facts.{sound-means-facts}
 use Rattle.sound.proofs.Meaning.{sound-means}
@@ -25,10 +24,11 @@ use Rattle.stars.specs.Rules.{WhoeverLeads}
 use Rattle.stars.proofs.Pairs.{whoever-leads, earlier-leads}
 use Rattle.search.specs.ChokeSet.{chokeByte}
 use Rattle.planner.specs.State.{State, stateOf, linksOf, limitOf, soundState}
-use Rattle.planner.specs.Calls.{smallOpened, opened, openCall, Call, link, order, place, read, conditions, callRefusal, changed, call, readLeaders, readChoke}
+use Rattle.planner.specs.Calls.{smallOpened, opened, openCall, Call, link, order, placeBy, read, conditions, callRefusal, changed, call, readLeaders, readChoke}
 use Rattle.planner.specs.Records.{OpenGives, OpenRefused, LinkGives, OrderGives, PlaceGives, ReadGives, RefusedUnchanged, ReadRefused, Past, PastUnchanged, ReadPast, HeldCovered, ReadWrites, ReadEarlierLeads, readLeadersBy, ReadWhoeverLeads, ReadAnyOrder}
 use Rattle.planner.specs.Turns.{SoundFacts}
 use Rattle.planner.proofs.Conditions.{link-allowed, order-allowed, place-allowed}
+use Rattle.planner.proofs.Ways.{ways-place}
 use Rattle.planner.proofs.Next.{SoundState, next-placeable}
 use Rattle.planner.proofs.Optimal.{sound-grouping, leaders-cover}
 
@@ -92,7 +92,7 @@ order-gives s numbers z =
 
 pub place-gives : PlaceGives
 unfolding PlaceGives call changed
-place-gives s z = rw z (record { gateways = refl; limit = refl; linkCount = refl; oneMore = refl; links = refl; order = refl })
+place-gives s w z = rw z (record { gateways = refl; limit = refl; linkCount = refl; oneMore = refl; links = refl; order = refl })
 
 pub read-gives : ReadGives
 unfolding ReadGives call changed
@@ -107,7 +107,7 @@ same-past : (s : State) → Past s s
 same-past s = record { links = refl; order = refl; holders = refl }
 
 changed-past : (s : State) (c : Call) → callRefusal s c ≡ 0 → Past s (changed s c)
-unfolding changed conditions
+unfolding changed conditions limitOf
 changed-past s (link a b) z =
     record {
       links = drop-set-lt (2 * (s .small .m + 1)) (set (s .links) (2 * s .small .m) a) (2 * s .small .m + 1) b (omega arith) ∙ drop-set-lt (2 * (s .small .m + 1)) (s .links) (2 * s .small .m) a (omega arith);
@@ -117,9 +117,9 @@ changed-past s (link a b) z =
 changed-past s (order numbers) z =
     let (k, long, right) = order-allowed (s .small .n) (s .small .k) numbers refl (accepted-sound s (order numbers) z .1) in
     record { links = refl; order = written-past (s .small .n) numbers (s .order) long; holders = refl }
-changed-past s place z =
-    let (sound, next) = accepted-sound s place z in
-    record { links = refl; order = refl; holders = placed-past (limitOf s) (linksOf s) (next-placeable s sound (place-allowed (s .small .n) (s .small .k) next)) }
+changed-past s (placeBy w) z =
+    let (sound, next) = accepted-sound s (placeBy w) z in
+    record { links = refl; order = refl; holders = ways-place w (limitOf s) (linksOf s) (next-placeable s sound (place-allowed (s .small .n) (s .small .k) next)) (sound .feasible) .past }
 changed-past s (read leaders choke) z = same-past s
 
 pub past-unchanged : PastUnchanged

@@ -22,13 +22,13 @@ use Rattle.search.specs.ChokeSet.{withoutHolder, chokeWalk, seenIn, walkSaw, in
 use Rattle.packing.specs.Orders.{upTo, repeatsOrOutside}
 use Rattle.planner.specs.Refusals.{openRefusal, linkConditions, orderConditions, placeConditions, readConditions}
 use Rattle.planner.specs.State.{limitOf, soundState}
-use Rattle.planner.specs.Calls.{opened, openCall, conditions, callRefusal, changed, call, callMoves, readLeaders, readChoke}
-use Rattle.planner.specs.Run.{run, runMoves, linkCalls, placeCalls}
+use Rattle.planner.specs.Calls.{opened, openCall, conditions, callRefusal, changed, call, callMoves, readLeaders, readChoke, placedBy}
+use Rattle.planner.specs.Run.{run, runMoves, linkCalls, placeCallsBy}
 use Rattle.planner.specs.Cases.{Row, stands, readsAfter, holds, gives, differsAfter, moves, movesOf, after, leadersOf, chokeOf, withoutLink, limitsOf, aloneOf, sameList, rowHolds, empty, one, two, path, star, starBack, star4, listed, ring, twoLinked, twoLinkedBack, ringBack, chain, table, early, pairs, moving, rowsHold, Means}
 
 -- all of them, computed
 tables-hold : (rowsHold table ≡ true) × (rowsHold early ≡ true) × (rowsHold pairs ≡ true) × (rowsHold moving ≡ true)
-unfolding sum count sumOver all any listOf listWhere common firstLinks linked neighbours memberCount heldCount stranded numbersSound listsLong endsSound onceEach holdersLinked holdersWithin onlyPlacedHeld isSound heldBy look visit turn turns walk shift settled placedHolders firstWith holder back onCycle nextOnCycle leadsIn leadsInTrees begins cut leads leaderOf pairLeader partner ruleFive leaderListBy placeOf leaderList withoutHolder chokeWalk seenIn walkSaw inChoke chokeByte upTo written repeatsOrOutside openRefusal linkConditions orderConditions placeConditions readConditions limitOf soundState opened openCall conditions callRefusal changed call readLeaders readChoke run linkCalls placeCalls after leadersOf chokeOf withoutLink limitsOf aloneOf sameList rowHolds empty one two path star starBack star4 listed ring twoLinked twoLinkedBack ringBack chain table early pairs moving rowsHold moved callMoves runMoves movesOf
+unfolding sum count sumOver all any listOf listWhere common firstLinks linked neighbours memberCount heldCount stranded numbersSound listsLong endsSound onceEach holdersLinked holdersWithin onlyPlacedHeld isSound heldBy look visit turn turns walk shift settled placedHolders placedBy firstWith holder back onCycle nextOnCycle leadsIn leadsInTrees begins cut leads leaderOf pairLeader partner ruleFive leaderListBy placeOf leaderList withoutHolder chokeWalk seenIn walkSaw inChoke chokeByte upTo written repeatsOrOutside openRefusal linkConditions orderConditions placeConditions readConditions limitOf soundState opened openCall conditions callRefusal changed call readLeaders readChoke run linkCalls placeCallsBy after leadersOf chokeOf withoutLink limitsOf aloneOf sameList rowHolds empty one two path star starBack star4 listed ring twoLinked twoLinkedBack ringBack chain table early pairs moving rowsHold moved callMoves runMoves movesOf
 tables-hold = (refl, refl, refl, refl)
 
 pub table-holds : rowsHold table ≡ true

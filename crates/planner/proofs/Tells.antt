@@ -7,7 +7,7 @@ use native.Mathlib.Omega.{arith}
 use lib.ListN.{length}
 use Rattle.packing.specs.Plant.{common}
 use Rattle.packing.specs.Refusals.{byNumber}
-use Rattle.planner.specs.Calls.{Call, link, order, place, read}
+use Rattle.planner.specs.Calls.{Call, link, order, placeBy, read}
 use Rattle.planner.specs.Told.{Told, beginning, refuses, accepted, tellOne, tell, toldNumbers}
 use Rattle.planner.specs.Tells.{acceptedBy, linksIn, lastOrder, placings, TellsPlant}
 
@@ -35,7 +35,7 @@ onward-one p (link a b) later q o =
       placed = o .placed;
     }
 onward-one p (order numbers) later q o = record { gateways = o .gateways; limit = o .limit; limits = o .limits; links = o .links; count = o .count; order = o .order; placed = o .placed }
-onward-one p place later q o =
+onward-one p (placeBy w) later q o =
     record { gateways = o .gateways; limit = o .limit; limits = o .limits; links = o .links; count = o .count; order = o .order; placed = omega (arith, o .placed) }
 onward-one p (read leaders choke) later q o = record { gateways = o .gateways; limit = o .limit; limits = o .limits; links = o .links; count = o .count; order = o .order; placed = o .placed }
 

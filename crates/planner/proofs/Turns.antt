@@ -13,7 +13,7 @@ use Rattle.packing.proofs.Turns.{Says, turn-done, turn-named, says-less, says-m
 use Rattle.sound.proofs.Facts.{sound-facts}
 use Rattle.planner.specs.Refusals.{openRefusal, linkConditions, orderConditions, placeConditions, readConditions}
 use Rattle.planner.specs.State.{soundState}
-use Rattle.planner.specs.Calls.{openCall, Call, link, order, place, read, conditionsOf, conditions, callRefusal, call}
+use Rattle.planner.specs.Calls.{openCall, Call, link, order, placeBy, read, conditionsOf, conditions, callRefusal, call}
 use Rattle.planner.specs.Told.{beginning, refuses, tell}
 use Rattle.planner.specs.Tells.{TellsPlant}
 use Rattle.planner.specs.Turns.{openTurn, linkTurn, orderTurn, placeTurn, readTurn, turnOf, callTurn, toldTurn, OpenExactly, CallExactly, ToldExactly}
@@ -57,7 +57,7 @@ calls-exactly : (n k m : ℕ) (l ls : List ℕ) (room : ℕ) → ((a b : ℕ) �
     → FirstNamed (turnOf n k m ls room c) (conditionsOf n k m l room c)
 calls-exactly n k m l ls room there (link a b) = link-exactly n k m l ls room a b (there a b)
 calls-exactly n k m l ls room there (order numbers) = order-exactly n k numbers
-calls-exactly n k m l ls room there place = place-exactly n k
+calls-exactly n k m l ls room there (placeBy w) = place-exactly n k
 calls-exactly n k m l ls room there (read leaders choke) = read-exactly n leaders choke
 
 pub call-exactly : CallExactly

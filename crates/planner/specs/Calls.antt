@@ -1,4 +1,4 @@
--- The calls of 01, "The record": the number that each gives, and the record after it.
+-- The calls of 01, "The record", and the second placing call of 02, change 7: the number that each gives, and the record after it.
 use Prim.Native.Nat.{ℕ, _+_, _*_}
 use mathlib.Core.Bool.{not}
 use mathlib.Core.List.{List}
@@ -10,6 +10,7 @@ use Rattle.packing.specs.Refusals.{refuse, byNumber}
 use Rattle.packing.specs.Moved.{moved}
 use Rattle.search.specs.Search.{placedHolders}
 use Rattle.search.specs.ChokeSet.{chokeByte}
+use Rattle.recursion.specs.Recursion.{recursiveHolders}
 use Rattle.stars.specs.Stars.{leaderList}
 use Rattle.planner.specs.declared.Small.{Small}
 use Rattle.planner.specs.declared.Answer.{Answer}
@@ -41,18 +42,35 @@ opened n t ls os hs = stateOf (smallOpened n t) ls (written n (upTo n) os) (writ
 unfoldable pub openCall : ℕ → ℕ → List ℕ → List ℕ → List ℕ → Outcome
 openCall n t ls os hs = outcome (openRefusal n t os hs) (opened n t ls os hs) (stateOf (smallOpened 0 2) ls os hs)
 
+-- The ways of placing the next gateway: 01's search, by a queue; and the short search of 02, change 7, by two functions that call each other.
+pub data Way : Type 0 where
+  queued : Way
+  recursive : Way
+
+-- the holders that each leaves
+unfoldable pub placedBy : Way → ℕ → (ℕ → ℕ) → List ℕ → List ℕ → ℕ → List ℕ
+placedBy queued n limit ls hs v = placedHolders n limit ls hs v
+placedBy recursive n limit ls hs v = recursiveHolders n limit ls hs v
+
 -- The calls on a record, with what else each is handed: a link's two ends, the numbers of a new order, the lists lent for leaders and choke bytes.
 pub data Call : Type 0 where
   link : ℕ → ℕ → Call
   order : List ℕ → Call
-  place : Call
+  placeBy : Way → Call
   read : List ℕ → List ℕ → Call
+
+-- 01's call of place, and the second one: "Turns and refusals are place's"
+abbrev pub place : Call
+place = placeBy queued
+
+abbrev pub placeRecursive : Call
+placeRecursive = placeBy recursive
 
 -- each call's conditions, in 01's turn after 26, by n, the placings k, the links l so far with their number m, and the length room of the lent link list
 abbrev pub conditionsOf : (n k m : ℕ) (l : List ℕ) (room : ℕ) → Call → ℕ
 conditionsOf n k m l room (link a b) = linkConditions n k m l room a b
 conditionsOf n k m l room (order numbers) = orderConditions n k numbers
-conditionsOf n k m l room place = placeConditions n k
+conditionsOf n k m l room (placeBy w) = placeConditions n k
 conditionsOf n k m l room (read leaders choke) = readConditions n (length leaders) (length choke)
 
 -- .. of a record
@@ -75,8 +93,8 @@ onePlaced s = record { n = s .n; t = s .t; m = s .m; k = s .k + 1 }
 unfoldable pub changed : State → Call → State
 changed s (link a b) = withLinks (set (set (s .links) (2 * s .small .m) a) (2 * s .small .m + 1) b) (withSmall (oneLink (s .small)) s)
 changed s (order numbers) = withOrder (written (s .small .n) numbers (s .order)) s
-changed s place =
-    withHolders (placedHolders (s .small .n) (limitOf s) (linksOf s) (s .holders) (at (s .order) (s .small .k))) (withSmall (onePlaced (s .small)) s)
+changed s (placeBy w) =
+    withHolders (placedBy w (s .small .n) (limitOf s) (linksOf s) (s .holders) (at (s .order) (s .small .k))) (withSmall (onePlaced (s .small)) s)
 changed s (read leaders choke) = s
 
 -- a call on a record
@@ -87,9 +105,9 @@ call s c = outcome (callRefusal s c) (changed s c) s
 unfoldable pub callMoves : State → Call → ℕ
 callMoves s c = moved (s .small .n) (at (s .holders)) (at (call s c .state .holders))
 
--- "place above it, now also give[s]" it: place's answer
-abbrev pub placeAnswerOf : State → PlaceAnswer
-placeAnswerOf s = record { refusal = call s place .refusal; small = call s place .state .small; moved = callMoves s place }
+-- "place above it, now also give[s]" it, and "the number moved is given here too" (change 7): a placing's answer
+abbrev pub placeAnswerOf : State → Call → PlaceAnswer
+placeAnswerOf s c = record { refusal = call s c .refusal; small = call s c .state .small; moved = callMoves s c }
 
 -- Read: "leaders and choke set", in the lists lent for them, at any k: "It gives groups for the holders so far" (02, change 1). The order decides who leads a pair (02, change 2), and nothing else here.
 unfoldable pub readLeaders : State → List ℕ → List ℕ → List ℕ

@@ -16,7 +16,7 @@ use Rattle.packing.specs.Choke.{ChokeDifference}
 use Rattle.packing.specs.SoFar.{SoFar}
 use Rattle.planner.specs.Refusals.{openRefusal}
 use Rattle.planner.specs.State.{State}
-use Rattle.planner.specs.Calls.{Call, place, read, call, callMoves, readLeaders, readChoke}
+use Rattle.planner.specs.Calls.{Way, Call, placeBy, place, read, call, callMoves, readLeaders, readChoke}
 use Rattle.planner.specs.Told.{Told, beginning, refuses, tell, toldNumbers}
 use Rattle.planner.specs.Run.{afterOpen, run, runMoves, runNumbers}
 
@@ -127,9 +127,9 @@ BeforePlacing claim =
     → toldBy n t ls calls .placed < n
     → claim n (toldBy n t ls calls) (madeBy n t ls os hs calls)
 
--- the next in the order told is left by its placing
-abbrev pub NextLeft : ℕ → Told → State → Type 0
-NextLeft n told made = held n (at (call made place .state .holders)) (at (told .order) (told .placed)) ≡ false
+-- the next in the order told is left by its placing, in either way
+abbrev pub NextLeft : Way → ℕ → Told → State → Type 0
+NextLeft w n told made = held n (at (call made (placeBy w) .state .holders)) (at (told .order) (told .placed)) ≡ false
 
 -- it is covered, and so are all kept before it: those before it in the order told that are held
 abbrev pub CoversKept : ℕ → Told → State → (ℕ → Bool) → Type 0
@@ -138,20 +138,20 @@ CoversKept n told made cover =
     × ((i : ℕ) → i < told .placed → held n (at (made .holders)) (at (told .order) i) ≡ true → cover (at (told .order) i) ≡ true)
 
 -- 01, "Placing": "v is left exactly if no T-star packing covers v and all kept before it (for a record made by accepted calls)."
-abbrev pub LeftExactlyOf : (n : ℕ) (told : Told) (made : State) → Type 0
-LeftExactlyOf n told made = NextLeft n told made ↔ ((g : ℕ → ℕ) → GroupingTold n told g → CoversKept n told made (covered g) → ⊥)
+abbrev pub LeftExactlyOf : (w : Way) (n : ℕ) (told : Told) (made : State) → Type 0
+LeftExactlyOf w n told made = NextLeft w n told made ↔ ((g : ℕ → ℕ) → GroupingTold n told g → CoversKept n told made (covered g) → ⊥)
 
 unfoldable pub LeftExactly : Type 0
-LeftExactly = BeforePlacing LeftExactlyOf
+LeftExactly = (w : Way) → BeforePlacing (LeftExactlyOf w)
 
 -- .. and the same for feasible holders (000, Definition 2) in place of groupings.
-abbrev pub LeftExactlyByHoldersOf : (n : ℕ) (told : Told) (made : State) → Type 0
-LeftExactlyByHoldersOf n told made = NextLeft n told made ↔ ((h : ℕ → ℕ) → Feasible n (told .limit) (linked (told .links)) h → CoversKept n told made (held n h) → ⊥)
+abbrev pub LeftExactlyByHoldersOf : (w : Way) (n : ℕ) (told : Told) (made : State) → Type 0
+LeftExactlyByHoldersOf w n told made = NextLeft w n told made ↔ ((h : ℕ → ℕ) → Feasible n (told .limit) (linked (told .links)) h → CoversKept n told made (held n h) → ⊥)
 
 unfoldable pub LeftExactlyByHolders : Type 0
-LeftExactlyByHolders = BeforePlacing LeftExactlyByHoldersOf
+LeftExactlyByHolders = (w : Way) → BeforePlacing (LeftExactlyByHoldersOf w)
 
--- 02, change 4, by the limits, the links and the order told: where the next is kept, its placing moves the fewest gateways that holders of it and of all kept could.
+-- 02, change 4, by the limits, the links and the order told: where the next is kept, its placing by 01's search moves the fewest gateways that holders of it and of all kept could.
 abbrev pub NextKept : ℕ → Told → State → Type 0
 NextKept n told made = held n (at (call made place .state .holders)) (at (told .order) (told .placed)) ≡ true
 

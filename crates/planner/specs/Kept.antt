@@ -8,19 +8,19 @@ use Rattle.packing.specs.Plant.{at}
 use Rattle.packing.specs.Holders.{held}
 use Rattle.planner.specs.Refusals.{openRefusal}
 use Rattle.planner.specs.State.{State}
-use Rattle.planner.specs.Calls.{Call, link, order, place, read, call}
+use Rattle.planner.specs.Calls.{Way, Call, link, order, placeBy, read, call}
 use Rattle.planner.specs.Claims.{toldBy, madeBy}
 
 -- v has a holder in the record
 abbrev pub heldIn : State → ℕ → Bool
 heldIn s v = held (s .small .n) (at (s .holders)) v
 
--- An accepted placing, of any record: it unholds nobody, and adds at most the next in the order.
+-- An accepted placing, in either way, of any record: it unholds nobody, and adds at most the next in the order.
 unfoldable pub PlacingKeeps : Type 0
 PlacingKeeps =
-    (s : State) → call s place .refusal ≡ 0 → (v : ℕ) → v < s .small .n
-    → (heldIn s v ≡ true → heldIn (call s place .state) v ≡ true)
-    × (heldIn (call s place .state) v ≡ true → (heldIn s v ≡ true) ⊎ (v ≡ at (s .order) (s .small .k)))
+    (s : State) (w : Way) → call s (placeBy w) .refusal ≡ 0 → (v : ℕ) → v < s .small .n
+    → (heldIn s v ≡ true → heldIn (call s (placeBy w) .state) v ≡ true)
+    × (heldIn (call s (placeBy w) .state) v ≡ true → (heldIn s v ≡ true) ⊎ (v ≡ at (s .order) (s .small .k)))
 
 -- Every other call leaves the holders as they are.
 unfoldable pub OthersKeep : Type 0

@@ -10,6 +10,7 @@ pub mod Turns
 pub mod MembersTurn
 pub mod Records
 pub mod Claims
+pub mod SameKept
 pub mod Kept
 pub mod Moved
 pub mod Cases

@@ -13,7 +13,7 @@ use Rattle.packing.specs.Holders.{held}
 use Rattle.stars.specs.Stars.{leaderListBy, placeOf, notLater, leaderList}
 use Rattle.search.specs.ChokeSet.{chokeByte}
 use Rattle.planner.specs.State.{State, stateOf, withOrder, linksOf, limitOf}
-use Rattle.planner.specs.Calls.{openCall, Call, link, order, place, read, callRefusal, call, readLeaders, readChoke}
+use Rattle.planner.specs.Calls.{openCall, Way, Call, link, order, placeBy, read, callRefusal, call, readLeaders, readChoke}
 use Rattle.planner.specs.Turns.{SoundFacts}
 
 -- Open (n, T, lists): "order 0, 1, .., no holder, m = 0, k = 0", entry by entry, and nothing past n
@@ -62,7 +62,7 @@ pub record AfterOrder (s : State) (numbers : List ℕ) (after : State) : Type 0 
 unfoldable pub OrderGives : Type 0
 OrderGives = (s : State) (numbers : List ℕ) → call s (order numbers) .refusal ≡ 0 → AfterOrder s numbers (call s (order numbers) .state)
 
--- "Place: .. k rises by one"; what it does to the holders is said in search/specs/Search.antt, and in Kept.antt
+-- "Place: .. k rises by one", in either way; what it does to the holders is said in search/specs/Search.antt and recursion/specs/Recursion.antt, and in Kept.antt
 pub record AfterPlace (s after : State) : Type 0 where
   pub gateways : after .small .n ≡ s .small .n
   pub limit : after .small .t ≡ s .small .t
@@ -72,7 +72,7 @@ pub record AfterPlace (s after : State) : Type 0 where
   pub order : after .order ≡ s .order
 
 unfoldable pub PlaceGives : Type 0
-PlaceGives = (s : State) → call s place .refusal ≡ 0 → AfterPlace s (call s place .state)
+PlaceGives = (s : State) (w : Way) → call s (placeBy w) .refusal ≡ 0 → AfterPlace s (call s (placeBy w) .state)
 
 -- Read changes nothing of the record.
 unfoldable pub ReadGives : Type 0

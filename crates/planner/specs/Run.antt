@@ -2,7 +2,7 @@
 use Prim.Native.Nat.{ℕ, zero, suc, _+_}
 use mathlib.Core.List.{List, [], _∷_, _++_}
 use Rattle.planner.specs.State.{State}
-use Rattle.planner.specs.Calls.{Call, link, order, place, openCall, call, callMoves}
+use Rattle.planner.specs.Calls.{Way, queued, Call, link, order, placeBy, openCall, call, callMoves}
 
 -- "The list begins from what an accepted open gave."
 abbrev pub afterOpen : ℕ → ℕ → List ℕ → List ℕ → List ℕ → State
@@ -24,15 +24,19 @@ unfoldable pub runMoves : State → List Call → ℕ
 runMoves s [] = 0
 runMoves s (c ∷ calls) = callMoves s c + runMoves (call s c .state) calls
 
--- the calls that fill a plant with links, two numbers each, and an order, and place the first k
+-- the calls that fill a plant with links, two numbers each, and an order, and place the first k in one way
 unfoldable pub linkCalls : List ℕ → List Call
 linkCalls [] = []
 linkCalls (a ∷ []) = []
 linkCalls (a ∷ b ∷ rest) = link a b ∷ linkCalls rest
 
-unfoldable pub placeCalls : ℕ → List Call
-placeCalls zero = []
-placeCalls (suc k) = place ∷ placeCalls k
+unfoldable pub placeCallsBy : Way → ℕ → List Call
+placeCallsBy w zero = []
+placeCallsBy w (suc k) = placeBy w ∷ placeCallsBy w k
 
-unfoldable pub plantCalls : List ℕ → List ℕ → ℕ → List Call
-plantCalls links numbers k = linkCalls links ++ (order numbers ∷ placeCalls k)
+unfoldable pub plantCallsBy : Way → List ℕ → List ℕ → ℕ → List Call
+plantCallsBy w links numbers k = linkCalls links ++ (order numbers ∷ placeCallsBy w k)
+
+-- .. by 01's search
+abbrev pub placeCalls : ℕ → List Call
+placeCalls k = placeCallsBy queued k

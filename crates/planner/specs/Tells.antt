@@ -6,7 +6,7 @@ use mathlib.Core.List.{List, [], _∷_}
 use lib.ListN.{length}
 use Rattle.packing.specs.Orders.{upTo}
 use Rattle.packing.specs.Refusals.{byNumber}
-use Rattle.planner.specs.Calls.{Call, link, order, place, read}
+use Rattle.planner.specs.Calls.{Call, link, order, placeBy, read}
 use Rattle.planner.specs.Told.{Told, beginning, tell, toldNumbers}
 
 -- the accepted calls: those whose number is 0
@@ -20,7 +20,7 @@ unfoldable pub linksIn : List Call → List ℕ
 linksIn [] = []
 linksIn (link a b ∷ calls) = a ∷ b ∷ linksIn calls
 linksIn (order numbers ∷ calls) = linksIn calls
-linksIn (place ∷ calls) = linksIn calls
+linksIn (placeBy w ∷ calls) = linksIn calls
 linksIn (read leaders choke ∷ calls) = linksIn calls
 
 -- the last order, or the first one if there is none
@@ -28,15 +28,15 @@ unfoldable pub lastOrder : List ℕ → List Call → List ℕ
 lastOrder first [] = first
 lastOrder first (link a b ∷ calls) = lastOrder first calls
 lastOrder first (order numbers ∷ calls) = lastOrder numbers calls
-lastOrder first (place ∷ calls) = lastOrder first calls
+lastOrder first (placeBy w ∷ calls) = lastOrder first calls
 lastOrder first (read leaders choke ∷ calls) = lastOrder first calls
 
--- how many place calls there are
+-- how many place calls there are, in any way
 unfoldable pub placings : List Call → ℕ
 placings [] = 0
 placings (link a b ∷ calls) = placings calls
 placings (order numbers ∷ calls) = placings calls
-placings (place ∷ calls) = 1 + placings calls
+placings (placeBy w ∷ calls) = 1 + placings calls
 placings (read leaders choke ∷ calls) = placings calls
 
 -- what was told is the plant of the accepted calls

@@ -4,7 +4,7 @@ use mathlib.Core.List.{List, [], _∷_, _++_}
 use Rattle.packing.specs.Orders.{upTo}
 use Rattle.packing.specs.Plant.{common}
 use Rattle.packing.specs.Refusals.{byNumber}
-use Rattle.planner.specs.Calls.{Call, link, order, place, read, conditionsOf}
+use Rattle.planner.specs.Calls.{Call, link, order, placeBy, read, conditionsOf}
 
 -- n and T as open was handed them, a limit for each gateway, the length of the lent link list, the links accepted so far with their number, the order last accepted, the placings so far
 pub record Told : Type 0 where
@@ -30,7 +30,7 @@ unfoldable pub accepted : Told → Call → Told
 accepted p (link a b) =
     record { n = p .n; t = p .t; limit = p .limit; room = p .room; links = p .links ++ (a ∷ b ∷ []); m = p .m + 1; order = p .order; placed = p .placed }
 accepted p (order numbers) = record { n = p .n; t = p .t; limit = p .limit; room = p .room; links = p .links; m = p .m; order = numbers; placed = p .placed }
-accepted p place = record { n = p .n; t = p .t; limit = p .limit; room = p .room; links = p .links; m = p .m; order = p .order; placed = p .placed + 1 }
+accepted p (placeBy w) = record { n = p .n; t = p .t; limit = p .limit; room = p .room; links = p .links; m = p .m; order = p .order; placed = p .placed + 1 }
 accepted p (read leaders choke) = p
 
 unfoldable pub tellOne : Told → Call → Told

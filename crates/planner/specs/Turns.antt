@@ -10,7 +10,7 @@ use Rattle.packing.specs.Plant.{at}
 use Rattle.packing.specs.Turns.{Turn, done, named, FirstNamed, LinkThere, firstEnd, secondEnd, RepeatsOrOutside}
 use Rattle.sound.specs.Facts.{Facts}
 use Rattle.planner.specs.State.{State}
-use Rattle.planner.specs.Calls.{openCall, Call, link, order, place, read, call}
+use Rattle.planner.specs.Calls.{openCall, Call, link, order, placeBy, read, call}
 use Rattle.planner.specs.Told.{Told, beginning, refuses, tell}
 
 -- "open 1, 2, 10": "n above 1,024"; "T below 2 or above 16"; "open needs n in order and holders"
@@ -37,7 +37,7 @@ orderTurn n k numbers =
     (named 5 (length numbers ≡ n → ⊥)
     (named 6 (RepeatsOrOutside n (at numbers)) done))
 
--- "Place 26, 24", after 26: "Place when k = n"
+-- "Place 26, 24", after 26: "Place when k = n"; of either way (02, change 7: "Turns and refusals are place's")
 unfoldable pub placeTurn : ℕ → ℕ → Turn
 placeTurn n k = named 24 (k ≡ n) done
 
@@ -49,7 +49,7 @@ readTurn n leaders choke = named 10 ((length leaders < n) ⊎ (length choke < n)
 abbrev pub turnOf : (n k m : ℕ) (ls : List ℕ) (room : ℕ) → Call → Turn
 turnOf n k m ls room (link a b) = linkTurn n k m ls room a b
 turnOf n k m ls room (order numbers) = orderTurn n k numbers
-turnOf n k m ls room place = placeTurn n k
+turnOf n k m ls room (placeBy w) = placeTurn n k
 turnOf n k m ls room (read leaders choke) = readTurn n leaders choke
 
 -- "26. The record is not sound."
@@ -67,7 +67,7 @@ toldTurn p c = turnOf (p .n) (p .placed) (p .m) (p .links) (p .room) c
 unfoldable pub OpenExactly : Type 0
 OpenExactly = (n t : ℕ) (ls os hs : List ℕ) → FirstNamed (openTurn n t os hs) (openCall n t ls os hs .refusal)
 
--- link, order, place and read, on any record, sound or not
+-- link, order, placing in either way and read, on any record, sound or not
 unfoldable pub CallExactly : Type 0
 CallExactly = (s : State) (c : Call) → FirstNamed (callTurn s c) (call s c .refusal)
 

@@ -116,7 +116,7 @@ impl Small {
 
     // The next in the order is kept or left. So that it finds a holder, others may change theirs; all whose holder changed are counted.
     pub fn place(self, links: &[u16], order: &[u16], holders: &mut [u16]) -> PlaceAnswer
-        ensures answer { λ r. ⌜ r ≡ placeAnswerOf (stateOf self (now (links .entry)) (now (order .entry)) (now (holders .entry))) ⌝ }
+        ensures answer { λ r. ⌜ r ≡ placeAnswerOf (stateOf self (now (links .entry)) (now (order .entry)) (now (holders .entry))) calls.place ⌝ }
         ensures holders { λ _. ⌜ now (holders .exit) ≡ call (stateOf self (now (links .entry)) (now (order .entry)) (now (holders .entry))) calls.place .state .holders ⌝ }
     {
         let n = self.n;

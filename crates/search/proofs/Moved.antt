@@ -11,7 +11,7 @@ use Rattle.packing.specs.Holders.{held}
 use Rattle.packing.specs.Moved.{Kept, moved}
 use Rattle.packing.proofs.Tests.{by-bool, clash, not-i}
 use Rattle.packing.proofs.Sums.{count-some}
-use Rattle.packing.proofs.Moved.{moved-none, fewest}
+use Rattle.packing.proofs.Moved.{new-moved, moved-none, fewest}
 use Rattle.search.specs.Search.{walk, settled, placeable, placedHolders, holdersAfter}
 use Rattle.search.specs.Moved.{movedBy, NoneMoved, NewCounted, LeastPlaced}
 use Rattle.search.specs.Pre.{Placeable}
@@ -38,11 +38,8 @@ none-moved n limit ls hs v =
     refused q = rw q (moved-none n (at hs))
 
 pub new-counted : NewCounted
-unfolding NewCounted movedBy moved
-new-counted n limit ls hs v e h =
-    let p = placeable-means n hs v e in
-    let other : at hs v ≡ at (holdersAfter n limit ls hs v) v → ⊥ = λ q. clash (held n (at hs) v) (rw q h) (p .free) in
-    (other, count-some n (λ w. not (eqb (at hs w) (at (holdersAfter n limit ls hs v) w))) v (p .inside) (not-i _ (ne-eqb _ _ other)))
+unfolding NewCounted movedBy
+new-counted n limit ls hs v e h = let p = placeable-means n hs v e in new-moved n (at hs) (at (holdersAfter n limit ls hs v)) v (p .inside) (p .free) h
 
 pub least-placed : LeastPlaced
 unfolding LeastPlaced movedBy

@@ -1,10 +1,12 @@
 use native.Mathlib.Omega.{arith}
-use mathlib.Core.Path.{sym, refl}
+use mathlib.Core.Path.{sym, refl, ap}
 use borrow.Author.Tests.{not-true, not-false}
 use lib.Seq.{length-take-le}
 use Rattle.packing.specs.Plant.{firstLinks}
 use Rattle.planner.specs.State.{soundState}
-use Rattle.planner.specs.Calls.{conditions, callRefusal, changed}
+use Rattle.search.specs.Moved.{movedBy}
+use Rattle.search.specs.declared.Placed.{Placed}
+use Rattle.planner.specs.Calls.{queued, conditions, callRefusal, changed}
 use Rattle.planner.proofs.Conditions.{unsound-number, sound-number, place-full, place-next}
 use Rattle.planner.proofs.Outcomes.{place-refused, place-accepted}
 use Rattle.planner.proofs.Next.{checked, next-placed, next-moved}
@@ -20,14 +22,14 @@ same-length c = search needs
 
 returns : tie.Need-returns
 unfolding callRefusal conditions soundState
-returns c = place-refused _ (unsound-number _ (c .before .is-sound .ensures) (not-true _ (c .if1 .taken))) (λ z. omega arith)
+returns c = place-refused _ _ (unsound-number _ (c .before .is-sound .ensures) (not-true _ (c .if1 .taken))) (λ z. omega arith)
 
 same-length-2 : tie.Need-same-length-2
 same-length-2 c = search needs
 
 returns-2 : tie.Need-returns-2
 unfolding callRefusal conditions soundState
-returns-2 c = place-refused _ (sound-number (c .before .before .is-sound .ensures) (not-false _ (c .before .if1 .left)) (place-full _ _ (c .if2 .taken))) (λ z. omega arith)
+returns-2 c = place-refused _ _ (sound-number (c .before .before .is-sound .ensures) (not-false _ (c .before .if1 .left)) (place-full _ _ (c .if2 .taken))) (λ z. omega arith)
 
 cast-end : tie.Need-cast-end
 cast-end c = search needs
@@ -66,12 +68,12 @@ same-length-3 : tie.Need-same-length-3
 same-length-3 c = search needs
 
 returns-3 : tie.Need-returns-3
-unfolding callRefusal conditions soundState changed firstLinks
+unfolding callRefusal conditions soundState changed firstLinks movedBy
 returns-3 c = let test = c .before .before .before .before .before .before .before .before in
     let sound = checked _ _ _ _ _ _ _ (test .before .before .is-sound .ensures) (test .before .if1 .left) in
-    place-accepted _ (sound-number (test .before .before .is-sound .ensures) (not-false _ (test .before .if1 .left)) (place-next _ _ (test .if2 .left))) refl
-    (next-placed _ sound _ (test .if2 .left) (c .before .before .before .before .before .before .before .bytes .ensures) (c .before .before .place .ensures .1))
-    (next-moved _ sound _ (test .if2 .left) (c .before .before .before .before .before .before .before .bytes .ensures) (c .before .before .place .ensures .0))
+    place-accepted _ _ (sound-number (test .before .before .is-sound .ensures) (not-false _ (test .before .if1 .left)) (place-next _ _ (test .if2 .left))) refl
+    (next-placed _ sound queued _ (test .if2 .left) (c .before .before .before .before .before .before .before .bytes .ensures) (c .before .before .place .ensures .1))
+    (next-moved _ sound queued _ (test .if2 .left) (c .before .before .before .before .before .before .before .bytes .ensures) (ap (λ (b : Placed). b .moved) (c .before .before .place .ensures .0)))
 
 pub place-spec : {M : Type 1} → statement M
 place-spec =
