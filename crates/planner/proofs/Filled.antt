@@ -4,7 +4,8 @@ use mathlib.Core.Path.{_≡_, refl}
 use mathlib.Core.List.{List, _∷_}
 use native.Mathlib.Omega.{arith}
 use Rattle.planner.specs.State.{State}
-use Rattle.planner.specs.Calls.{Way, order, placeBy, call}
+use Rattle.planner.specs.declared.Way.{Way}
+use Rattle.planner.specs.Calls.{order, placeBy, call}
 use Rattle.planner.specs.Run.{run, runMoves, linkCalls, placeCallsBy, plantCallsBy}
 use Rattle.planner.specs.Moved.{NobodyMoved}
 use Rattle.planner.proofs.Agree.{run-append}

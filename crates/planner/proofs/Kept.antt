@@ -14,7 +14,8 @@ use Rattle.packing.proofs.Tests.{or-l, or-cases}
 use Rattle.packing.proofs.Placing.{PlacedIn}
 use Rattle.planner.specs.declared.Small.{Small}
 use Rattle.planner.specs.State.{State, linksOf, limitOf}
-use Rattle.planner.specs.Calls.{Way, Call, link, order, placeBy, read, conditions, callRefusal, changed, call}
+use Rattle.planner.specs.declared.Way.{Way}
+use Rattle.planner.specs.Calls.{Call, link, order, placeBy, read, conditions, callRefusal, changed, call}
 use Rattle.planner.specs.Told.{Told, refuses, accepted, tellOne}
 use Rattle.planner.specs.Run.{afterOpen, run}
 use Rattle.planner.specs.Claims.{toldBy, madeBy}

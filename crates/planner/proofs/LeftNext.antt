@@ -14,7 +14,8 @@ use Rattle.packing.proofs.Prefixes.{blocked-holders, blocked-groupings}
 use Rattle.packing.proofs.Placing.{Left, still-held, kept-held, left-blocked}
 use Rattle.stars.specs.Stars.{leaderList}
 use Rattle.planner.specs.State.{State, linksOf, limitOf}
-use Rattle.planner.specs.Calls.{Way, placeBy, changed, call}
+use Rattle.planner.specs.declared.Way.{Way}
+use Rattle.planner.specs.Calls.{placeBy, changed, call}
 use Rattle.planner.specs.Told.{Told, refuses}
 use Rattle.planner.specs.Claims.{GroupingTold, BeforePlacing, NextLeft, CoversKept, LeftExactly, LeftExactlyOf, LeftExactlyByHolders, LeftExactlyByHoldersOf}
 use Rattle.planner.proofs.Conditions.{place-next}

@@ -24,7 +24,8 @@ use Rattle.packing.proofs.Prefixes.{IsOrder, order-place}
 use Rattle.packing.proofs.Placing.{PlacedIn, Standing, standing-placed}
 use Rattle.sound.proofs.Meaning.{joined-ends}
 use Rattle.planner.specs.State.{State, withSmall, withHolders, linksOf, limitOf}
-use Rattle.planner.specs.Calls.{opened, onePlaced, Way, link, order, placeBy, changed}
+use Rattle.planner.specs.declared.Way.{Way}
+use Rattle.planner.specs.Calls.{opened, onePlaced, link, order, placeBy, changed}
 use Rattle.planner.proofs.Ways.{ways-place}
 use Rattle.planner.proofs.Next.{SoundState, none-unheld, next-placeable}
 

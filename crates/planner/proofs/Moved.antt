@@ -19,7 +19,10 @@ use Rattle.search.proofs.Moved.{none-moved, new-counted, least-placed}
 use Rattle.sound.specs.Facts.{SoundMeans}
 use Rattle.sound.proofs.Facts.{sound-means-facts}
 use Rattle.planner.specs.State.{State, linksOf, limitOf, soundState}
-use Rattle.planner.specs.Calls.{Way, queued, placedBy, Call, link, order, placeBy, place, read, conditions, callRefusal, changed, call, callMoves}
+use Rattle.planner.specs.declared.Way.{Way}
+use Rattle.planner.specs.declared.Way.the-variants.{Queued}
+use Rattle.planner.specs.Ways.{placedBy}
+use Rattle.planner.specs.Calls.{Call, link, order, placeBy, place, read, conditions, callRefusal, changed, call, callMoves}
 use Rattle.planner.specs.Turns.{SoundFacts}
 use Rattle.planner.specs.Kept.{heldIn, OthersKeep}
 use Rattle.planner.specs.Moved.{nextOf, NobodyMoved, NewOneMoved, FewestMoved}
@@ -86,7 +89,7 @@ new-one-moved s w f more kept =
 module _ (s : State) (z : callRefusal s place ≡ 0) where
   after : call s place .state .holders ≡ holdersAfter (s .small .n) (limitOf s) (linksOf s) (s .holders) (nextOf s)
   unfolding call changed placedBy
-  after = rw z (sym (holders-placed (limitOf s) (linksOf s) (next s queued z)))
+  after = rw z (sym (holders-placed (limitOf s) (linksOf s) (next s Queued z)))
 
   moves : callMoves s place ≡ movedBy (s .small .n) (limitOf s) (linksOf s) (s .holders) (nextOf s)
   unfolding callMoves movedBy
@@ -97,8 +100,8 @@ pub accepted-fewest : (s : State) → callRefusal s place ≡ 0 → held (s .sma
     → Fewest (s .small .n) (limitOf s) (linked (linksOf s)) (at (s .holders)) (at (call s place .state .holders)) (nextOf s) (callMoves s place)
 unfolding LeastPlaced limitOf
 accepted-fewest s z kept =
-    rw (after s z, moves s z) (least-placed (s .small .n) (limitOf s) (linksOf s) (s .holders) (nextOf s) (placeable-holds (next s queued z)) (accepted-sound s place z .0 .feasible) (rw (after s z) at kept))
+    rw (after s z, moves s z) (least-placed (s .small .n) (limitOf s) (linksOf s) (s .holders) (nextOf s) (placeable-holds (next s Queued z)) (accepted-sound s place z .0 .feasible) (rw (after s z) at kept))
 
 pub fewest-moved : FewestMoved
 unfolding FewestMoved
-fewest-moved s f more kept = let z = accepts s queued f more in accepted-fewest s z (rw (gateways s queued z) at kept)
+fewest-moved s f more kept = let z = accepts s Queued f more in accepted-fewest s z (rw (gateways s Queued z) at kept)

@@ -10,7 +10,8 @@ use Rattle.packing.specs.Plant.{GATEWAYS, at}
 use Rattle.packing.proofs.Tests.{by-bool}
 use Rattle.packing.proofs.Moved.{moved-bound}
 use Rattle.planner.specs.State.{State}
-use Rattle.planner.specs.Calls.{Way, Call, link, placeBy, conditions, callRefusal, call, callMoves}
+use Rattle.planner.specs.declared.Way.{Way}
+use Rattle.planner.specs.Calls.{Call, link, placeBy, conditions, callRefusal, call, callMoves}
 use Rattle.planner.specs.Run.{run, runMoves, linkCalls, placeCallsBy}
 use Rattle.planner.specs.Moved.{NobodyMoved}
 use Rattle.planner.specs.Records.{PlaceGives, RefusedUnchanged}

@@ -11,6 +11,7 @@ use Rattle.packing.specs.Plant.{GATEWAYS, NONE, at}
 use Rattle.packing.specs.Holders.{held}
 use Rattle.packing.specs.Moved.{moved}
 use Rattle.search.specs.ChokeSet.{chokeByte, chokeWritten}
+use Rattle.search.specs.declared.Placed.{Placed}
 use Rattle.search.specs.Pre.{Placeable}
 use Rattle.search.proofs.Tested.{chokeable-holds, choke-written}
 use Rattle.sound.specs.Sound.{isSound}
@@ -19,8 +20,9 @@ use Rattle.sound.proofs.Searchable.{sound-searchable}
 use Rattle.stars.specs.Stars.{leaderList, leadersWritten}
 use Rattle.stars.proofs.Lent.{leaders-written}
 use Rattle.planner.specs.State.{State, linksOf, limitOf}
-use Rattle.planner.specs.Calls.{Way, placedBy}
-use Rattle.planner.proofs.Ways.{afterBy, ways-common}
+use Rattle.planner.specs.declared.Way.{Way}
+use Rattle.planner.specs.Ways.{placedBy, afterBy, answerBy}
+use Rattle.planner.proofs.Ways.{ways-common, answer-moved}
 
 -- what it is for a record to be sound
 abbrev pub SoundState : State → Type 0
@@ -54,10 +56,11 @@ module _ (s : State) (sound : SoundState s) where
   next-placed w limits more is e = e ∙ rw is (ways-common w (s .small .t) (linksOf s) (next-placeable more))
 
   -- .. and so many are moved
-  pub next-moved : (w : Way) (limits : List ℕ) {m : ℕ} → (s .small .k ≡ s .small .n → ⊥) → limits ≡ replicate GATEWAYS (s .small .t)
-      → m ≡ moved (s .small .n) (at (s .holders)) (at (afterBy w (s .small .n) (at limits) (linksOf s) (s .holders) (at (s .order) (s .small .k))))
-      → m ≡ moved (s .small .n) (at (s .holders)) (at (placedBy w (s .small .n) (limitOf s) (linksOf s) (s .holders) (at (s .order) (s .small .k))))
-  next-moved w limits more is e = e ∙ ap (λ (l : List ℕ). moved (s .small .n) (at (s .holders)) (at l)) (next-placed w limits more is refl)
+  pub next-moved : (w : Way) (limits : List ℕ) {a : Placed} → (s .small .k ≡ s .small .n → ⊥) → limits ≡ replicate GATEWAYS (s .small .t)
+      → a ≡ answerBy w (s .small .n) (at limits) (linksOf s) (s .holders) (at (s .order) (s .small .k))
+      → a .moved ≡ moved (s .small .n) (at (s .holders)) (at (placedBy w (s .small .n) (limitOf s) (linksOf s) (s .holders) (at (s .order) (s .small .k))))
+  next-moved w limits more is e =
+      ap (λ (b : Placed). b .moved) e ∙ answer-moved w _ _ _ _ _ ∙ ap (λ (l : List ℕ). moved (s .small .n) (at (s .holders)) (at l)) (next-placed w limits more is refl)
 
   -- the leader list and the choke bytes are written where there is a place for each
   pub leaders-placed : (leaders : List ℕ) {leaders' : List ℕ} → s .small .n ≤ length leaders → leaders' ≡ leadersWritten (s .small .n) (s .order) (s .holders) leaders

@@ -22,7 +22,8 @@ use Rattle.search.specs.ChokeSet.{withoutHolder, chokeWalk, seenIn, walkSaw, in
 use Rattle.packing.specs.Orders.{upTo, repeatsOrOutside}
 use Rattle.planner.specs.Refusals.{openRefusal, linkConditions, orderConditions, placeConditions, readConditions}
 use Rattle.planner.specs.State.{limitOf, soundState}
-use Rattle.planner.specs.Calls.{opened, openCall, conditions, callRefusal, changed, call, callMoves, readLeaders, readChoke, placedBy}
+use Rattle.planner.specs.Ways.{placedBy}
+use Rattle.planner.specs.Calls.{opened, openCall, conditions, callRefusal, changed, call, callMoves, readLeaders, readChoke}
 use Rattle.planner.specs.Run.{run, runMoves, linkCalls, placeCallsBy}
 use Rattle.planner.specs.Cases.{Row, stands, readsAfter, holds, gives, differsAfter, moves, movesOf, after, leadersOf, chokeOf, withoutLink, limitsOf, aloneOf, sameList, rowHolds, empty, one, two, path, star, starBack, star4, listed, ring, twoLinked, twoLinkedBack, ringBack, chain, table, early, pairs, moving, rowsHold, Means}
 

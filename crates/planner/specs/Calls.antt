@@ -8,13 +8,14 @@ use Rattle.packing.specs.Orders.{upTo}
 use Rattle.packing.specs.Plant.{NONE, at}
 use Rattle.packing.specs.Refusals.{refuse, byNumber}
 use Rattle.packing.specs.Moved.{moved}
-use Rattle.search.specs.Search.{placedHolders}
 use Rattle.search.specs.ChokeSet.{chokeByte}
-use Rattle.recursion.specs.Recursion.{recursiveHolders}
 use Rattle.stars.specs.Stars.{leaderList}
 use Rattle.planner.specs.declared.Small.{Small}
 use Rattle.planner.specs.declared.Answer.{Answer}
 use Rattle.planner.specs.declared.PlaceAnswer.{PlaceAnswer}
+use Rattle.planner.specs.declared.Way.{Way}
+use Rattle.planner.specs.declared.Way.the-variants.{Queued, Recursive}
+use Rattle.planner.specs.Ways.{placedBy}
 use Rattle.planner.specs.Refusals.{openRefusal, linkConditions, orderConditions, placeConditions, readConditions}
 use Rattle.planner.specs.State.{State, stateOf, withSmall, withLinks, withOrder, withHolders, linksOf, limitOf, soundState}
 
@@ -42,16 +43,6 @@ opened n t ls os hs = stateOf (smallOpened n t) ls (written n (upTo n) os) (writ
 unfoldable pub openCall : ℕ → ℕ → List ℕ → List ℕ → List ℕ → Outcome
 openCall n t ls os hs = outcome (openRefusal n t os hs) (opened n t ls os hs) (stateOf (smallOpened 0 2) ls os hs)
 
--- The ways of placing the next gateway: 01's search, by a queue; and the short search of 02, change 7, by two functions that call each other.
-pub data Way : Type 0 where
-  queued : Way
-  recursive : Way
-
--- the holders that each leaves
-unfoldable pub placedBy : Way → ℕ → (ℕ → ℕ) → List ℕ → List ℕ → ℕ → List ℕ
-placedBy queued n limit ls hs v = placedHolders n limit ls hs v
-placedBy recursive n limit ls hs v = recursiveHolders n limit ls hs v
-
 -- The calls on a record, with what else each is handed: a link's two ends, the numbers of a new order, the lists lent for leaders and choke bytes.
 pub data Call : Type 0 where
   link : ℕ → ℕ → Call
@@ -61,10 +52,10 @@ pub data Call : Type 0 where
 
 -- 01's call of place, and the second one: "Turns and refusals are place's"
 abbrev pub place : Call
-place = placeBy queued
+place = placeBy Queued
 
 abbrev pub placeRecursive : Call
-placeRecursive = placeBy recursive
+placeRecursive = placeBy Recursive
 
 -- each call's conditions, in 01's turn after 26, by n, the placings k, the links l so far with their number m, and the length room of the lent link list
 abbrev pub conditionsOf : (n k m : ℕ) (l : List ℕ) (room : ℕ) → Call → ℕ

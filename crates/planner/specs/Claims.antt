@@ -16,7 +16,8 @@ use Rattle.packing.specs.Choke.{ChokeDifference}
 use Rattle.packing.specs.SoFar.{SoFar}
 use Rattle.planner.specs.Refusals.{openRefusal}
 use Rattle.planner.specs.State.{State}
-use Rattle.planner.specs.Calls.{Way, Call, placeBy, place, read, call, callMoves, readLeaders, readChoke}
+use Rattle.planner.specs.declared.Way.{Way}
+use Rattle.planner.specs.Calls.{Call, placeBy, place, read, call, callMoves, readLeaders, readChoke}
 use Rattle.planner.specs.Told.{Told, beginning, refuses, tell, toldNumbers}
 use Rattle.planner.specs.Run.{afterOpen, run, runMoves, runNumbers}
 

@@ -1,6 +1,7 @@
 -- The calls of 01, each as functions of what was handed in, and the claims about any list of calls.
 pub mod Refusals
 pub mod State
+pub mod Ways
 pub mod Calls
 pub mod Members
 pub mod Told

@@ -6,7 +6,8 @@ use mathlib.Core.List.{List}
 use Rattle.packing.specs.Plant.{at, linked}
 use Rattle.packing.specs.Moved.{Fewest}
 use Rattle.planner.specs.State.{State, linksOf, limitOf}
-use Rattle.planner.specs.Calls.{Way, Call, link, order, placeBy, place, read, call, callMoves}
+use Rattle.planner.specs.declared.Way.{Way}
+use Rattle.planner.specs.Calls.{Call, link, order, placeBy, place, read, call, callMoves}
 use Rattle.planner.specs.Turns.{SoundFacts}
 use Rattle.planner.specs.Kept.{heldIn}
 

@@ -13,7 +13,8 @@ use Rattle.packing.specs.Holders.{held}
 use Rattle.stars.specs.Stars.{leaderListBy, placeOf, notLater, leaderList}
 use Rattle.search.specs.ChokeSet.{chokeByte}
 use Rattle.planner.specs.State.{State, stateOf, withOrder, linksOf, limitOf}
-use Rattle.planner.specs.Calls.{openCall, Way, Call, link, order, placeBy, read, callRefusal, call, readLeaders, readChoke}
+use Rattle.planner.specs.declared.Way.{Way}
+use Rattle.planner.specs.Calls.{openCall, Call, link, order, placeBy, read, callRefusal, call, readLeaders, readChoke}
 use Rattle.planner.specs.Turns.{SoundFacts}
 
 -- Open (n, T, lists): "order 0, 1, .., no holder, m = 0, k = 0", entry by entry, and nothing past n

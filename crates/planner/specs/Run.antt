@@ -2,7 +2,9 @@
 use Prim.Native.Nat.{ℕ, zero, suc, _+_}
 use mathlib.Core.List.{List, [], _∷_, _++_}
 use Rattle.planner.specs.State.{State}
-use Rattle.planner.specs.Calls.{Way, queued, Call, link, order, placeBy, openCall, call, callMoves}
+use Rattle.planner.specs.declared.Way.{Way}
+use Rattle.planner.specs.declared.Way.the-variants.{Queued}
+use Rattle.planner.specs.Calls.{Call, link, order, placeBy, openCall, call, callMoves}
 
 -- "The list begins from what an accepted open gave."
 abbrev pub afterOpen : ℕ → ℕ → List ℕ → List ℕ → List ℕ → State
@@ -39,4 +41,4 @@ plantCallsBy w links numbers k = linkCalls links ++ (order numbers ∷ placeCall
 
 -- .. by 01's search
 abbrev pub placeCalls : ℕ → List Call
-placeCalls k = placeCallsBy queued k
+placeCalls k = placeCallsBy Queued k

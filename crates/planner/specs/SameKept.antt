@@ -8,7 +8,8 @@ use Rattle.packing.specs.Grouping.{covered}
 use Rattle.packing.specs.Holders.{held}
 use Rattle.planner.specs.Refusals.{openRefusal}
 use Rattle.planner.specs.State.{State}
-use Rattle.planner.specs.Calls.{Way, Call, link, order, placeBy, read, readChoke}
+use Rattle.planner.specs.declared.Way.{Way}
+use Rattle.planner.specs.Calls.{Call, link, order, placeBy, read, readChoke}
 use Rattle.planner.specs.Told.{Told, refuses, tell}
 use Rattle.planner.specs.Claims.{toldBy, madeBy, leadersRead}
 

@@ -1,12 +1,15 @@
-// The calls of 01 on a record: the small part as a struct that goes in by value and comes back beside the refusal number, and three lent lists.
+// The calls of 01 on a record, and a second placing call (02, change 7): the small part as a struct that goes in by value and comes back beside the refusal number, and three lent lists.
 mod fill;
 pub mod members;
 mod refusals;
 
+use search::Placed;
 ghost use mathlib.Core.Path.{_≡_};
+ghost use Rattle.packing.specs.Plant.{at};
 ghost use Rattle.planner.specs.State.{stateOf};
 ghost use Rattle.planner.specs.Calls as calls;
 ghost use Rattle.planner.specs.Calls.{answerOf, openCall, call, placeAnswerOf, readLeaders, readChoke};
+ghost use Rattle.planner.specs.Ways.{afterBy, answerBy};
 
 // 01's small part: n gateways, limit T, m links, k placed.
 pub struct Small {
@@ -27,6 +30,30 @@ pub struct PlaceAnswer {
     pub refusal: u32,
     pub small: Small,
     pub moved: u16,
+}
+
+// The searches that find a holder for the next: 01's, by a queue, and the short one of 02, change 7.
+pub enum Way {
+    Queued,
+    Recursive,
+}
+
+// Places v by one of them.
+fn search_by(
+    way: Way,
+    n: u16,
+    v: u16,
+    limits: &[u8],
+    links: &[u16],
+    holders: &mut [u16],
+) -> Placed
+    ensures answer { λ r. ⌜ r ≡ answerBy way n (at (now (limits .entry))) (now (links .entry)) (now (holders .entry)) v ⌝ }
+    ensures holders { λ _. ⌜ now (holders .exit) ≡ afterBy way n (at (now (limits .entry))) (now (links .entry)) (now (holders .entry)) v ⌝ }
+{
+    match way {
+        Way::Queued => search::place(n, v, limits, links, holders),
+        Way::Recursive => recursion::place(n, v, limits, links, holders),
+    }
 }
 
 impl Small {
@@ -119,6 +146,28 @@ impl Small {
         ensures answer { λ r. ⌜ r ≡ placeAnswerOf (stateOf self (now (links .entry)) (now (order .entry)) (now (holders .entry))) calls.place ⌝ }
         ensures holders { λ _. ⌜ now (holders .exit) ≡ call (stateOf self (now (links .entry)) (now (order .entry)) (now (holders .entry))) calls.place .state .holders ⌝ }
     {
+        self.place_by(Way::Queued, links, order, holders)
+    }
+
+    // The same by the short search: the same gateways are kept, but holders may be others, and more may change theirs.
+    pub fn place_recursive(self, links: &[u16], order: &[u16], holders: &mut [u16]) -> PlaceAnswer
+        ensures answer { λ r. ⌜ r ≡ placeAnswerOf (stateOf self (now (links .entry)) (now (order .entry)) (now (holders .entry))) calls.placeRecursive ⌝ }
+        ensures holders { λ _. ⌜ now (holders .exit) ≡ call (stateOf self (now (links .entry)) (now (order .entry)) (now (holders .entry))) calls.placeRecursive .state .holders ⌝ }
+    {
+        self.place_by(Way::Recursive, links, order, holders)
+    }
+
+    // .. in the way that is named.
+    pub fn place_by(
+        self,
+        way: Way,
+        links: &[u16],
+        order: &[u16],
+        holders: &mut [u16],
+    ) -> PlaceAnswer
+        ensures answer { λ r. ⌜ r ≡ placeAnswerOf (stateOf self (now (links .entry)) (now (order .entry)) (now (holders .entry))) (calls.placeBy way) ⌝ }
+        ensures holders { λ _. ⌜ now (holders .exit) ≡ call (stateOf self (now (links .entry)) (now (order .entry)) (now (holders .entry))) (calls.placeBy way) .state .holders ⌝ }
+    {
         let n = self.n;
         let t = self.t;
         let m = self.m;
@@ -140,7 +189,14 @@ impl Small {
         let end = 2 * (m as usize);
         let limits = lists::marks::bytes(t);
         // It is done: the next of a sound record may be placed.
-        let placed = search::place(n, order[k as usize], &limits, &links[..end], holders);
+        let placed = search_by(
+            way,
+            n,
+            order[k as usize],
+            &limits,
+            &links[..end],
+            holders,
+        );
         PlaceAnswer {
             refusal: 0,
             small: Small { n, t, m, k: k + 1 },

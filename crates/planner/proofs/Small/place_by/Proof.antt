@@ -1,18 +1,16 @@
 use native.Mathlib.Omega.{arith}
-use mathlib.Core.Path.{sym, refl, ap}
+use mathlib.Core.Path.{sym, refl}
 use borrow.Author.Tests.{not-true, not-false}
 use lib.Seq.{length-take-le}
 use Rattle.packing.specs.Plant.{firstLinks}
 use Rattle.planner.specs.State.{soundState}
-use Rattle.search.specs.Moved.{movedBy}
-use Rattle.search.specs.declared.Placed.{Placed}
-use Rattle.planner.specs.Calls.{queued, conditions, callRefusal, changed}
+use Rattle.planner.specs.Calls.{conditions, callRefusal, changed}
 use Rattle.planner.proofs.Conditions.{unsound-number, sound-number, place-full, place-next}
 use Rattle.planner.proofs.Outcomes.{place-refused, place-accepted}
 use Rattle.planner.proofs.Next.{checked, next-placed, next-moved}
 use borrow.Author.Needs.{needs}
-use Rattle.planner.proofs.Small.place.Statement.{statement}
-use Rattle.planner.proofs.Small.place.Tie as tie
+use Rattle.planner.proofs.Small.place_by.Statement.{statement}
+use Rattle.planner.proofs.Small.place_by.Tie as tie
 
 is-sound-requires : tie.Need-is-sound-requires
 is-sound-requires c κs = search needs
@@ -40,43 +38,43 @@ mul-end c = search needs
 bytes-requires : tie.Need-bytes-requires
 bytes-requires c κs = search needs
 
-cast-place : tie.Need-cast-place
-cast-place c = search needs
+cast-search-by : tie.Need-cast-search-by
+cast-search-by c = search needs
 
-mul-place : tie.Need-mul-place
-mul-place c = search needs
+mul-search-by : tie.Need-mul-search-by
+mul-search-by c = search needs
 
-shared-slice-read-place : tie.Need-shared-slice-read-place
-shared-slice-read-place c = let test = c .before .before in
+shared-slice-read-search-by : tie.Need-shared-slice-read-search-by
+shared-slice-read-search-by c = let test = c .before .before in
     let sound = checked _ _ _ _ _ _ _ (test .before .before .is-sound .ensures) (test .before .if1 .left) in omega (arith, sound .placed, sound .order-long, test .if2 .left)
 
-slice-aggregate-place : tie.Need-slice-aggregate-place
-slice-aggregate-place c = search needs
+slice-aggregate-search-by : tie.Need-slice-aggregate-search-by
+slice-aggregate-search-by c = search needs
 
-slice-aggregate-place-2 : tie.Need-slice-aggregate-place-2
-slice-aggregate-place-2 c = let test = c .before .before .before .before in
+slice-aggregate-search-by-2 : tie.Need-slice-aggregate-search-by-2
+slice-aggregate-search-by-2 c = let test = c .before .before .before .before in
     sym (length-take-le _ _ (checked _ _ _ _ _ _ _ (test .before .before .is-sound .ensures) (test .before .if1 .left) .links-long))
 
-place-requires : tie.Need-place-requires
-place-requires c κs = search needs
+search-by-requires : tie.Need-search-by-requires
+search-by-requires c κs = search needs
 
-add-t20 : tie.Need-add-t20
-add-t20 c = let test = c .before .before .before .before .before .before .before .before in
+add-t21 : tie.Need-add-t21
+add-t21 c = let test = c .before .before .before .before .before .before .before .before in
     let sound = checked _ _ _ _ _ _ _ (test .before .before .is-sound .ensures) (test .before .if1 .left) in omega (arith, sound .placed, sound .few, test .if2 .left)
 
 same-length-3 : tie.Need-same-length-3
 same-length-3 c = search needs
 
 returns-3 : tie.Need-returns-3
-unfolding callRefusal conditions soundState changed firstLinks movedBy
+unfolding callRefusal conditions soundState changed firstLinks
 returns-3 c = let test = c .before .before .before .before .before .before .before .before in
     let sound = checked _ _ _ _ _ _ _ (test .before .before .is-sound .ensures) (test .before .if1 .left) in
     place-accepted _ _ (sound-number (test .before .before .is-sound .ensures) (not-false _ (test .before .if1 .left)) (place-next _ _ (test .if2 .left))) refl
-    (next-placed _ sound queued _ (test .if2 .left) (c .before .before .before .before .before .before .before .bytes .ensures) (c .before .before .place .ensures .1))
-    (next-moved _ sound queued _ (test .if2 .left) (c .before .before .before .before .before .before .before .bytes .ensures) (ap (λ (b : Placed). b .moved) (c .before .before .place .ensures .0)))
+    (next-placed _ sound _ _ (test .if2 .left) (c .before .before .before .before .before .before .before .bytes .ensures) (c .before .before .search-by .ensures .1))
+    (next-moved _ sound _ _ (test .if2 .left) (c .before .before .before .before .before .before .before .bytes .ensures) (c .before .before .search-by .ensures .0))
 
-pub place-spec : {M : Type 1} → statement M
-place-spec =
+pub place-by-spec : {M : Type 1} → statement M
+place-by-spec =
     tie.close
     (tie.spec
     is-sound-requires
@@ -87,12 +85,12 @@ place-spec =
     cast-end
     mul-end
     bytes-requires
-    cast-place
-    mul-place
-    shared-slice-read-place
-    slice-aggregate-place
-    slice-aggregate-place-2
-    place-requires
-    add-t20
+    cast-search-by
+    mul-search-by
+    shared-slice-read-search-by
+    slice-aggregate-search-by
+    slice-aggregate-search-by-2
+    search-by-requires
+    add-t21
     same-length-3
     returns-3)
