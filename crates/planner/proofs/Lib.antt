@@ -10,6 +10,7 @@ pub mod Agree
 pub mod Optimal
 pub mod Records
 pub mod Demands
+pub mod SameKept
 pub mod Kept
 pub mod Moved
 pub mod MovedSums
