@@ -15,7 +15,7 @@ use Rattle.packing.specs.Turns.{SameLink, firstEnd, secondEnd}
 use Rattle.packing.proofs.Tests.{below-suc}
 use Rattle.packing.proofs.Lists.{listOf-length, listOf-at}
 use Rattle.packing.proofs.Turns.{says-linked}
-use Rattle.planner.specs.Calls.{Call, link, order, place, read}
+use Rattle.planner.specs.Calls.{Call, link, order, placeBy, read}
 use Rattle.planner.specs.Told.{Told, beginning, refuses, accepted, tellOne, tell}
 use Rattle.planner.specs.Claims.{toldBy}
 use Rattle.planner.proofs.Conditions.{open-allowed, link-allowed}
@@ -98,7 +98,7 @@ told-fits p (link a b) f =
     by-number (refuses p (link a b)) (accepted p (link a b)) p
     (λ z. let (_, below-a, below-b, apart, new, room, _) = link-allowed (p .n) (p .placed) (p .m) (p .links) (p .room) a b refl z in one-link-more f a b below-a below-b apart new room) f
 told-fits p (order numbers) f = by-number (refuses p (order numbers)) (accepted p (order numbers)) p (λ _. f) f
-told-fits p place f = by-number (refuses p place) (accepted p place) p (λ _. f) f
+told-fits p (placeBy w) f = by-number (refuses p (placeBy w)) (accepted p (placeBy w)) p (λ _. f) f
 told-fits p (read leaders choke) f = by-number (refuses p (read leaders choke)) (accepted p (read leaders choke)) p (λ _. f) f
 
 -- .. and so do all

@@ -14,8 +14,9 @@ use Rattle.search.specs.ChokeSet.{chokeWalk, seenIn, queuedIn, walkSaw, walkQue
 use Rattle.search.specs.Reached.{queuedFrom, seenFrom, setWritten}
 use Rattle.planner.specs.Refusals.{openRefusal, linkConditions, orderConditions, placeConditions}
 use Rattle.planner.specs.State.{limitOf, soundState}
+use Rattle.planner.specs.Ways.{placedBy}
 use Rattle.planner.specs.Calls.{opened, openCall, conditions, callRefusal, changed, call}
-use Rattle.planner.specs.Run.{run, linkCalls, placeCalls}
+use Rattle.planner.specs.Run.{run, linkCalls, placeCallsBy}
 use Rattle.planner.specs.Cases.{Plant, after, one, starBack}
 use Rattle.violator.specs.WhyAlone.{isPlaced, whyConditions, whyRefusal, inFirst, inSecond, firstCount, secondCount, whyFirst, whySecond, firstSet, secondSet}
 
@@ -44,5 +45,5 @@ answers : (asked one 1 0 ≡ (0, 0 ∷ [], []))
     × (asked fourLeaves 5 3 ≡ (0, 1 ∷ 2 ∷ 3 ∷ [], 0 ∷ [])) × (asked fourLeaves 5 4 ≡ (0, 1 ∷ 2 ∷ 4 ∷ [], 0 ∷ []))
     × (asked twoCentres 7 6 ≡ (0, 2 ∷ 3 ∷ 4 ∷ 5 ∷ 6 ∷ [], 0 ∷ 1 ∷ []))
     × (asked starBack 4 1 ≡ (0, 1 ∷ 2 ∷ 3 ∷ 4 ∷ [], 0 ∷ []))
-unfolding asked one starBack twoStars fourLeaves twoCentres after sum count all any listOf listWhere memberOf written upTo repeatsOrOutside common firstLinks linked neighbours holds numbersSound listsLong endsSound onceEach holdersLinked holdersWithin onlyPlacedHeld isSound heldBy look visit turn turns walk shift settled placedHolders chokeWalk seenIn queuedIn walkSaw walkQueued queuedFrom seenFrom setWritten openRefusal linkConditions orderConditions placeConditions limitOf soundState opened openCall conditions callRefusal changed call run linkCalls placeCalls isPlaced whyConditions whyRefusal inFirst inSecond firstCount secondCount whyFirst whySecond firstSet secondSet
+unfolding asked one starBack twoStars fourLeaves twoCentres after sum count all any listOf listWhere memberOf written upTo repeatsOrOutside common firstLinks linked neighbours holds numbersSound listsLong endsSound onceEach holdersLinked holdersWithin onlyPlacedHeld isSound heldBy look visit turn turns walk shift settled placedHolders placedBy chokeWalk seenIn queuedIn walkSaw walkQueued queuedFrom seenFrom setWritten openRefusal linkConditions orderConditions placeConditions limitOf soundState opened openCall conditions callRefusal changed call run linkCalls placeCallsBy isPlaced whyConditions whyRefusal inFirst inSecond firstCount secondCount whyFirst whySecond firstSet secondSet
 answers = (refl, refl, refl, refl, refl, refl, refl, refl, refl, refl, refl)
