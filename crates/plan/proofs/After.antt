@@ -13,6 +13,7 @@ use Rattle.packing.proofs.Lists.{listOf-length, listOf-at, written-room, writte
 use Rattle.packing.proofs.SoFar.{so-far-below}
 use Rattle.stars.specs.Stars.{leaderList}
 use Rattle.search.specs.ChokeSet.{inChoke, chokeByte}
+use Rattle.planner.specs.declared.Way.{Way}
 use Rattle.planner.specs.Refusals.{openRefusal}
 use Rattle.planner.specs.Calls.{read, callRefusal, call, readLeaders, readChoke}
 use Rattle.planner.specs.Told.{beginning, refuses, tell}
@@ -22,8 +23,8 @@ use Rattle.planner.proofs.Demands.{read-any-time, earlier-leads-pairs}
 use Rattle.plant_file.specs.PlantFile.{fileN, fileT, fileLinks, fileOrder, fileRefusal}
 use Rattle.plant_file.proofs.Accepted.{file-allowed}
 use Rattle.plant_file.proofs.Refusing.{then-alone}
-use Rattle.plan.specs.Plan.{callsAfter, stateAfter}
-use Rattle.plan.specs.After.{afterRefusal, planAfterRefusal, planLeadersAfter, planChokeAfter, fileLeadersAfter, fileChokeAfter}
+use Rattle.plan.specs.Plan.{callsBy, stateBy}
+use Rattle.plan.specs.After.{afterRefusal, planAfterRefusal, planLeadersBy, planChokeBy, fileLeadersBy, fileChokeBy}
 use Rattle.plan.specs.Claim.{PlanSoFar, FileSoFar, FilePairs}
 use Rattle.plan.proofs.Refusing.{after-file, after-within, plan-alone, plan-places}
 use Rattle.plan.proofs.ToldByFile.{placedTold, open-accepted, read-accepted, file-tells}
@@ -53,20 +54,20 @@ module _ (file : List ℕ) (z : fileRefusal file ≡ 0) where
   unfolding written
   whole f = ap (λ (l : List ℕ). listOf (fileN file) f ++ l) (drop-of-length-le (replicate (fileN file) 0) {i = fileN file} (omega (arith, length-replicate {A = ℕ} (fileN file) 0))) ∙ append-nil (listOf (fileN file) f)
 
-  module _ (k : ℕ) (within : k ≤ fileN file) where
+  module _ (w : Way) (k : ℕ) (within : k ≤ fileN file) where
     -- what the calls tell: the file's n, T, links and order, and k placed
-    pub file-told : tell (beginning (fileN file) (fileT file) (length ownLinks)) (callsAfter file k) ≡ placedTold file (length ownLinks) k
-    file-told = file-tells file (length ownLinks) z (rw length-replicate (omega (arith, file-allowed file z .links-few))) k within
+    pub file-told : tell (beginning (fileN file) (fileT file) (length ownLinks)) (callsBy w file k) ≡ placedTold file (length ownLinks) k
+    file-told = file-tells file (length ownLinks) z (rw length-replicate (omega (arith, file-allowed file z .links-few))) w k within
 
-    pub file-agrees : Agrees (placedTold file (length ownLinks) k) (stateAfter file k)
-    unfolding stateAfter
-    file-agrees = rw file-told at (run-agrees (open-agrees (fileN file) (fileT file) ownLinks own own file-open) (callsAfter file k))
+    pub file-agrees : Agrees (placedTold file (length ownLinks) k) (stateBy w file k)
+    unfolding stateBy
+    file-agrees = rw file-told at (run-agrees (open-agrees (fileN file) (fileT file) ownLinks own own file-open) (callsBy w file k))
 
     module _ (leaders choke : List ℕ) (room : fileN file ≤ length leaders) (room₂ : fileN file ≤ length choke) where
       file-read : refuses (placedTold file (length ownLinks) k) (read leaders choke) ≡ 0
       file-read = read-accepted file (length ownLinks) k leaders choke room room₂
 
-      reads : callRefusal (stateAfter file k) (read leaders choke) ≡ 0
+      reads : callRefusal (stateBy w file k) (read leaders choke) ≡ 0
       unfolding call
       reads = same-number file-agrees (read leaders choke) ∙ file-read
 
@@ -74,35 +75,35 @@ module _ (file : List ℕ) (z : fileRefusal file ≡ 0) where
       after-passes = plan-alone file k (length leaders) (length choke) room room₂ ∙ after-within file k false within ∙ then-alone file ∙ z
 
       -- what is written: the leaders of the record made, and its choke bytes
-      leaders-written : planLeadersAfter file k leaders choke ≡ written (fileN file) (listOf (fileN file) (leaderList (fileN file) (stateAfter file k .order) (stateAfter file k .holders))) leaders
-      unfolding planLeadersAfter readLeaders
+      leaders-written : planLeadersBy w file k leaders choke ≡ written (fileN file) (listOf (fileN file) (leaderList (fileN file) (stateBy w file k .order) (stateBy w file k .holders))) leaders
+      unfolding planLeadersBy readLeaders
       leaders-written = rw (after-passes, reads, file-agrees .small)
 
-      pub choke-written : planChokeAfter file k leaders choke ≡ written (fileN file) (listOf (fileN file) (chokeByte (fileN file) (fileLinks file) (stateAfter file k .holders))) choke
-      unfolding planChokeAfter readChoke
+      pub choke-written : planChokeBy w file k leaders choke ≡ written (fileN file) (listOf (fileN file) (chokeByte (fileN file) (fileLinks file) (stateBy w file k .holders))) choke
+      unfolding planChokeBy readChoke
       choke-written = rw (after-passes, reads, file-agrees .small, file-agrees .links)
 
     -- into lists of n entries
-    leaders-whole : fileLeadersAfter file k ≡ listOf (fileN file) (leaderList (fileN file) (stateAfter file k .order) (stateAfter file k .holders))
-    unfolding fileLeadersAfter
-    leaders-whole = leaders-written (replicate (fileN file) 0) (replicate (fileN file) 0) zeros zeros ∙ whole (leaderList (fileN file) (stateAfter file k .order) (stateAfter file k .holders))
+    leaders-whole : fileLeadersBy w file k ≡ listOf (fileN file) (leaderList (fileN file) (stateBy w file k .order) (stateBy w file k .holders))
+    unfolding fileLeadersBy
+    leaders-whole = leaders-written (replicate (fileN file) 0) (replicate (fileN file) 0) zeros zeros ∙ whole (leaderList (fileN file) (stateBy w file k .order) (stateBy w file k .holders))
 
-    choke-whole : fileChokeAfter file k ≡ listOf (fileN file) (chokeByte (fileN file) (fileLinks file) (stateAfter file k .holders))
-    unfolding fileChokeAfter
-    choke-whole = choke-written (replicate (fileN file) 0) (replicate (fileN file) 0) zeros zeros ∙ whole (chokeByte (fileN file) (fileLinks file) (stateAfter file k .holders))
+    choke-whole : fileChokeBy w file k ≡ listOf (fileN file) (chokeByte (fileN file) (fileLinks file) (stateBy w file k .holders))
+    unfolding fileChokeBy
+    choke-whole = choke-written (replicate (fileN file) 0) (replicate (fileN file) 0) zeros zeros ∙ whole (chokeByte (fileN file) (fileLinks file) (stateBy w file k .holders))
 
-    pub leaders-long : length (fileLeadersAfter file k) ≡ fileN file
+    pub leaders-long : length (fileLeadersBy w file k) ≡ fileN file
     leaders-long = ap length leaders-whole ∙ listOf-length (fileN file) _
 
-    pub choke-long : length (fileChokeAfter file k) ≡ fileN file
+    pub choke-long : length (fileChokeBy w file k) ≡ fileN file
     choke-long = ap length choke-whole ∙ listOf-length (fileN file) _
 
-    pub choke-at : (v : ℕ) → v < fileN file → at (fileChokeAfter file k) v ≡ chokeByte (fileN file) (fileLinks file) (stateAfter file k .holders) v
-    choke-at v l = rw choke-whole (listOf-at (fileN file) (chokeByte (fileN file) (fileLinks file) (stateAfter file k .holders)) v l)
+    pub choke-at : (v : ℕ) → v < fileN file → at (fileChokeBy w file k) v ≡ chokeByte (fileN file) (fileLinks file) (stateBy w file k .holders) v
+    choke-at v l = rw choke-whole (listOf-at (fileN file) (chokeByte (fileN file) (fileLinks file) (stateBy w file k .holders)) v l)
 
-    pub choke-bit : (v : ℕ) → v < fileN file → at (fileChokeAfter file k) v ≤ 1
+    pub choke-bit : (v : ℕ) → v < fileN file → at (fileChokeBy w file k) v ≤ 1
     unfolding chokeByte
-    choke-bit v l = pick-few (inChoke (fileN file) (fileLinks file) (stateAfter file k .holders) v) (choke-at v l)
+    choke-bit v l = pick-few (inChoke (fileN file) (fileLinks file) (stateBy w file k .holders) v) (choke-at v l)
 
 -- with lists of 1,024 entries 10 is not given: the number is 1 or an earlier one where n is above
 pub after-own : (file : List ℕ) (k : ℕ) {a b : List ℕ} → a ≡ own → b ≡ own → planAfterRefusal file k (length a) (length b) ≡ afterRefusal file k false
@@ -125,48 +126,48 @@ written-has n front lent e =
     record { room = written-room n front lent e; is = is; long = sym (ap length is ∙ e) }
 
 -- the first n of lists of 1,024 entries that were written
-module _ (file : List ℕ) (z : fileRefusal file ≡ 0) (k : ℕ) (within : k ≤ fileN file) {n : ℕ} (is : n ≡ fileN file) {a b : List ℕ} (ea : a ≡ own) (eb : b ≡ own) where
-  pub leaders-front : {l : List ℕ} → l ≡ planLeadersAfter file k a b → Front n (fileLeadersAfter file k) l
-  leaders-front e = rw (is, e, leaders-written file z k within a b (own-room file z ea) (own-room file z eb), leaders-whole file z k within) (written-has (fileN file) _ a (listOf-length (fileN file) _))
+module _ (file : List ℕ) (z : fileRefusal file ≡ 0) (w : Way) (k : ℕ) (within : k ≤ fileN file) {n : ℕ} (is : n ≡ fileN file) {a b : List ℕ} (ea : a ≡ own) (eb : b ≡ own) where
+  pub leaders-front : {l : List ℕ} → l ≡ planLeadersBy w file k a b → Front n (fileLeadersBy w file k) l
+  leaders-front e = rw (is, e, leaders-written file z w k within a b (own-room file z ea) (own-room file z eb), leaders-whole file z w k within) (written-has (fileN file) _ a (listOf-length (fileN file) _))
 
-  pub choke-front : {l : List ℕ} → l ≡ planChokeAfter file k a b → Front n (fileChokeAfter file k) l
-  choke-front e = rw (is, e, choke-written file z k within a b (own-room file z ea) (own-room file z eb), choke-whole file z k within) (written-has (fileN file) _ b (listOf-length (fileN file) _))
+  pub choke-front : {l : List ℕ} → l ≡ planChokeBy w file k a b → Front n (fileChokeBy w file k) l
+  choke-front e = rw (is, e, choke-written file z w k within a b (own-room file z ea) (own-room file z eb), choke-whole file z w k within) (written-has (fileN file) _ b (listOf-length (fileN file) _))
 
 -- where the call is accepted: what is told, and that it does not refuse the read
 module _ (file : List ℕ) (k : ℕ) (leaders choke : List ℕ) (passes : planAfterRefusal file k (length leaders) (length choke) ≡ 0) where
   passed : (fileRefusal file ≡ 0) × (k ≤ fileN file) × (fileN file ≤ length leaders) × (fileN file ≤ length choke)
   passed = plan-places file k (length leaders) (length choke) refl passes
 
-  pub told : toldBy (fileN file) (fileT file) ownLinks (callsAfter file k) ≡ placedTold file (length ownLinks) k
-  told = file-told file (passed .0) k (passed .1)
+  pub told : (w : Way) → toldBy (fileN file) (fileT file) ownLinks (callsBy w file k) ≡ placedTold file (length ownLinks) k
+  told w = file-told file (passed .0) w k (passed .1)
 
-  pub reads-told : refuses (toldBy (fileN file) (fileT file) ownLinks (callsAfter file k)) (read leaders choke) ≡ 0
-  reads-told = rw told (file-read file (passed .0) k (passed .1) leaders choke (passed .2) (passed .3))
+  pub reads-told : (w : Way) → refuses (toldBy (fileN file) (fileT file) ownLinks (callsBy w file k)) (read leaders choke) ≡ 0
+  reads-told w = rw (told w) (file-read file (passed .0) w k (passed .1) leaders choke (passed .2) (passed .3))
 
 pub file-so-far : FileSoFar
-unfolding FileSoFar ReadAnyTime stateAfter planLeadersAfter
-file-so-far file k leaders choke passes =
+unfolding FileSoFar ReadAnyTime stateBy planLeadersBy
+file-so-far w file k leaders choke passes =
     let (fine, within, room, room₂) = passed file k leaders choke passes in
-    let so-far = read-any-time (fileN file) (fileT file) ownLinks own own (file-open file fine) (callsAfter file k) leaders choke (reads-told file k leaders choke passes) in
-    (rw passes (rw (told file k leaders choke passes) at so-far), λ v l. ap (λ (c : List ℕ). at c v) (choke-written file fine k within leaders choke room room₂) ∙ listed-at (fileN file) _ choke v l)
+    let so-far = read-any-time (fileN file) (fileT file) ownLinks own own (file-open file fine) (callsBy w file k) leaders choke (reads-told file k leaders choke passes w) in
+    (rw passes (rw (told file k leaders choke passes w) at so-far), λ v l. ap (λ (c : List ℕ). at c v) (choke-written file fine w k within leaders choke room room₂) ∙ listed-at (fileN file) _ choke v l)
 
 pub file-pairs : FilePairs
-unfolding FilePairs EarlierLeadsPairs stateAfter planLeadersAfter
-file-pairs file k leaders choke passes =
-    let pairs = earlier-leads-pairs (fileN file) (fileT file) ownLinks own own (file-open file (passed file k leaders choke passes .0)) (callsAfter file k) leaders choke (reads-told file k leaders choke passes) in
-    rw passes (rw (told file k leaders choke passes) at pairs)
+unfolding FilePairs EarlierLeadsPairs stateBy planLeadersBy
+file-pairs w file k leaders choke passes =
+    let pairs = earlier-leads-pairs (fileN file) (fileT file) ownLinks own own (file-open file (passed file k leaders choke passes .0)) (callsBy w file k) leaders choke (reads-told file k leaders choke passes w) in
+    rw passes (rw (told file k leaders choke passes w) at pairs)
 
 -- The claim goes by the entries below n, ..
-pub plan-so-far-below : (file : List ℕ) (k : ℕ) → fileRefusal file ≡ 0 → k ≤ fileN file → (g h : ℕ → ℕ) → ((v : ℕ) → v < fileN file → g v ≡ h v) → PlanSoFar file k g → PlanSoFar file k h
-plan-so-far-below file k z within g h same = so-far-below within (file-allowed file z .order .below) (λ u l. refl) (λ i l. refl) same
+pub plan-so-far-below : (w : Way) (file : List ℕ) (k : ℕ) → fileRefusal file ≡ 0 → k ≤ fileN file → (g h : ℕ → ℕ) → ((v : ℕ) → v < fileN file → g v ≡ h v) → PlanSoFar w file k g → PlanSoFar w file k h
+plan-so-far-below w file k z within g h same = so-far-below within (file-allowed file z .order .below) (λ u l. refl) (λ i l. refl) same
 
 -- .. and so holds of the n leaders alone.
-pub lists-so-far : (file : List ℕ) (k : ℕ) → fileRefusal file ≡ 0 → k ≤ fileN file → PlanSoFar file k (at (fileLeadersAfter file k))
-unfolding FileSoFar fileLeadersAfter
-lists-so-far file k z within =
-    file-so-far file k (replicate (fileN file) 0) (replicate (fileN file) 0) (after-passes file z k within (replicate (fileN file) 0) (replicate (fileN file) 0) (zeros file z) (zeros file z)) .0
+pub lists-so-far : (w : Way) (file : List ℕ) (k : ℕ) → fileRefusal file ≡ 0 → k ≤ fileN file → PlanSoFar w file k (at (fileLeadersBy w file k))
+unfolding FileSoFar fileLeadersBy
+lists-so-far w file k z within =
+    file-so-far w file k (replicate (fileN file) 0) (replicate (fileN file) 0) (after-passes file z w k within (replicate (fileN file) 0) (replicate (fileN file) 0) (zeros file z) (zeros file z)) .0
 
-pub lists-pairs : (file : List ℕ) (k : ℕ) → fileRefusal file ≡ 0 → k ≤ fileN file → EarlierLeads (fileN file) (at (fileOrder file)) (at (fileLeadersAfter file k))
-unfolding FilePairs fileLeadersAfter
-lists-pairs file k z within =
-    file-pairs file k (replicate (fileN file) 0) (replicate (fileN file) 0) (after-passes file z k within (replicate (fileN file) 0) (replicate (fileN file) 0) (zeros file z) (zeros file z))
+pub lists-pairs : (w : Way) (file : List ℕ) (k : ℕ) → fileRefusal file ≡ 0 → k ≤ fileN file → EarlierLeads (fileN file) (at (fileOrder file)) (at (fileLeadersBy w file k))
+unfolding FilePairs fileLeadersBy
+lists-pairs w file k z within =
+    file-pairs w file k (replicate (fileN file) 0) (replicate (fileN file) 0) (after-passes file z w k within (replicate (fileN file) 0) (replicate (fileN file) 0) (zeros file z) (zeros file z))

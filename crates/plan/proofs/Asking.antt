@@ -15,6 +15,7 @@ use Rattle.packing.proofs.Refusals.{refused, first-refused, first-passed, first
 use Rattle.search.specs.Reached.{setWritten}
 use Rattle.sound.proofs.Meaning.{means-sound}
 use Rattle.planner.specs.declared.Small.{Small}
+use Rattle.planner.specs.declared.Way.the-variants.{Queued}
 use Rattle.planner.specs.State.{soundState}
 use Rattle.planner.proofs.Conditions.{sound-number}
 use Rattle.violator.specs.declared.WhyAnswer.{WhyAnswer}
@@ -30,11 +31,11 @@ use Rattle.plan.proofs.After.{own, own-room, Front, written-has, file-a
 module _ (file : List ℕ) (z : fileRefusal file ≡ 0) where
   pub state-gateways : fileState file .small .n ≡ fileN file
   unfolding fileState
-  state-gateways = ap (λ (small : Small). small .n) (file-agrees file z (fileN file) (omega arith) .small)
+  state-gateways = ap (λ (small : Small). small .n) (file-agrees file z Queued (fileN file) (omega arith) .small)
 
   pub state-sound : soundState (fileState file) ≡ true
   unfolding soundState fileState
-  state-sound = means-sound _ _ _ _ _ _ _ (file-agrees file z (fileN file) (omega arith) .made .sound)
+  state-sound = means-sound _ _ _ _ _ _ _ (file-agrees file z Queued (fileN file) (omega arith) .made .sound)
 
 -- the file's number, and 30 for a number that is no gateway
 module _ (file : List ℕ) (v a b : ℕ) {e : ℕ} (of : e ≡ fileRefusal file) where

@@ -13,9 +13,10 @@ use Rattle.packing.proofs.Lists.{written-room, written-front}
 use Rattle.planner.specs.declared.Small.{Small}
 use Rattle.planner.specs.declared.Answer.{Answer}
 use Rattle.planner.specs.declared.PlaceAnswer.{PlaceAnswer}
+use Rattle.planner.specs.declared.Way.{Way}
 use Rattle.planner.specs.State.{State, stateOf}
-use Rattle.planner.specs.Calls.{answerOf, openCall, link, order, place, call, callMoves, placeAnswerOf, readLeaders, readChoke}
-use Rattle.planner.specs.Run.{afterOpen, run, runMoves, linkCalls, placeCalls}
+use Rattle.planner.specs.Calls.{answerOf, openCall, link, order, placeBy, call, callMoves, placeAnswerOf, readLeaders, readChoke}
+use Rattle.planner.specs.Run.{afterOpen, run, runMoves, linkCalls, placeCallsBy}
 use Rattle.planner.specs.Claims.{madeBy, movesBy}
 use Rattle.planner.proofs.MovedSums.{moves-last, moves-fit}
 use Rattle.planner.proofs.Filled.{filled, plant-run, plant-moves, place-last}
@@ -29,7 +30,7 @@ use Rattle.plant_file.specs.Reader.{linkAt}
 use Rattle.plant_file.specs.Load.{orderWritten}
 use Rattle.plant_file.proofs.LinksByIndex.{links-long, order-long, step-at}
 use Rattle.plant_file.proofs.Accepted.{file-allowed}
-use Rattle.plan.specs.Plan.{callsAfter, stateAfter, movesAfter}
+use Rattle.plan.specs.Plan.{callsBy, stateBy, fileMovesBy}
 use Rattle.plan.specs.Pre.{linkStep}
 
 -- one link
@@ -88,43 +89,43 @@ module _ (file : List ℕ) (z : fileRefusal file ≡ 0) {n : ℕ} (is : n ≡ fi
   ordered s ls os hs g h = rw (g, h, front-is) (order-state (stateOf s ls os hs) (fileOrder file))
 
 -- i placings are made, and moved is how many gateways they moved
-pub record Places (n : ℕ) (first now : State) (moved i : ℕ) : Type 0 where
+pub record Places (w : Way) (n : ℕ) (first now : State) (moved i : ℕ) : Type 0 where
   pub upto : i ≤ n
-  pub is : now ≡ run first (placeCalls i)
-  pub moves : moved ≡ runMoves first (placeCalls i)
+  pub is : now ≡ run first (placeCallsBy w i)
+  pub moves : moved ≡ runMoves first (placeCallsBy w i)
 
-module _ (n : ℕ) {first : State} where
-  pub places-start : Places n first first 0 0
-  unfolding run runMoves placeCalls
+module _ (w : Way) (n : ℕ) {first : State} where
+  pub places-start : Places w n first first 0 0
+  unfolding run runMoves placeCallsBy
   places-start = record { upto = omega arith; is = refl; moves = refl }
 
   module _
-      {s : Small} {ls os hs : List ℕ} {moved i : ℕ} {r : PlaceAnswer} (k : Places n first (stateOf s ls os hs) moved i) (l : i < n) (e : r ≡ placeAnswerOf (stateOf s ls os hs))
+      {s : Small} {ls os hs : List ℕ} {moved i : ℕ} {r : PlaceAnswer} (k : Places w n first (stateOf s ls os hs) moved i) (l : i < n) (e : r ≡ placeAnswerOf (stateOf s ls os hs) (placeBy w))
     where
-      moves-next : moved + r .moved ≡ runMoves first (placeCalls (i + 1))
-      moves-next = rw (e, add-one i) (ap (λ (x : ℕ). x + callMoves (stateOf s ls os hs) place) (k .moves) ∙ ap (λ (x : State). runMoves first (placeCalls i) + callMoves x place) (k .is) ∙ sym (moves-last first i))
+      moves-next : moved + r .moved ≡ runMoves first (placeCallsBy w (i + 1))
+      moves-next = rw (e, add-one i) (ap (λ (x : ℕ). x + callMoves (stateOf s ls os hs) (placeBy w)) (k .moves) ∙ ap (λ (x : State). runMoves first (placeCallsBy w i) + callMoves x (placeBy w)) (k .is) ∙ sym (moves-last first w i))
 
       -- the sum has 32 bits
       pub places-fit : moved + r .moved ≤ GATEWAYS * GATEWAYS
-      places-fit = rw moves-next (moves-fit first (i + 1))
+      places-fit = rw moves-next (moves-fit first w (i + 1))
 
-      pub places-turn : {hs' : List ℕ} → hs' ≡ call (stateOf s ls os hs) place .state .holders → Places n first (stateOf (r .small) ls os hs') (moved + r .moved) (i + 1)
+      pub places-turn : {hs' : List ℕ} → hs' ≡ call (stateOf s ls os hs) (placeBy w) .state .holders → Places w n first (stateOf (r .small) ls os hs') (moved + r .moved) (i + 1)
       places-turn f =
           record {
             upto = omega arith;
-            is = rw (e, f, add-one i) (place-state (stateOf s ls os hs) ∙ ap (λ (x : State). call x place .state) (k .is) ∙ sym (place-last first i));
+            is = rw (e, f, add-one i) (place-state (stateOf s ls os hs) w ∙ ap (λ (x : State). call x (placeBy w) .state) (k .is) ∙ sym (place-last first w i));
             moves = moves-next;
           }
 
-  pub places-end : {now : State} {moved i : ℕ} → Places n first now moved i → n ≤ i → (now ≡ run first (placeCalls n)) × (moved ≡ runMoves first (placeCalls n))
+  pub places-end : {now : State} {moved i : ℕ} → Places w n first now moved i → n ≤ i → (now ≡ run first (placeCallsBy w n)) × (moved ≡ runMoves first (placeCallsBy w n))
   places-end {now} {moved} {i} k l = (rw (last k l) at (k .is), rw (last k l) at (k .moves))
     where
-      last : Places n first now moved i → n ≤ i → i ≡ n
+      last : Places w n first now moved i → n ≤ i → i ≡ n
       last d h = omega arith
 
 -- open, and all the calls
 module _
-    (file : List ℕ) (k : ℕ) (ls os hs : List ℕ) {n t : ℕ} {ls₂ os₁ os₃ hs₁ : List ℕ} {r : Answer} {s₂ s₃ : Small} (en : n ≡ fileN file) (et : t ≡ fileT file)
+    (w : Way) (file : List ℕ) (k : ℕ) (ls os hs : List ℕ) {n t : ℕ} {ls₂ os₁ os₃ hs₁ : List ℕ} {r : Answer} {s₂ s₃ : Small} (en : n ≡ fileN file) (et : t ≡ fileT file)
     (er : r ≡ answerOf (openCall n t ls os hs)) (eo : os₁ ≡ openCall n t ls os hs .state .order) (eh : hs₁ ≡ openCall n t ls os hs .state .holders)
     (links : stateOf s₂ ls₂ os₁ hs₁ ≡ run (stateOf (r .small) ls os₁ hs₁) (linkCalls (fileLinks file)))
     (orders : stateOf s₃ ls₂ os₃ hs₁ ≡ call (stateOf s₂ ls₂ os₁ hs₁) (order (fileOrder file)) .state)
@@ -135,31 +136,31 @@ module _
     full : stateOf s₃ ls₂ os₃ hs₁ ≡ filled (afterOpen (fileN file) (fileT file) ls os hs) (fileLinks file) (fileOrder file)
     full = orders ∙ ap (λ (x : State). call x (order (fileOrder file)) .state) (links ∙ ap (λ (x : State). run x (linkCalls (fileLinks file))) begun)
 
-    pub all-made : {hs₄ : List ℕ} {s₄ : Small} → stateOf s₄ ls₂ os₃ hs₄ ≡ run (stateOf s₃ ls₂ os₃ hs₁) (placeCalls k) → stateOf s₄ ls₂ os₃ hs₄ ≡ madeBy (fileN file) (fileT file) ls os hs (callsAfter file k)
-    unfolding callsAfter
-    all-made places = places ∙ ap (λ (x : State). run x (placeCalls k)) full ∙ sym (plant-run (afterOpen (fileN file) (fileT file) ls os hs) (fileLinks file) (fileOrder file) k)
+    pub all-made : {hs₄ : List ℕ} {s₄ : Small} → stateOf s₄ ls₂ os₃ hs₄ ≡ run (stateOf s₃ ls₂ os₃ hs₁) (placeCallsBy w k) → stateOf s₄ ls₂ os₃ hs₄ ≡ madeBy (fileN file) (fileT file) ls os hs (callsBy w file k)
+    unfolding callsBy
+    all-made places = places ∙ ap (λ (x : State). run x (placeCallsBy w k)) full ∙ sym (plant-run (afterOpen (fileN file) (fileT file) ls os hs) w (fileLinks file) (fileOrder file) k)
 
-    pub all-moves : {m : ℕ} → m ≡ runMoves (stateOf s₃ ls₂ os₃ hs₁) (placeCalls k) → m ≡ movesBy (fileN file) (fileT file) ls os hs (callsAfter file k)
-    unfolding callsAfter
-    all-moves places = places ∙ ap (λ (x : State). runMoves x (placeCalls k)) full ∙ sym (plant-moves (afterOpen (fileN file) (fileT file) ls os hs) (fileLinks file) (fileOrder file) k)
+    pub all-moves : {m : ℕ} → m ≡ runMoves (stateOf s₃ ls₂ os₃ hs₁) (placeCallsBy w k) → m ≡ movesBy (fileN file) (fileT file) ls os hs (callsBy w file k)
+    unfolding callsBy
+    all-moves places = places ∙ ap (λ (x : State). runMoves x (placeCallsBy w k)) full ∙ sym (plant-moves (afterOpen (fileN file) (fileT file) ls os hs) w (fileLinks file) (fileOrder file) k)
 
 -- the record made with lists of 0 is the file's after k placings, and so is what a read of it writes
-module _ (file : List ℕ) (k : ℕ) {ls os hs : List ℕ} (els : ls ≡ replicate ENDS 0) (eos : os ≡ replicate GATEWAYS 0) (ehs : hs ≡ replicate GATEWAYS 0) where
-  file-made : {s : State} → s ≡ madeBy (fileN file) (fileT file) ls os hs (callsAfter file k) → s ≡ stateAfter file k
-  unfolding stateAfter
+module _ (w : Way) (file : List ℕ) (k : ℕ) {ls os hs : List ℕ} (els : ls ≡ replicate ENDS 0) (eos : os ≡ replicate GATEWAYS 0) (ehs : hs ≡ replicate GATEWAYS 0) where
+  file-made : {s : State} → s ≡ madeBy (fileN file) (fileT file) ls os hs (callsBy w file k) → s ≡ stateBy w file k
+  unfolding stateBy
   file-made made = made ∙ rw (els, eos, ehs)
 
-  file-moves : {m : ℕ} → m ≡ movesBy (fileN file) (fileT file) ls os hs (callsAfter file k) → m ≡ movesAfter file k
-  unfolding movesAfter
+  file-moves : {m : ℕ} → m ≡ movesBy (fileN file) (fileT file) ls os hs (callsBy w file k) → m ≡ fileMovesBy w file k
+  unfolding fileMovesBy
   file-moves moves = moves ∙ rw (els, eos, ehs)
 
   -- .. and what it answers when it is asked why a gateway is alone
   pub all-looked : (s : Small) (ls' os' hs' leaders choke : List ℕ) (v : ℕ) (first second : List ℕ) {m : ℕ} {leaders' choke' : List ℕ} {a : WhyAnswer} {first' second' : List ℕ}
-      → stateOf s ls' os' hs' ≡ madeBy (fileN file) (fileT file) ls os hs (callsAfter file k) → m ≡ movesBy (fileN file) (fileT file) ls os hs (callsAfter file k)
+      → stateOf s ls' os' hs' ≡ madeBy (fileN file) (fileT file) ls os hs (callsBy w file k) → m ≡ movesBy (fileN file) (fileT file) ls os hs (callsBy w file k)
       → (leaders' ≡ readLeaders (stateOf s ls' os' hs') leaders choke) × (choke' ≡ readChoke (stateOf s ls' os' hs') leaders choke)
       → (a ≡ whyAnswer (stateOf s ls' os' hs') v (length first) (length second)) × ((first' ≡ whyFirst (stateOf s ls' os' hs') v first second) × (second' ≡ whySecond (stateOf s ls' os' hs') v first second))
-      → (leaders' ≡ readLeaders (stateAfter file k) leaders choke) × ((choke' ≡ readChoke (stateAfter file k) leaders choke) × ((m ≡ movesAfter file k)
-      × ((a ≡ whyAnswer (stateAfter file k) v (length first) (length second)) × ((first' ≡ whyFirst (stateAfter file k) v first second) × (second' ≡ whySecond (stateAfter file k) v first second)))))
+      → (leaders' ≡ readLeaders (stateBy w file k) leaders choke) × ((choke' ≡ readChoke (stateBy w file k) leaders choke) × ((m ≡ fileMovesBy w file k)
+      × ((a ≡ whyAnswer (stateBy w file k) v (length first) (length second)) × ((first' ≡ whyFirst (stateBy w file k) v first second) × (second' ≡ whySecond (stateBy w file k) v first second)))))
   all-looked s ls' os' hs' leaders choke v first second made moves (e, f) (g, (h, i)) =
       let same = file-made made in (
         e ∙ ap (λ (x : State). readLeaders x leaders choke) same,

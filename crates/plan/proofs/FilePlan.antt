@@ -12,26 +12,28 @@ use Rattle.packing.specs.Grouping.{covered}
 use Rattle.packing.proofs.Sums.{count-ext}
 use Rattle.packing.proofs.SoFar.{first-same}
 use Rattle.packing.proofs.Below.{grouping-below, difference-below}
+use Rattle.planner.specs.declared.Way.{Way}
+use Rattle.planner.specs.declared.Way.the-variants.{Queued}
 use Rattle.planner.specs.Told.{Told}
 use Rattle.planner.specs.Claims.{DemandTwo, DemandThree}
 use Rattle.planner.proofs.Demands.{demand-two, demand-three}
 use Rattle.plant_file.specs.PlantFile.{fileN, fileT, fileLinks, fileRefusal}
 use Rattle.plant_file.proofs.Accepted.{file-allowed}
 use Rattle.plant_file.proofs.Refusing.{then-alone}
-use Rattle.plan.specs.Plan.{callsAfter, stateAfter, fileState, planRefusal, planLeaders, planChoke, fileLeaders, fileChoke}
-use Rattle.plan.specs.After.{fileLeadersAfter, fileChokeAfter}
-use Rattle.plan.specs.Claim.{PlanOf, FilePlan, AfterAll}
+use Rattle.plan.specs.Plan.{callsBy, stateBy, fileState, planRefusal, planLeaders, planChoke, fileLeaders, fileChoke}
+use Rattle.plan.specs.After.{planLeadersBy, planChokeBy, fileLeadersBy, fileLeadersAfter, fileChokeBy, fileChokeAfter}
+use Rattle.plan.specs.Claim.{PlanOf, FilePlan, FilePlanBy, AfterAll}
 use Rattle.plan.proofs.Refusing.{after-within, number-all, after-all, plan-places}
 use Rattle.plan.proofs.After as after
 use Rattle.plan.proofs.After.{ownLinks, own, Front, file-open, told, reads-told, zeros, after-passes, after-own}
 
 -- after all placings the lists of n entries are the plan's
 pub leaders-all : (file : List ℕ) → fileLeadersAfter file (fileN file) ≡ fileLeaders file
-unfolding AfterAll fileLeadersAfter fileLeaders
+unfolding AfterAll fileLeadersBy fileLeaders
 leaders-all file = after-all file (replicate (fileN file) 0) (replicate (fileN file) 0) .1
 
 pub choke-all : (file : List ℕ) → fileChokeAfter file (fileN file) ≡ fileChoke file
-unfolding AfterAll fileChokeAfter fileChoke
+unfolding AfterAll fileChokeBy fileChoke
 choke-all file = after-all file (replicate (fileN file) 0) (replicate (fileN file) 0) .2
 
 -- with lists of 1,024 entries the file's number stands alone
@@ -46,23 +48,29 @@ plan-accepts file ls cs z = let (fine, within, room, room₂) = plan-places file
 module _ (file : List ℕ) (z : fileRefusal file ≡ 0) {n : ℕ} (is : n ≡ fileN file) {a b : List ℕ} (ea : a ≡ own) (eb : b ≡ own) where
   pub leaders-front : {l : List ℕ} → l ≡ planLeaders file a b → Front n (fileLeaders file) l
   unfolding AfterAll
-  leaders-front e = rw leaders-all at (after.leaders-front file z (fileN file) (omega arith) is ea eb (e ∙ sym (after-all file a b .1)))
+  leaders-front e = rw leaders-all at (after.leaders-front file z Queued (fileN file) (omega arith) is ea eb (e ∙ sym (after-all file a b .1)))
 
   pub choke-front : {l : List ℕ} → l ≡ planChoke file a b → Front n (fileChoke file) l
   unfolding AfterAll
-  choke-front e = rw choke-all at (after.choke-front file z (fileN file) (omega arith) is ea eb (e ∙ sym (after-all file a b .2)))
+  choke-front e = rw choke-all at (after.choke-front file z Queued (fileN file) (omega arith) is ea eb (e ∙ sym (after-all file a b .2)))
 
-pub file-plan : FilePlan
-unfolding FilePlan DemandTwo DemandThree fileState stateAfter planLeaders planChoke
-file-plan file leaders choke passes =
+pub file-plan-by : FilePlanBy
+unfolding FilePlanBy DemandTwo DemandThree stateBy planLeadersBy planChokeBy
+file-plan-by w file leaders choke passes =
     let all = number-all file (length leaders) (length choke) ∙ passes in
-    let tells = told file (fileN file) leaders choke all in
-    let reads = reads-told file (fileN file) leaders choke all in
+    let tells = told file (fileN file) leaders choke all w in
+    let reads = reads-told file (fileN file) leaders choke all w in
     let opens = file-open file (plan-accepts file (length leaders) (length choke) passes .0) in
     let placed = ap (λ (p : Told). p .placed) tells in
-    let three = demand-three (fileN file) (fileT file) ownLinks own own opens (callsAfter file (fileN file)) placed leaders choke reads in
-    let two = demand-two (fileN file) (fileT file) ownLinks own own opens (callsAfter file (fileN file)) placed leaders choke reads in
-    rw passes (rw tells at (three .0), rw tells at (three .1), rw tells at (two .2))
+    let three = demand-three (fileN file) (fileT file) ownLinks own own opens (callsBy w file (fileN file)) placed leaders choke reads in
+    let two = demand-two (fileN file) (fileT file) ownLinks own own opens (callsBy w file (fileN file)) placed leaders choke reads in
+    rw all (rw tells at (three .0), rw tells at (three .1), rw tells at (two .2))
+
+pub file-plan : FilePlan
+unfolding FilePlan FilePlanBy AfterAll
+file-plan file leaders choke passes =
+    let same = after-all file leaders choke in
+    rw (same .1, same .2) at (file-plan-by Queued file leaders choke passes)
 
 -- The claim goes by the entries below n, ..
 pub plan-below : (file : List ℕ) → fileRefusal file ≡ 0 → (g h : ℕ → ℕ) (s r : ℕ → Bool) → ((v : ℕ) → v < fileN file → g v ≡ h v) → ((v : ℕ) → v < fileN file → s v ≡ r v)
@@ -77,13 +85,19 @@ plan-below file z g h s r same alike (group, most, difference) =
 -- .. and so holds of the n leaders and the n choke bytes alone.
 module _ (file : List ℕ) (z : fileRefusal file ≡ 0) where
   pub leaders-long : length (fileLeaders file) ≡ fileN file
-  leaders-long = ap length (sym (leaders-all file)) ∙ after.leaders-long file z (fileN file) (omega arith)
+  leaders-long = ap length (sym (leaders-all file)) ∙ after.leaders-long file z Queued (fileN file) (omega arith)
 
   pub choke-long : length (fileChoke file) ≡ fileN file
-  choke-long = ap length (sym (choke-all file)) ∙ after.choke-long file z (fileN file) (omega arith)
+  choke-long = ap length (sym (choke-all file)) ∙ after.choke-long file z Queued (fileN file) (omega arith)
+
+  -- lists of n entries are taken
+  plans : planRefusal file (length {A = ℕ} (replicate (fileN file) 0)) (length {A = ℕ} (replicate (fileN file) 0)) ≡ 0
+  plans = sym (number-all file _ _) ∙ after-passes file z Queued (fileN file) (omega arith) (replicate (fileN file) 0) (replicate (fileN file) 0) (zeros file z) (zeros file z)
 
   pub lists-plan : PlanOf file (at (fileLeaders file)) (λ v. eqb (at (fileChoke file) v) 1)
   unfolding FilePlan fileLeaders fileChoke
-  lists-plan =
-      file-plan file (replicate (fileN file) 0) (replicate (fileN file) 0)
-      (sym (number-all file _ _) ∙ after-passes file z (fileN file) (omega arith) (replicate (fileN file) 0) (replicate (fileN file) 0) (zeros file z) (zeros file z))
+  lists-plan = file-plan file (replicate (fileN file) 0) (replicate (fileN file) 0) plans
+
+  pub lists-plan-by : (w : Way) → PlanOf file (at (fileLeadersBy w file (fileN file))) (λ v. eqb (at (fileChokeBy w file (fileN file)) v) 1)
+  unfolding FilePlanBy fileLeadersBy fileChokeBy
+  lists-plan-by w = file-plan-by w file (replicate (fileN file) 0) (replicate (fileN file) 0) plans

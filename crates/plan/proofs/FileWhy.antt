@@ -19,6 +19,7 @@ use Rattle.packing.proofs.Prefixes.{order-place}
 use Rattle.packing.proofs.Refusals.{first-none}
 use Rattle.packing.proofs.Turns.{turn-done, turn-named, turn-as, named-once, says-less, says-most, says-same, says-either, says-not}
 use Rattle.packing.proofs.Violator.{sumOf-common, violator-below, smallest-below}
+use Rattle.planner.specs.declared.Way.the-variants.{Queued}
 use Rattle.planner.specs.Calls.{read, readLeaders}
 use Rattle.planner.specs.Told.{Told, refuses}
 use Rattle.planner.specs.Claims.{toldBy, DemandTwo}
@@ -31,7 +32,7 @@ use Rattle.violator.proofs.Claim.{why-alone, first-is, second-is}
 use Rattle.plant_file.specs.PlantFile.{fileN, fileT, fileRefusal}
 use Rattle.plant_file.proofs.Accepted.{file-allowed}
 use Rattle.plant_file.proofs.Turns.{file-then}
-use Rattle.plan.specs.Plan.{callsAfter, stateAfter, fileState, planLeaders, fileLeaders}
+use Rattle.plan.specs.Plan.{callsAfter, stateBy, fileState, planLeaders, fileLeaders}
 use Rattle.plan.specs.After.{planAfterRefusal}
 use Rattle.plan.specs.Why.{fileWhyRefusal, fileFirst, fileSecond}
 use Rattle.plan.specs.Claim.{WhyOf, FileWhy}
@@ -48,7 +49,7 @@ module _ (file : List ℕ) (z : fileRefusal file ≡ 0) where
 
   plans : planAfterRefusal file (fileN file) (length lent) (length lent) ≡ 0
   unfolding lent
-  plans = after-passes file z (fileN file) (omega arith) lent lent (zeros file z) (zeros file z)
+  plans = after-passes file z Queued (fileN file) (omega arith) lent lent (zeros file z) (zeros file z)
 
   -- .. is a read of the record that the file's calls make
   leaders-read : fileLeaders file ≡ readLeaders (fileState file) lent lent
@@ -56,14 +57,14 @@ module _ (file : List ℕ) (z : fileRefusal file ≡ 0) where
   leaders-read = rw (sym (number-all file (length lent) (length lent)) ∙ plans)
 
   tells : toldBy (fileN file) (fileT file) ownLinks (callsAfter file (fileN file)) ≡ placedTold file (length ownLinks) (fileN file)
-  tells = told file (fileN file) lent lent plans
+  tells = told file (fileN file) lent lent plans Queued
 
   reads : refuses (toldBy (fileN file) (fileT file) ownLinks (callsAfter file (fileN file))) (read lent lent) ≡ 0
-  reads = reads-told file (fileN file) lent lent plans
+  reads = reads-told file (fileN file) lent lent plans Queued
 
   -- who is covered is who is kept
   covers-kept : (x : ℕ) → x < fileN file → held (fileN file) (at (fileState file .holders)) x ≡ covered (at (fileLeaders file)) x
-  unfolding DemandTwo fileState stateAfter
+  unfolding DemandTwo fileState stateBy
   covers-kept x l =
       sym (rw leaders-read (demand-two (fileN file) (fileT file) ownLinks own own (file-open file z) (callsAfter file (fileN file)) (ap (λ (p : Told). p .placed) tells) lent lent reads .1 x l))
 
@@ -79,14 +80,14 @@ module _ (file : List ℕ) (z : fileRefusal file ≡ 0) where
         ⊎-elim (λ q. omega (arith, q, here, file-allowed file z .order .below i l)) (λ q. q (ap (λ (l : List ℕ). at l v) leaders-read ∙ alone)) other
 
     asked-exactly : (a b : ℕ) → FirstNamed (named 30 (NotAlone file v) (shortTurn (fileN file) a b)) (whyRefusal (fileState file) v a b)
-    unfolding WhyAsked fileState stateAfter
+    unfolding WhyAsked fileState stateBy
     asked-exactly a b =
         turn-as 30 (shortTurn (fileN file) a b) (whyRefusal (fileState file) v a b) alone-in-plan plan-alone
         (rw tells at (why-asked (fileN file) (fileT file) ownLinks own own (file-open file z) (callsAfter file (fileN file)) lent lent reads v a b))
 
     module _ (first second : List ℕ) (asked : whyRefusal (fileState file) v (length first) (length second) ≡ 0) where
       by-calls : WhyAloneOf (fileN file) (fileT file) (placedTold file (length ownLinks) (fileN file)) (fileState file) v first second
-      unfolding WhyAlone fileState stateAfter
+      unfolding WhyAlone fileState stateBy
       by-calls = rw tells at (why-alone (fileN file) (fileT file) ownLinks own own (file-open file z) (callsAfter file (fileN file)) v first second asked)
 
       first-set : firstSet (fileState file) v first second ≡ fileFirst file v

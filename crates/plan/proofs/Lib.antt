@@ -7,4 +7,5 @@ pub mod After
 pub mod FileMoves
 pub mod Asking
 pub mod FilePlan
+pub mod FileWays
 pub mod FileWhy

@@ -10,10 +10,12 @@ use borrow.Author.Tests.{ltb-false, lt-ltb, le-ltb}
 use Rattle.packing.specs.Refusals.{refuse}
 use Rattle.packing.proofs.Tests.{or-none, or-false-l, or-false-r}
 use Rattle.packing.proofs.Refusals.{refuse-none, refused, accepted, first-refused, first-passed, first-none}
+use Rattle.planner.specs.declared.Way.{Way}
+use Rattle.planner.specs.declared.Way.the-variants.{Queued}
 use Rattle.planner.specs.Calls.{readLeaders, readChoke}
 use Rattle.plant_file.specs.PlantFile.{fileN, fileRefusal, fileThenShort}
-use Rattle.plan.specs.Plan.{stateAfter, movesAfter, fileState, planRefusal, planLeaders, planChoke}
-use Rattle.plan.specs.After.{afterRefusal, planAfterRefusal, planMovesAfter, plannedAfter, planLeadersAfter, planChokeAfter}
+use Rattle.plan.specs.Plan.{stateBy, fileMovesBy, fileState, planRefusal, planLeaders, planChoke}
+use Rattle.plan.specs.After.{afterRefusal, planAfterRefusal, planMovesBy, plannedBy, plannedAfter, planLeadersBy, planLeadersAfter, planChokeBy, planChokeAfter}
 use Rattle.plan.specs.declared.Planned.{Planned}
 use Rattle.plan.specs.Claim.{AfterAll}
 
@@ -66,16 +68,16 @@ plan-places file k ls cs f z =
     let a = after-none file k (ltb ls (fileN file) || ltb cs (fileN file)) (sym f ∙ z) in
     (a .0, a .1, ltb-false ls _ (or-false-l _ _ (a .2)), ltb-false cs _ (or-false-r (ltb ls (fileN file)) _ (a .2)))
 
-module _ (file : List ℕ) (k : ℕ) (leaders choke : List ℕ) {e : ℕ} (of : e ≡ planAfterRefusal file k (length leaders) (length choke)) where
+module _ (w : Way) (file : List ℕ) (k : ℕ) (leaders choke : List ℕ) {e : ℕ} (of : e ≡ planAfterRefusal file k (length leaders) (length choke)) where
   pub plan-refused : (e ≡ 0 → ⊥)
-      → (_≡_ {A = Planned} (record { refusal = e; moved = 0 }) (plannedAfter file k (length leaders) (length choke))) × ((leaders ≡ planLeadersAfter file k leaders choke) × (choke ≡ planChokeAfter file k leaders choke))
-  unfolding planLeadersAfter planChokeAfter planMovesAfter
-  plan-refused z = ((λ i. record { refusal = of i; moved = refused (movesAfter file k) 0 of z i }), (refused _ _ of z, refused _ _ of z))
+      → (_≡_ {A = Planned} (record { refusal = e; moved = 0 }) (plannedBy w file k (length leaders) (length choke))) × ((leaders ≡ planLeadersBy w file k leaders choke) × (choke ≡ planChokeBy w file k leaders choke))
+  unfolding planLeadersBy planChokeBy planMovesBy
+  plan-refused z = ((λ i. record { refusal = of i; moved = refused (fileMovesBy w file k) 0 of z i }), (refused _ _ of z, refused _ _ of z))
 
-  pub plan-accepted : {m : ℕ} {leaders' choke' : List ℕ} → e ≡ 0 → leaders' ≡ readLeaders (stateAfter file k) leaders choke → choke' ≡ readChoke (stateAfter file k) leaders choke → m ≡ movesAfter file k
-      → (_≡_ {A = Planned} (record { refusal = 0; moved = m }) (plannedAfter file k (length leaders) (length choke))) × ((leaders' ≡ planLeadersAfter file k leaders choke) × (choke' ≡ planChokeAfter file k leaders choke))
-  unfolding planLeadersAfter planChokeAfter planMovesAfter
-  plan-accepted z p q m = ((λ i. record { refusal = (sym z ∙ of) i; moved = accepted (movesAfter file k) 0 of z m i }), (accepted _ _ of z p, accepted _ _ of z q))
+  pub plan-accepted : {m : ℕ} {leaders' choke' : List ℕ} → e ≡ 0 → leaders' ≡ readLeaders (stateBy w file k) leaders choke → choke' ≡ readChoke (stateBy w file k) leaders choke → m ≡ fileMovesBy w file k
+      → (_≡_ {A = Planned} (record { refusal = 0; moved = m }) (plannedBy w file k (length leaders) (length choke))) × ((leaders' ≡ planLeadersBy w file k leaders choke) × (choke' ≡ planChokeBy w file k leaders choke))
+  unfolding planLeadersBy planChokeBy planMovesBy
+  plan-accepted z p q m = ((λ i. record { refusal = (sym z ∙ of) i; moved = accepted (fileMovesBy w file k) 0 of z m i }), (accepted _ _ of z p, accepted _ _ of z q))
 
 -- After n placings 24 is not given, and the record is the file's.
 pub number-all : (file : List ℕ) (ls cs : ℕ) → planAfterRefusal file (fileN file) ls cs ≡ planRefusal file ls cs
@@ -83,7 +85,7 @@ unfolding planAfterRefusal planRefusal
 number-all file ls cs = after-within file (fileN file) _ (omega arith)
 
 pub after-all : AfterAll
-unfolding AfterAll planLeadersAfter planChokeAfter planLeaders planChoke fileState
+unfolding AfterAll planLeadersBy planChokeBy planLeaders planChoke fileState
 after-all file leaders choke =
     let same = number-all file (length leaders) (length choke) in
     (same, rw same, rw same)

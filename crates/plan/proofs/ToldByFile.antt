@@ -12,16 +12,17 @@ use Rattle.packing.proofs.Tests.{or-none}
 use Rattle.packing.proofs.Flat.{pair-at}
 use Rattle.packing.specs.Orders.{upTo, repeatsOrOutside}
 use Rattle.planner.specs.Refusals.{openRefusal, linkConditions, orderConditions, placeConditions, readConditions}
-use Rattle.planner.specs.Calls.{Call, link, order, place, read}
+use Rattle.planner.specs.declared.Way.{Way}
+use Rattle.planner.specs.Calls.{Call, link, order, placeBy, read}
 use Rattle.planner.specs.Told.{Told, beginning, refuses, accepted, tellOne, tell}
-use Rattle.planner.specs.Run.{linkCalls, placeCalls, plantCalls}
+use Rattle.planner.specs.Run.{linkCalls, placeCallsBy, plantCallsBy}
 use Rattle.packing.proofs.Refusals.{refuse-none, first-none}
 use Rattle.plant_file.specs.PlantFile.{fileN, fileT, fileM, fileLinks, fileOrder, linksRefusal, fileRefusal}
 use Rattle.plant_file.specs.Pre.{headerRefusal}
 use Rattle.plant_file.proofs.LinksByIndex.{links-long, order-long}
 use Rattle.plant_file.proofs.Refusing.{bodyRefusal, file-parts}
 use Rattle.plant_file.proofs.Accepted.{LinkAllowed, file-allowed, file-link-allowed}
-use Rattle.plan.specs.Plan.{callsAfter}
+use Rattle.plan.specs.Plan.{callsBy}
 
 -- an accepted call, and those after it
 tells-one : (p : Told) (c : Call) (calls : List Call) → refuses p c ≡ 0 → tell p (c ∷ calls) ≡ tell (accepted p c) calls
@@ -60,18 +61,18 @@ module _ (file : List ℕ) (room : ℕ) where
   link-accepted i long few f =
       rw (or-none _ _ (lt-leb _ _ (f .first)) (lt-leb _ _ (f .second)), ne-eqb _ _ (f .differ), f .new, or-none _ _ (ne-eqb i LINKS (λ e. omega arith)) (le-ltb room (2 * i + 2) long))
 
-  place-accepted : (k : ℕ) → k < fileN file → refuses (placedTold k) place ≡ 0
+  place-accepted : (w : Way) (k : ℕ) → k < fileN file → refuses (placedTold k) (placeBy w) ≡ 0
   unfolding refuses placeConditions
-  place-accepted k l = rw (ne-eqb k (fileN file) (λ e. omega arith))
+  place-accepted w k l = rw (ne-eqb k (fileN file) (λ e. omega arith))
 
   -- j placings more after i make k
-  places-tell : (j i k : ℕ) → i + j ≡ k → k ≤ fileN file → tell (placedTold i) (placeCalls j) ≡ placedTold k
-  unfolding placeCalls accepted tell
-  places-tell zero i k e l = ap placedTold last
+  places-tell : (w : Way) (j i k : ℕ) → i + j ≡ k → k ≤ fileN file → tell (placedTold i) (placeCallsBy w j) ≡ placedTold k
+  unfolding placeCallsBy accepted tell
+  places-tell w zero i k e l = ap placedTold last
     where
       last : i ≡ k
       last = omega arith
-  places-tell (suc j) i k e l = tells-one (placedTold i) place (placeCalls j) (place-accepted i (omega arith)) ∙ places-tell j (i + 1) k (omega arith) l
+  places-tell w (suc j) i k e l = tells-one (placedTold i) (placeBy w) (placeCallsBy w j) (place-accepted w i (omega arith)) ∙ places-tell w j (i + 1) k (omega arith) l
 
   pub read-accepted : (k : ℕ) (leaders choke : List ℕ) → fileN file ≤ length leaders → fileN file ≤ length choke → refuses (placedTold k) (read leaders choke) ≡ 0
   unfolding refuses readConditions
@@ -100,8 +101,8 @@ module _ (file : List ℕ) (room : ℕ) where
     all-links = take-all (2 * fileM file) (fileLinks file) (omega (arith, links-long file))
 
     -- the whole list of calls, with k placings
-    pub file-tells : (k : ℕ) → k ≤ fileN file → tell (beginning (fileN file) (fileT file) room) (callsAfter file k) ≡ placedTold k
-    unfolding callsAfter plantCalls beginning accepted
-    file-tells k l =
-        links-tell (fileM file) 0 (order (fileOrder file) ∷ placeCalls k) (omega arith)
-        ∙ tells-one (linksTold (fileM file)) (order (fileOrder file)) (placeCalls k) order-accepted ∙ rw all-links (places-tell k 0 k (omega arith) l)
+    pub file-tells : (w : Way) (k : ℕ) → k ≤ fileN file → tell (beginning (fileN file) (fileT file) room) (callsBy w file k) ≡ placedTold k
+    unfolding callsBy plantCallsBy beginning accepted
+    file-tells w k l =
+        links-tell (fileM file) 0 (order (fileOrder file) ∷ placeCallsBy w k) (omega arith)
+        ∙ tells-one (linksTold (fileM file)) (order (fileOrder file)) (placeCallsBy w k) order-accepted ∙ rw all-links (places-tell w k 0 k (omega arith) l)

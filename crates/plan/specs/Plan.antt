@@ -6,23 +6,35 @@ use lib.Dec.{ltb}
 use lib.ListN.{length, replicate}
 use Rattle.packing.specs.Plant.{GATEWAYS, ENDS}
 use Rattle.packing.specs.Refusals.{byNumber}
+use Rattle.planner.specs.declared.Way.{Way}
+use Rattle.planner.specs.declared.Way.the-variants.{Queued}
 use Rattle.planner.specs.State.{State}
 use Rattle.planner.specs.Calls.{Call, readLeaders, readChoke}
-use Rattle.planner.specs.Run.{plantCalls}
+use Rattle.planner.specs.Run.{plantCallsBy}
 use Rattle.planner.specs.Claims.{madeBy, movesBy}
 use Rattle.plant_file.specs.PlantFile.{fileN, fileT, fileLinks, fileOrder, fileThenShort}
 
--- the list of calls that the file stands for, with k placings: each link, the order, k times place
-unfoldable pub callsAfter : List ℕ → ℕ → List Call
-callsAfter file k = plantCalls (fileLinks file) (fileOrder file) k
+-- the list of calls that the file stands for, with k placings in one way: each link, the order, k times place
+unfoldable pub callsBy : Way → List ℕ → ℕ → List Call
+callsBy w file k = plantCallsBy w (fileLinks file) (fileOrder file) k
 
 -- the record that they make after an open with lists that have a place for every plant
-unfoldable pub stateAfter : List ℕ → ℕ → State
-stateAfter file k = madeBy (fileN file) (fileT file) (replicate ENDS 0) (replicate GATEWAYS 0) (replicate GATEWAYS 0) (callsAfter file k)
+unfoldable pub stateBy : Way → List ℕ → ℕ → State
+stateBy w file k = madeBy (fileN file) (fileT file) (replicate ENDS 0) (replicate GATEWAYS 0) (replicate GATEWAYS 0) (callsBy w file k)
 
 -- 02, change 4: how many gateways they move, placing after placing
-unfoldable pub movesAfter : List ℕ → ℕ → ℕ
-movesAfter file k = movesBy (fileN file) (fileT file) (replicate ENDS 0) (replicate GATEWAYS 0) (replicate GATEWAYS 0) (callsAfter file k)
+unfoldable pub fileMovesBy : Way → List ℕ → ℕ → ℕ
+fileMovesBy w file k = movesBy (fileN file) (fileT file) (replicate ENDS 0) (replicate GATEWAYS 0) (replicate GATEWAYS 0) (callsBy w file k)
+
+-- all of these by 01's search
+abbrev pub callsAfter : List ℕ → ℕ → List Call
+callsAfter file k = callsBy Queued file k
+
+abbrev pub stateAfter : List ℕ → ℕ → State
+stateAfter file k = stateBy Queued file k
+
+abbrev pub movesAfter : List ℕ → ℕ → ℕ
+movesAfter file k = fileMovesBy Queued file k
 
 -- .. once all n are placed
 unfoldable pub fileState : List ℕ → State

@@ -1,5 +1,6 @@
 // The planner's calls that a file stands for, one after the other, on lists with a place for every plant.
 use planner::Small;
+use planner::Way;
 use plant_file::reader::Step;
 use violator::WhyAnswer;
 ghost use mathlib.Core.Path.{_≡_};
@@ -7,12 +8,12 @@ ghost use lib.ListN.{length};
 ghost use Rattle.planner.specs.State.{stateOf};
 ghost use Rattle.planner.specs.Calls as calls;
 ghost use Rattle.planner.specs.Calls.{call, readLeaders, readChoke};
-ghost use Rattle.planner.specs.Run.{run, runMoves, linkCalls, placeCalls};
+ghost use Rattle.planner.specs.Run.{run, runMoves, linkCalls, placeCallsBy};
 ghost use Rattle.planner.specs.Claims.{madeBy, movesBy};
 ghost use Rattle.violator.specs.WhyAlone.{whyAnswer, whyFirst, whySecond};
 ghost use Rattle.plant_file.specs.PlantFile.{fileN, fileT, fileLinks, fileOrder, fileRefusal};
 ghost use Rattle.plant_file.specs.Reader.{linkAt};
-ghost use Rattle.plan.specs.Plan.{callsAfter, stateAfter, movesAfter};
+ghost use Rattle.plan.specs.Plan.{callsBy, stateBy, fileMovesBy};
 ghost use Rattle.plan.specs.Pre.{linkStep};
 
 // The call for the link at an index.
@@ -63,16 +64,23 @@ struct Made {
     moved: u32,
 }
 
-// The placings.
-fn with_places(placings: u32, s: Small, links: &[u16], order: &[u16], holders: &mut [u16]) -> Made
-    ensures state { λ r. ⌜ stateOf (r .small) (now (links .entry)) (now (order .entry)) (now (holders .exit)) ≡ run (stateOf s (now (links .entry)) (now (order .entry)) (now (holders .entry))) (placeCalls placings) ⌝ }
-    ensures moved { λ r. ⌜ r .moved ≡ runMoves (stateOf s (now (links .entry)) (now (order .entry)) (now (holders .entry))) (placeCalls placings) ⌝ }
+// The placings, all in one way.
+fn with_places(
+    way: Way,
+    placings: u32,
+    s: Small,
+    links: &[u16],
+    order: &[u16],
+    holders: &mut [u16],
+) -> Made
+    ensures state { λ r. ⌜ stateOf (r .small) (now (links .entry)) (now (order .entry)) (now (holders .exit)) ≡ run (stateOf s (now (links .entry)) (now (order .entry)) (now (holders .entry))) (placeCallsBy way placings) ⌝ }
+    ensures moved { λ r. ⌜ r .moved ≡ runMoves (stateOf s (now (links .entry)) (now (order .entry)) (now (holders .entry))) (placeCallsBy way placings) ⌝ }
 {
     let mut now = s;
     let mut moved: u32 = 0;
     let mut i: u32 = 0;
     while i < placings {
-        let placed = now.place(links, order, holders);
+        let placed = now.place_by(way, links, order, holders);
         now = placed.small;
         moved += placed.moved as u32;
         i += 1;
@@ -83,20 +91,21 @@ fn with_places(placings: u32, s: Small, links: &[u16], order: &[u16], holders: &
 // Open, and then all of them.
 fn make(
     file: &[u8],
+    way: Way,
     placings: u32,
     links: &mut [u16],
     order: &mut [u16],
     holders: &mut [u16],
 ) -> Made
     requires { ⌜ fileRefusal (now file) ≡ 0 ⌝ }
-    ensures state { λ r. ⌜ stateOf (r .small) (now (links .exit)) (now (order .exit)) (now (holders .exit)) ≡ madeBy (fileN (now (file .entry))) (fileT (now (file .entry))) (now (links .entry)) (now (order .entry)) (now (holders .entry)) (callsAfter (now (file .entry)) placings) ⌝ }
-    ensures moved { λ r. ⌜ r .moved ≡ movesBy (fileN (now (file .entry))) (fileT (now (file .entry))) (now (links .entry)) (now (order .entry)) (now (holders .entry)) (callsAfter (now (file .entry)) placings) ⌝ }
+    ensures state { λ r. ⌜ stateOf (r .small) (now (links .exit)) (now (order .exit)) (now (holders .exit)) ≡ madeBy (fileN (now (file .entry))) (fileT (now (file .entry))) (now (links .entry)) (now (order .entry)) (now (holders .entry)) (callsBy way (now (file .entry)) placings) ⌝ }
+    ensures moved { λ r. ⌜ r .moved ≡ movesBy (fileN (now (file .entry))) (fileT (now (file .entry))) (now (links .entry)) (now (order .entry)) (now (holders .entry)) (callsBy way (now (file .entry)) placings) ⌝ }
 {
     let n = plant_file::gateways(file);
     let opened = Small::open(n, plant_file::limit(file), links, order, holders).small;
     let linked = with_links(file, opened, links, order, holders);
     let ordered = with_order(file, linked, links, order, holders);
-    with_places(placings, ordered, links, order, holders)
+    with_places(way, placings, ordered, links, order, holders)
 }
 
 // How many gateways the placings moved, and why a gateway is alone.
@@ -109,6 +118,7 @@ pub(crate) struct Looked {
 // Both looks stand in one function so that a plan's lists, and the table of what is held, take their place on the stack once for all calls.
 pub(crate) fn look(
     file: &[u8],
+    way: Way,
     placings: u32,
     leaders: &mut [u16],
     choke: &mut [u8],
@@ -117,17 +127,17 @@ pub(crate) fn look(
     second: &mut [u16],
 ) -> Looked
     requires { ⌜ fileRefusal (now file) ≡ 0 ⌝ }
-    ensures leaders { λ _. ⌜ now (leaders .exit) ≡ readLeaders (stateAfter (now (file .entry)) placings) (now (leaders .entry)) (now (choke .entry)) ⌝ }
-    ensures choke { λ _. ⌜ now (choke .exit) ≡ readChoke (stateAfter (now (file .entry)) placings) (now (leaders .entry)) (now (choke .entry)) ⌝ }
-    ensures moved { λ r. ⌜ r .moved ≡ movesAfter (now (file .entry)) placings ⌝ }
-    ensures why { λ r. ⌜ r .why ≡ whyAnswer (stateAfter (now (file .entry)) placings) gateway (length (now (first .entry))) (length (now (second .entry))) ⌝ }
-    ensures first { λ _. ⌜ now (first .exit) ≡ whyFirst (stateAfter (now (file .entry)) placings) gateway (now (first .entry)) (now (second .entry)) ⌝ }
-    ensures second { λ _. ⌜ now (second .exit) ≡ whySecond (stateAfter (now (file .entry)) placings) gateway (now (first .entry)) (now (second .entry)) ⌝ }
+    ensures leaders { λ _. ⌜ now (leaders .exit) ≡ readLeaders (stateBy way (now (file .entry)) placings) (now (leaders .entry)) (now (choke .entry)) ⌝ }
+    ensures choke { λ _. ⌜ now (choke .exit) ≡ readChoke (stateBy way (now (file .entry)) placings) (now (leaders .entry)) (now (choke .entry)) ⌝ }
+    ensures moved { λ r. ⌜ r .moved ≡ fileMovesBy way (now (file .entry)) placings ⌝ }
+    ensures why { λ r. ⌜ r .why ≡ whyAnswer (stateBy way (now (file .entry)) placings) gateway (length (now (first .entry))) (length (now (second .entry))) ⌝ }
+    ensures first { λ _. ⌜ now (first .exit) ≡ whyFirst (stateBy way (now (file .entry)) placings) gateway (now (first .entry)) (now (second .entry)) ⌝ }
+    ensures second { λ _. ⌜ now (second .exit) ≡ whySecond (stateBy way (now (file .entry)) placings) gateway (now (first .entry)) (now (second .entry)) ⌝ }
 {
     let mut links = lists::marks::ends();
     let mut order = lists::marks::zeros();
     let mut holders = lists::marks::zeros();
-    let made = make(file, placings, &mut links, &mut order, &mut holders);
+    let made = make(file, way, placings, &mut links, &mut order, &mut holders);
     let small = made.small;
     small.read(&links, &order, &holders, leaders, choke);
     let why = violator::why_alone(small, &links, &order, &holders, gateway, first, second);

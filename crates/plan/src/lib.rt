@@ -2,10 +2,11 @@
 mod calls;
 pub mod why;
 
+use planner::Way;
 ghost use mathlib.Core.Path.{_≡_};
 ghost use lib.ListN.{length};
 ghost use Rattle.plan.specs.Plan.{planRefusal, planLeaders, planChoke};
-ghost use Rattle.plan.specs.After.{afterRefusal, planAfterRefusal, plannedAfter, planLeadersAfter, planChokeAfter};
+ghost use Rattle.plan.specs.After.{afterRefusal, planAfterRefusal, plannedBy, planLeadersBy, planChokeBy, plannedAfter, planLeadersAfter, planChokeAfter};
 
 // The file's number, then 24 for more placings than there are gateways, then 10: short says that a lent list is too short.
 pub fn refusal_after(file: &[u8], placings: u32, short: bool) -> u32
@@ -38,16 +39,17 @@ pub struct Planned {
     pub moved: u32,
 }
 
-// The leader list and the choke bytes after so many placings, and how many gateways these move. Nothing is written on refusal.
-pub fn plan_lists_after(
+// The leader list and the choke bytes after so many placings in one way, and how many gateways these move. Nothing is written on refusal.
+pub fn plan_lists_by(
     file: &[u8],
+    way: Way,
     placings: u32,
     leaders: &mut [u16],
     choke: &mut [u8],
 ) -> Planned
-    ensures answer { λ r. ⌜ r ≡ plannedAfter (now (file .entry)) placings (length (now (leaders .entry))) (length (now (choke .entry))) ⌝ }
-    ensures leaders { λ _. ⌜ now (leaders .exit) ≡ planLeadersAfter (now (file .entry)) placings (now (leaders .entry)) (now (choke .entry)) ⌝ }
-    ensures choke { λ _. ⌜ now (choke .exit) ≡ planChokeAfter (now (file .entry)) placings (now (leaders .entry)) (now (choke .entry)) ⌝ }
+    ensures answer { λ r. ⌜ r ≡ plannedBy way (now (file .entry)) placings (length (now (leaders .entry))) (length (now (choke .entry))) ⌝ }
+    ensures leaders { λ _. ⌜ now (leaders .exit) ≡ planLeadersBy way (now (file .entry)) placings (now (leaders .entry)) (now (choke .entry)) ⌝ }
+    ensures choke { λ _. ⌜ now (choke .exit) ≡ planChokeBy way (now (file .entry)) placings (now (leaders .entry)) (now (choke .entry)) ⌝ }
 {
     let refused = refusal_of(file, placings, leaders, choke);
     if refused != 0 {
@@ -61,6 +63,7 @@ pub fn plan_lists_after(
     let mut second = [0u16; 1];
     let looked = calls::look(
         file,
+        way,
         placings,
         leaders,
         choke,
@@ -72,6 +75,20 @@ pub fn plan_lists_after(
         refusal: 0,
         moved: looked.moved,
     }
+}
+
+// .. by 01's search.
+pub fn plan_lists_after(
+    file: &[u8],
+    placings: u32,
+    leaders: &mut [u16],
+    choke: &mut [u8],
+) -> Planned
+    ensures answer { λ r. ⌜ r ≡ plannedAfter (now (file .entry)) placings (length (now (leaders .entry))) (length (now (choke .entry))) ⌝ }
+    ensures leaders { λ _. ⌜ now (leaders .exit) ≡ planLeadersAfter (now (file .entry)) placings (now (leaders .entry)) (now (choke .entry)) ⌝ }
+    ensures choke { λ _. ⌜ now (choke .exit) ≡ planChokeAfter (now (file .entry)) placings (now (leaders .entry)) (now (choke .entry)) ⌝ }
+{
+    plan_lists_by(file, Way::Queued, placings, leaders, choke)
 }
 
 // The leader list and the choke bytes of a file's plan: after all placings. Nothing is written on refusal.

@@ -1,5 +1,6 @@
 // Why a gateway is alone in a file's plan, as lists of numbers (02, change 5).
 use crate::calls;
+use planner::Way;
 ghost use mathlib.Core.Path.{_≡_};
 ghost use lib.ListN.{length};
 ghost use Rattle.plan.specs.Why.{fileWhy, firstWritten, secondWritten};
@@ -38,6 +39,7 @@ pub fn why_lists(file: &[u8], gateway: u32, first: &mut [u16], second: &mut [u16
     let mut choke = [0u8; 1];
     let looked = calls::look(
         file,
+        Way::Queued,
         n,
         &mut leaders[..0],
         &mut choke[..0],

@@ -65,7 +65,7 @@ returns c = let asked = c .before .before .before .before in
     let read = asked .before .before .before .before .before .before .before .before .before .before in
     let made = read .before .before .before .before .before .before .before .before .before .before in
     let lent = made .before .before .before .before in
-    all-looked _ _ (lent .before .before .ends .ensures) (lent .before .zeros .ensures) (lent .zeros2 .ensures) _ _ _ _ _ _ _ _ _ (made .make .ensures .0) (made .make .ensures .1)
+    all-looked _ _ _ (lent .before .before .ends .ensures) (lent .before .zeros .ensures) (lent .zeros2 .ensures) _ _ _ _ _ _ _ _ _ (made .make .ensures .0) (made .make .ensures .1)
     (read .read .ensures .1) (asked .why-alone .ensures)
 
 pub look-spec : {M : Type 1} → statement M

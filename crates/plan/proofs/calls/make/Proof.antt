@@ -37,9 +37,9 @@ returns c = let places = c .before .before in
     let links = order .before .before .before .before .before .before in
     let opened = links .before .before .before .before .before .before .before .before .before in
     let header = opened .before .before .before .before in (
-      all-made _ _ _ _ _ (header .before .gateways .ensures) (header .limit .ensures) (opened .«open» .ensures .0) (opened .«open» .ensures .1 .0) (opened .«open» .ensures .1 .1)
+      all-made _ _ _ _ _ _ (header .before .gateways .ensures) (header .limit .ensures) (opened .«open» .ensures .0) (opened .«open» .ensures .1 .0) (opened .«open» .ensures .1 .1)
           (links .with-links .ensures) (order .with-order .ensures) (places .with-places .ensures .0),
-      all-moves _ _ _ _ _ (header .before .gateways .ensures) (header .limit .ensures) (opened .«open» .ensures .0) (opened .«open» .ensures .1 .0) (opened .«open» .ensures .1 .1)
+      all-moves _ _ _ _ _ _ (header .before .gateways .ensures) (header .limit .ensures) (opened .«open» .ensures .0) (opened .«open» .ensures .1 .0) (opened .«open» .ensures .1 .1)
           (links .with-links .ensures) (order .with-order .ensures) (places .with-places .ensures .1),
     )
 

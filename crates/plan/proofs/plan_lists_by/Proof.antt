@@ -1,7 +1,7 @@
 use Rattle.plan.proofs.Refusing.{plan-places, plan-refused, plan-accepted}
 use borrow.Author.Needs.{needs}
-use Rattle.plan.proofs.plan_lists_after.Statement.{statement}
-use Rattle.plan.proofs.plan_lists_after.Tie as tie
+use Rattle.plan.proofs.plan_lists_by.Statement.{statement}
+use Rattle.plan.proofs.plan_lists_by.Tie as tie
 
 refusal-of-requires : tie.Need-refusal-of-requires
 refusal-of-requires c κs = search needs
@@ -13,7 +13,7 @@ same-length-2 : tie.Need-same-length-2
 same-length-2 c = search needs
 
 returns : tie.Need-returns
-returns c = plan-refused _ _ _ _ (c .before .refusal-of .ensures) (c .if1 .taken)
+returns c = plan-refused _ _ _ _ _ (c .before .refusal-of .ensures) (c .if1 .taken)
 
 array-borrow-prefix-first : tie.Need-array-borrow-prefix-first
 array-borrow-prefix-first c = search needs
@@ -40,10 +40,10 @@ same-length-4 c = search needs
 returns-2 : tie.Need-returns-2
 returns-2 c = let looked = c .before .before .before .before .before .before in
     let test = looked .before .before .before .before .before in
-    plan-accepted _ _ _ _ (test .before .refusal-of .ensures) (test .if1 .left) (looked .look .ensures .0) (looked .look .ensures .1 .0) (looked .look .ensures .1 .1 .0)
+    plan-accepted _ _ _ _ _ (test .before .refusal-of .ensures) (test .if1 .left) (looked .look .ensures .0) (looked .look .ensures .1 .0) (looked .look .ensures .1 .1 .0)
 
-pub plan-lists-after-spec : {M : Type 1} → statement M
-plan-lists-after-spec =
+pub plan-lists-by-spec : {M : Type 1} → statement M
+plan-lists-by-spec =
     tie.close
     (tie.spec
     refusal-of-requires
