@@ -16,18 +16,19 @@ use Rattle.packing.proofs.Lists.{listOf-length, listOf-at}
 use Rattle.packing.proofs.Below.{grouping-below, difference-below}
 use Rattle.packing.proofs.Checks.{alone-uncovered, alone-below, covered-below}
 use Rattle.packing.proofs.Turns.{Says, turn-done, turn-named, says-as}
-use Rattle.plant_file.specs.PlantFile.{number, fileN, fileT, fileLinks}
+use Rattle.plant_file.specs.PlantFile.{number, fileN, fileT, fileLinks, fileRefusal}
 use Rattle.plant_file.proofs.Turns.{file-then}
+use Rattle.plan.specs.Claim.{PlanOf}
 use Rattle.checker.specs.Check.{inSet, aloneCount, leadersOff, chokeOff, listsRefusal, checkRefusal}
 use Rattle.checker.specs.Claim.{Accepted, CoversMost, Best, AcceptedCoversMost, OneChokeList}
 use Rattle.checker.specs.Turns.{NoPacking, ChokeOff}
 use Rattle.checker.proofs.Turns.{says-leaders, says-choke, no-packing-below}
 use Rattle.checker.proofs.Claim.{bit-cases, accepted-of, of-accepted, accepted-below, accepted-covers-most, one-choke-list}
-use Rattle.daemon.specs.Groups.{groupsRefusal, groupsOut}
+use Rattle.daemon.specs.Groups.{bytesFor, groupsOut, recursiveOut}
 use Rattle.daemon.specs.Check.{entriesIn, groupsCheck}
-use Rattle.daemon.specs.Claim.{leaderAt, chokeAt, BytesPlan, BytesAcceptsExactly, BytesCoverMost, leaderBytes, chokeBytes, OwnAccepted, OwnChokeBytes}
+use Rattle.daemon.specs.Claim.{leaderAt, chokeAt, BytesPlan, BytesAcceptsExactly, BytesCoverMost, leaderBytes, chokeBytes, OwnAccepted, RecursiveAccepted, OwnChokeBytes}
 use Rattle.daemon.specs.Turns.{GroupsCheckExactly}
-use Rattle.daemon.proofs.Claim.{groups-fine, groups-room, bytes-plan}
+use Rattle.daemon.proofs.Claim.{groups-fine, groups-room, bytes-plan, short-room, short-one, short-plan}
 
 -- the entries are what the bytes say, ..
 module _ (leaders : List ℕ) where
@@ -59,31 +60,41 @@ unfolding BytesCoverMost groupsCheck AcceptedCoversMost
 bytes-cover-most file leaders choke z =
     let a = accepted-of file (entriesIn leaders) choke z in most-of file leaders choke (rw (entries-long leaders) at (a .enough)) (accepted-covers-most file (entriesIn leaders) choke z)
 
--- plan_groups' own answer
-module _ (file out : List ℕ) (z : groupsRefusal file (length out) ≡ 0) where
-  leader-kept : (v : ℕ) → v < fileN file → leaderAt (groupsOut file out) v ≡ leaderAt (leaderBytes (fileN file) (groupsOut file out)) v
-  leader-kept v l = rw (getD-take (2 * fileN file) (groupsOut file out) (2 * v) 0 (omega arith), getD-take (2 * fileN file) (groupsOut file out) (2 * v + 1) 0 (omega arith))
+-- an answer as plan_groups writes it, with the claim of a plan
+module _
+    (file answer : List ℕ) (fine : fileRefusal file ≡ 0) (room : bytesFor (fileN file) ≤ length answer) (plan : PlanOf file (leaderAt answer) (λ v. eqb (chokeAt (fileN file) answer v) 1))
+    (bits : (v : ℕ) → v < fileN file → chokeAt (fileN file) answer v ≤ 1)
+  where
+    leader-kept : (v : ℕ) → v < fileN file → leaderAt answer v ≡ leaderAt (leaderBytes (fileN file) answer) v
+    leader-kept v l = rw (getD-take (2 * fileN file) answer (2 * v) 0 (omega arith), getD-take (2 * fileN file) answer (2 * v + 1) 0 (omega arith))
 
-  choke-kept : (v : ℕ) → v < fileN file → chokeAt (fileN file) (groupsOut file out) v ≡ at (chokeBytes (fileN file) (groupsOut file out)) v
-  choke-kept v l = sym (getD-take (fileN file) (drop (2 * fileN file) (groupsOut file out)) v 0 l ∙ getD-drop (2 * fileN file) (groupsOut file out) v 0)
+    choke-kept : (v : ℕ) → v < fileN file → chokeAt (fileN file) answer v ≡ at (chokeBytes (fileN file) answer) v
+    choke-kept v l = sym (getD-take (fileN file) (drop (2 * fileN file) answer) v 0 l ∙ getD-drop (2 * fileN file) answer v 0)
 
-  own-bytes : Accepted file (length (leaderBytes (fileN file) (groupsOut file out)) / 2) (leaderAt (leaderBytes (fileN file) (groupsOut file out))) (chokeBytes (fileN file) (groupsOut file out))
-  unfolding BytesPlan inSet aloneCount
-  own-bytes =
-      let ((grouping, _, difference), bits, _) = bytes-plan file out z in
-      let room = groups-room file out z in
-      record {
-        of-file = groups-fine file out z;
-        enough = omega (arith, length-take-le (2 * fileN file) (groupsOut file out) (omega arith));
-        grouping = grouping-below (fileN file) (common (fileT file)) (linked (fileLinks file)) _ _ leader-kept grouping;
-        bytes = omega (arith, length-drop (2 * fileN file) (groupsOut file out), length-take-le (fileN file) (drop (2 * fileN file) (groupsOut file out)) (omega (arith, length-drop (2 * fileN file) (groupsOut file out))));
-        zero-or-one = λ v l. bit-cases _ (rw (choke-kept v l) at (bits v l));
-        difference = difference-below (fileN file) (common (fileT file)) (linked (fileLinks file)) _ _ _ _ (λ v l. ap (λ (x : ℕ). eqb x 1) (choke-kept v l)) (sym (alone-uncovered (fileN file) (leaderAt (groupsOut file out))) ∙ alone-below (fileN file) _ _ leader-kept) difference;
-      }
+    own-bytes : Accepted file (length (leaderBytes (fileN file) answer) / 2) (leaderAt (leaderBytes (fileN file) answer)) (chokeBytes (fileN file) answer)
+    unfolding inSet aloneCount
+    own-bytes =
+        let (grouping, _, difference) = plan in
+        record {
+          of-file = fine;
+          enough = omega (arith, length-take-le (2 * fileN file) answer (omega arith));
+          grouping = grouping-below (fileN file) (common (fileT file)) (linked (fileLinks file)) _ _ leader-kept grouping;
+          bytes = omega (arith, length-drop (2 * fileN file) answer, length-take-le (fileN file) (drop (2 * fileN file) answer) (omega (arith, length-drop (2 * fileN file) answer)));
+          zero-or-one = λ v l. bit-cases _ (rw (choke-kept v l) at (bits v l));
+          difference = difference-below (fileN file) (common (fileT file)) (linked (fileLinks file)) _ _ _ _ (λ v l. ap (λ (x : ℕ). eqb x 1) (choke-kept v l)) (sym (alone-uncovered (fileN file) (leaderAt answer)) ∙ alone-below (fileN file) _ _ leader-kept) difference;
+        }
+
+    answer-accepted : groupsCheck file (leaderBytes (fileN file) answer) (chokeBytes (fileN file) answer) ≡ 0
+    unfolding BytesAcceptsExactly
+    answer-accepted = bytes-accepts-exactly file _ _ .1 own-bytes
 
 pub own-accepted : OwnAccepted
-unfolding OwnAccepted BytesAcceptsExactly
-own-accepted file out z = bytes-accepts-exactly file _ _ .1 (own-bytes file out z)
+unfolding OwnAccepted BytesPlan
+own-accepted file out z = let (plan, bits, _) = bytes-plan file out z in answer-accepted file (groupsOut file out) (groups-fine file out z) (groups-room file out z) plan bits
+
+pub recursive-accepted : RecursiveAccepted
+unfolding RecursiveAccepted
+recursive-accepted file out z = answer-accepted file (recursiveOut file out) (groups-fine file out z) (short-room file out z) (short-plan file out z) (short-one file out z)
 
 pub own-choke-bytes : OwnChokeBytes
 unfolding OwnChokeBytes OwnAccepted BytesAcceptsExactly BytesCoverMost groupsCheck OneChokeList

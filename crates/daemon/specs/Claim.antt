@@ -1,4 +1,4 @@
--- 00, demands 2 and 3, and 02, changes 1, 2, 4, 5 and 6, of the bytes that the calls from C write or are handed. proofs/Claim.antt, proofs/WhyClaim.antt and proofs/CheckClaim.antt prove it.
+-- 00, demands 2 and 3, and 02, changes 1, 2, 4, 5, 6 and 7, of the bytes that the calls from C write or are handed. proofs/Claim.antt, proofs/WhyClaim.antt and proofs/CheckClaim.antt prove it.
 use Prim.Native.Nat.{ℕ, _+_, _*_, _/_, _<_, _≤_}
 use mathlib.Core.Path.{_≡_}
 use mathlib.Core.Logic.{_↔_}
@@ -10,11 +10,12 @@ use Rattle.packing.specs.Plant.{at}
 use Rattle.packing.specs.Grouping.{covered}
 use Rattle.packing.specs.Pairs.{EarlierLeads}
 use Rattle.search.specs.ChokeSet.{chokeByte}
+use Rattle.planner.specs.declared.Way.the-variants.{Queued, Recursive}
 use Rattle.plant_file.specs.PlantFile.{number, fileN, fileLinks, fileOrder}
 use Rattle.checker.specs.Claim.{Accepted, CoversMost, Best}
 use Rattle.plan.specs.Plan.{stateAfter}
-use Rattle.plan.specs.Claim.{PlanOf, PlanSoFar, SumOfFewest, WhyOf}
-use Rattle.daemon.specs.Groups.{groupsRefusal, groupsOut, groupsAfterRefusal, groupsAfterOut}
+use Rattle.plan.specs.Claim.{PlanOf, PlanSoFar, SumOfMoves, SumOfFewest, WhyOf}
+use Rattle.daemon.specs.Groups.{groupsRefusal, groupsOut, groupsAfterRefusal, groupsAfterOut, recursiveOut}
 use Rattle.daemon.specs.Why.{aloneRefusal, aloneOut}
 use Rattle.daemon.specs.Check.{groupsCheck}
 
@@ -46,7 +47,7 @@ BytesRefused = (file out : List ℕ) → (groupsRefusal file (length out) ≡ 0 
 unfoldable pub BytesSoFar : Type 0
 BytesSoFar =
     (file : List ℕ) (k : ℕ) (out : List ℕ) → groupsAfterRefusal file k (length out) ≡ 0
-    → PlanSoFar file k (leaderAt (groupsAfterOut file k out))
+    → PlanSoFar Queued file k (leaderAt (groupsAfterOut file k out))
     × ((v : ℕ) → v < fileN file → chokeAt (fileN file) (groupsAfterOut file k out) v ≡ chokeByte (fileN file) (fileLinks file) (stateAfter file k .holders) v)
     × (drop (3 * fileN file + 4) (groupsAfterOut file k out) ≡ drop (3 * fileN file + 4) out)
 
@@ -77,6 +78,28 @@ unfoldable pub BytesAfterAll : Type 0
 BytesAfterAll =
     (file out : List ℕ)
     → (groupsAfterRefusal file (fileN file) (length out) ≡ groupsRefusal file (length out)) × (groupsAfterOut file (fileN file) out ≡ groupsOut file out)
+
+-- 02, change 7: what is claimed of plan_groups_recursive's answer, beside any answer of plan_groups for the same file.
+pub record RecursiveAnswer (file out : List ℕ) : Type 0 where
+  -- it is a plan of the file, as that of plan_groups
+  pub plan : PlanOf file (leaderAt (recursiveOut file out)) (λ v. eqb (chokeAt (fileN file) (recursiveOut file out) v) 1)
+  pub pairs : EarlierLeads (fileN file) (at (fileOrder file)) (leaderAt (recursiveOut file out))
+  -- "they cover the same set and give the same choke set"
+  pub covers : (other : List ℕ) → groupsRefusal file (length other) ≡ 0
+      → (v : ℕ) → v < fileN file → covered (leaderAt (recursiveOut file out)) v ≡ covered (leaderAt (groupsOut file other)) v
+  pub chokes : (other : List ℕ) → groupsRefusal file (length other) ≡ 0
+      → (v : ℕ) → v < fileN file → chokeAt (fileN file) (recursiveOut file out) v ≡ chokeAt (fileN file) (groupsOut file other) v
+  -- "the number moved is given here too, but need not be the least"
+  pub moves : SumOfMoves Recursive file (fileN file) (movedAt (fileN file) (recursiveOut file out))
+  -- nothing past 3n + 4 is written
+  pub past : drop (3 * fileN file + 4) (recursiveOut file out) ≡ drop (3 * fileN file + 4) out
+
+-- It holds of every accepted call, and a refused one writes nothing.
+unfoldable pub BytesRecursive : Type 0
+BytesRecursive =
+    (file out : List ℕ)
+    → (groupsRefusal file (length out) ≡ 0 → RecursiveAnswer file out)
+    × ((groupsRefusal file (length out) ≡ 0 → ⊥) → recursiveOut file out ≡ out)
 
 -- 02, change 5: two counts, the first set, the second set, two bytes for each number, as a caller of why_alone reads them
 abbrev pub firstCountAt : List ℕ → ℕ
@@ -125,6 +148,12 @@ unfoldable pub OwnAccepted : Type 0
 OwnAccepted =
     (file out : List ℕ) → groupsRefusal file (length out) ≡ 0
     → groupsCheck file (leaderBytes (fileN file) (groupsOut file out)) (chokeBytes (fileN file) (groupsOut file out)) ≡ 0
+
+-- .. and so is what plan_groups_recursive writes
+unfoldable pub RecursiveAccepted : Type 0
+RecursiveAccepted =
+    (file out : List ℕ) → groupsRefusal file (length out) ≡ 0
+    → groupsCheck file (leaderBytes (fileN file) (recursiveOut file out)) (chokeBytes (fileN file) (recursiveOut file out)) ≡ 0
 
 -- with its choke bytes leaders by any hand are accepted exactly if they are a grouping and cover the most
 unfoldable pub OwnChokeBytes : Type 0

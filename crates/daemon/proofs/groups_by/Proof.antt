@@ -1,8 +1,8 @@
 -- Where the list is too short the file is checked alone; else by the plan.
 use Rattle.daemon.proofs.Groups.{short-number, long-number}
 use borrow.Author.Needs.{needs}
-use Rattle.daemon.proofs.plan_groups_after.Statement.{statement}
-use Rattle.daemon.proofs.plan_groups_after.Tie as tie
+use Rattle.daemon.proofs.groups_by.Statement.{statement}
+use Rattle.daemon.proofs.groups_by.Tie as tie
 
 gateways-requires : tie.Need-gateways-requires
 gateways-requires c κs = search needs
@@ -20,7 +20,7 @@ refusal-after-requires : tie.Need-refusal-after-requires
 refusal-after-requires c κs = search needs
 
 returns : tie.Need-returns
-returns c = short-number _ _ _ (c .before .before .gateways .ensures) (c .before .if1 .taken) (c .refusal-after .ensures)
+returns c = short-number _ _ _ _ (c .before .before .gateways .ensures) (c .before .if1 .taken) (c .refusal-after .ensures)
 
 write-plan-requires : tie.Need-write-plan-requires
 write-plan-requires c κs = search needs
@@ -29,10 +29,10 @@ same-length : tie.Need-same-length
 same-length c = search needs
 
 returns-2 : tie.Need-returns-2
-returns-2 c = long-number _ _ _ (c .before .before .before .before .before .gateways .ensures) (c .before .before .before .before .if1 .left) (c .before .before .write-plan .ensures .0) (c .before .before .write-plan .ensures .1)
+returns-2 c = long-number _ _ _ _ (c .before .before .before .before .before .gateways .ensures) (c .before .before .before .before .if1 .left) (c .before .before .write-plan .ensures .0) (c .before .before .write-plan .ensures .1)
 
-pub plan-groups-after-spec : {M : Type 1} → statement M
-plan-groups-after-spec =
+pub groups-by-spec : {M : Type 1} → statement M
+groups-by-spec =
     tie.close
     (tie.spec
     gateways-requires
