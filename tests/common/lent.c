@@ -146,6 +146,12 @@ void lent_call_after(const uint8_t *file, size_t len, uint32_t placings, size_t 
     look_at_plan(&l, file, plan_groups_after(l.in.at, len, placings, l.out.at, out_len), o);
 }
 
+void lent_call_short(const uint8_t *file, size_t len, size_t out_len, enum side side, struct outcome *o)
+{
+    struct lending l = lend_both(file, len, out_len, side);
+    look_at_plan(&l, file, plan_groups_recursive(l.in.at, len, l.out.at, out_len), o);
+}
+
 void lent_call_why(const uint8_t *file, size_t len, uint32_t gateway, size_t out_len, enum side side, struct outcome *o)
 {
     struct lending l = lend_both(file, len, out_len, side);
@@ -179,6 +185,13 @@ void lent_plan_after(const struct plant *p, int k, enum side side, struct outcom
     static uint8_t file[MAX_FILE];
     size_t len = plant_write(p, file);
     lent_call_after(file, len, (uint32_t)k, PLAN_GROUPS_OUT(p->n), side, o);
+}
+
+void lent_plan_short(const struct plant *p, enum side side, struct outcome *o)
+{
+    static uint8_t file[MAX_FILE];
+    size_t len = plant_write(p, file);
+    lent_call_short(file, len, PLAN_GROUPS_OUT(p->n), side, o);
 }
 
 void lent_why(const struct plant *p, uint32_t gateway, enum side side, struct outcome *o)

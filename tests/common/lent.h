@@ -26,15 +26,22 @@ void lent_call(const uint8_t *file, size_t len, size_t out_len, enum side side, 
 /* Calls plan_groups_after in the same way. */
 void lent_call_after(const uint8_t *file, size_t len, uint32_t placings, size_t out_len, enum side side, struct outcome *o);
 
+/* Calls plan_groups_recursive in the same way. */
+void lent_call_short(const uint8_t *file, size_t len, size_t out_len, enum side side, struct outcome *o);
+
 /* Calls why_alone in the same way. */
 void lent_call_why(const uint8_t *file, size_t len, uint32_t gateway, size_t out_len, enum side side, struct outcome *o);
 
 /* Calls check_groups with copies of the three areas. It gives no bytes: the outcome's out stays as it was. */
 void lent_check(const struct handed *h, enum side side, struct outcome *o);
 
-/* The calls for a plant, with an out area just long enough; the second after k placings, the third for a gateway. */
+/*
+ * The calls for a plant, with an out area just long enough; the second after k placings, the third by the short search, the
+ * fourth for a gateway.
+ */
 void lent_plan(const struct plant *p, enum side side, struct outcome *o);
 void lent_plan_after(const struct plant *p, int k, enum side side, struct outcome *o);
+void lent_plan_short(const struct plant *p, enum side side, struct outcome *o);
 void lent_why(const struct plant *p, uint32_t gateway, enum side side, struct outcome *o);
 
 #endif

@@ -2,10 +2,7 @@
 
 #include <string.h>
 
-struct neighbours {
-    int start[MAX_GATEWAYS + 1];
-    int list[2 * MAX_LINKS]; /* x's, in order of arrival, from start[x] up to start[x + 1] */
-};
+#include "neighbours.h"
 
 struct search {
     const struct plant *plant;
@@ -16,21 +13,6 @@ struct search {
     int seen_from[MAX_GATEWAYS]; /* NOBODY where not yet seen */
 };
 
-static void gather(const struct plant *p, struct neighbours *near)
-{
-    int count = 0;
-    for (int x = 0; x < p->n; x++) {
-        near->start[x] = count;
-        for (int i = 0; i < p->m; i++) {
-            if (p->ends[i][0] == x)
-                near->list[count++] = p->ends[i][1];
-            if (p->ends[i][1] == x)
-                near->list[count++] = p->ends[i][0];
-        }
-    }
-    near->start[p->n] = count;
-}
-
 static void begin(struct search *s, const struct plant *p, const struct neighbours *near, const int *holder)
 {
     s->plant = p;
@@ -39,14 +21,6 @@ static void begin(struct search *s, const struct plant *p, const struct neighbou
     s->head = s->tail = 0;
     for (int v = 0; v < p->n; v++)
         s->seen_from[v] = NOBODY;
-}
-
-static int held_by(const struct search *s, int u)
-{
-    int count = 0;
-    for (int v = 0; v < s->plant->n; v++)
-        count += s->holder[v] == u;
-    return count;
 }
 
 /* What u holds joins the queue, ascending. */
@@ -67,7 +41,7 @@ static int search(struct search *s, int limit)
             if (s->seen_from[u] != NOBODY)
                 continue;
             s->seen_from[u] = x;
-            if (held_by(s, u) < limit)
+            if (holders_count(s->plant->n, s->holder, u) < limit)
                 return u;
             join(s, u);
         }
@@ -87,15 +61,6 @@ static void take(const struct search *s, int u, int v, int *holder)
     } while (x != v);
 }
 
-/* At how many of n gateways the holders differ. */
-static int count_changed(int n, const int *before, const int *after)
-{
-    int count = 0;
-    for (int v = 0; v < n; v++)
-        count += before[v] != after[v];
-    return count;
-}
-
 static int place(const struct plant *p, const struct neighbours *near, int v, int *holder)
 {
     static struct search s;
@@ -106,13 +71,13 @@ static int place(const struct plant *p, const struct neighbours *near, int v, in
     int u = search(&s, p->limit);
     if (u != NOBODY)
         take(&s, u, v, holder);
-    return count_changed(p->n, before, holder);
+    return holders_changed(p->n, before, holder);
 }
 
 static void place_first(const struct plant *p, int k, int *holder, int *moved)
 {
     static struct neighbours near;
-    gather(p, &near);
+    neighbours_gather(p, &near);
     for (int v = 0; v < p->n; v++)
         holder[v] = NOBODY;
     for (int i = 0; i < k; i++)
@@ -138,7 +103,7 @@ void placing_each(const struct plant *p, int *moved)
 int placing_one(const struct plant *p, int v, int *holder)
 {
     static struct neighbours near;
-    gather(p, &near);
+    neighbours_gather(p, &near);
     return place(p, &near, v, holder);
 }
 
@@ -154,7 +119,7 @@ void placing_choke(const struct plant *p, const int *holder, int *choke)
 {
     static struct neighbours near;
     static struct search s;
-    gather(p, &near);
+    neighbours_gather(p, &near);
     begin(&s, p, &near, holder);
     join(&s, NOBODY);
     walk(&s, choke);
@@ -164,7 +129,7 @@ void placing_walk(const struct plant *p, const int *holder, int v, int *queued, 
 {
     static struct neighbours near;
     static struct search s;
-    gather(p, &near);
+    neighbours_gather(p, &near);
     begin(&s, p, &near, holder);
     s.queue[s.tail++] = v;
     walk(&s, seen);

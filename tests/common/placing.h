@@ -2,9 +2,8 @@
 #ifndef PLACING_H
 #define PLACING_H
 
+#include "holders.h"
 #include "plant.h"
-
-enum { NOBODY = -1 };
 
 /*
  * Places the first k of the order; holder[v] is who then holds v, or NOBODY. Returns the number moved: for each placing
