@@ -5,6 +5,7 @@
 #include "file_rules.h"
 #include "judge.h"
 #include "judge_check.h"
+#include "judge_short.h"
 #include "lent.h"
 #include "placing.h"
 #include "tally.h"
@@ -104,17 +105,33 @@ static void (*const ways[WAYS])(struct rng *) = {
     flip, flip, cut, extend, remove_byte, insert_byte, bound, bound, copy_numbers, swap_numbers, refit, noise,
 };
 
+/* NULL where the call gave the rules' number and did nothing that it must not do. */
+static const char *number_fault(const struct outcome *o, int number)
+{
+    if (o->fault != NULL)
+        return o->fault;
+    return (int)o->number == number ? NULL : "another number";
+}
+
 static const char *fault_of(const struct plant *p, int k, const struct outcome *o, int number)
 {
     static struct answer got, expected;
-    if (o->fault != NULL)
-        return o->fault;
-    if ((int)o->number != number)
-        return "another number";
-    if (number != 0)
-        return NULL;
+    const char *fault = number_fault(o, number);
+    if (fault != NULL || number != 0)
+        return fault;
     answer_read(&got, p->n, o->out);
     judge_expect(p, k, &expected);
+    return answer_differs(&got, &expected, p->n);
+}
+
+static const char *short_fault_of(const struct plant *p, const struct outcome *o, int number)
+{
+    static struct answer got, expected;
+    const char *fault = number_fault(o, number);
+    if (fault != NULL || number != 0)
+        return fault;
+    answer_read(&got, p->n, o->out);
+    judge_short_expect(p, &expected);
     return answer_differs(&got, &expected, p->n);
 }
 
@@ -123,7 +140,7 @@ static size_t any_length(struct rng *r)
     return (size_t)(rng_below(r, 8) == 0 ? rng_below(r, 60) : 4096);
 }
 
-/* Calls with the damaged file; returns the number that the rules give. */
+/* Calls with the damaged file, by either search; returns the number that the rules give. */
 static int check(struct rng *r, int which)
 {
     static struct plant p;
@@ -133,6 +150,10 @@ static int check(struct rng *r, int which)
     lent_call(file, len, out_len, lent_side(r), &o);
     const char *fault = fault_of(&p, p.n, &o, number);
     tally(fault == NULL, "damaged file %d: %s; the call gives %u, the rules %d", which, fault, (unsigned)o.number, number);
+    lent_call_short(file, len, out_len, lent_side(r), &o);
+    fault = short_fault_of(&p, &o, number);
+    tally(fault == NULL, "damaged file %d, the short search: %s; the call gives %u, the rules %d", which, fault,
+          (unsigned)o.number, number);
     return number;
 }
 
@@ -174,12 +195,9 @@ static const char *why_fault_of(const struct plant *p, int gateway, const struct
 {
     static struct why got, expected;
     int holder[MAX_GATEWAYS];
-    if (o->fault != NULL)
-        return o->fault;
-    if ((int)o->number != number)
-        return "another number";
-    if (number != 0)
-        return NULL;
+    const char *fault = number_fault(o, number);
+    if (fault != NULL || number != 0)
+        return fault;
     placing_first(p, p->n, holder);
     why_expect(p, holder, gateway, &expected);
     return why_read(&got, p->n, o->out) && why_same(&got, &expected) ? NULL : "the sets are others than by the walk";

@@ -7,17 +7,20 @@
 
 #include "answer.h"
 #include "chains.h"
+#include "deep.h"
 #include "families.h"
 #include "outside.h"
 #include "plan_groups.h"
 #include "tally.h"
 
-enum { BELOW = 1 << 20, PAINT = 0xA7, PLANTS = 48, ROUNDS = 20, SHARERS = 6 };
+enum { BELOW = 1 << 20, PAINT = 0xA7, PLANTS = 60, ROUNDS = 20, SHARERS = 6 };
 
-/* Which call: plan_groups, plan_groups_after, why_alone or check_groups. */
-enum call { ALL, SO_FAR, WHY, CHECK };
+/* Which call: plan_groups, plan_groups_after, why_alone, check_groups or plan_groups_recursive. */
+enum call { ALL, SO_FAR, WHY, CHECK, SHORT };
 
-static const char *const names[] = {"all", "so far", "why", "check"};
+enum { CALLS = SHORT + 1 };
+
+static const char *const names[] = {"all", "so far", "why", "check", "short"};
 
 /* One call: what is lent, and what came back. */
 struct job {
@@ -77,6 +80,9 @@ static void *plan_one(void *j)
     case CHECK:
         job->number = check(job);
         break;
+    case SHORT:
+        job->number = plan_groups_recursive(job->file, job->len, job->out, job->out_len);
+        break;
     }
     return NULL;
 }
@@ -133,21 +139,26 @@ static size_t stack_used(struct job *j, uint8_t *stack, size_t len)
     return len - unused;
 }
 
+/* What the header says is enough for a call. */
+static size_t stack_of(enum call call)
+{
+    return call == SHORT ? PLAN_GROUPS_RECURSIVE_STACK : PLAN_GROUPS_STACK;
+}
+
 /* First with far more stack, where too much is counted; then with just enough, where it would be the end. */
 static void check_job(const char *name, struct job *j)
 {
-    static uint8_t *wide, *just;
+    static uint8_t *area; /* its front part is the stack, so that what lies under it can't be touched */
     static struct job expected;
-    if (wide == NULL) {
-        wide = stack_area(8 * PLAN_GROUPS_STACK);
-        just = stack_area(PLAN_GROUPS_STACK);
-    }
+    size_t enough = stack_of(j->call);
+    if (area == NULL)
+        area = stack_area(8 * PLAN_GROUPS_RECURSIVE_STACK);
     expected = *j;
     plan(&expected);
-    size_t used = stack_used(j, wide, 8 * PLAN_GROUPS_STACK);
-    bool fits = used <= PLAN_GROUPS_STACK && same_answer(j, &expected);
+    size_t used = stack_used(j, area, 8 * enough);
+    bool fits = used <= enough && same_answer(j, &expected);
     if (fits) {
-        stack_used(j, just, PLAN_GROUPS_STACK);
+        stack_used(j, area, enough);
         fits = same_answer(j, &expected);
     }
     tally(fits, "%s, %d gateways, %d links, %s: number %u, %zu bytes of stack", name, plant.n, plant.m, names[j->call],
@@ -165,6 +176,16 @@ static void check_lists_given(const char *name, struct job *j)
     }
 }
 
+/* The short search, with an out that is long enough and with one that is not. */
+static void check_short(const char *name)
+{
+    static struct job j;
+    job_of(&j, SHORT, 0);
+    check_job(name, &j);
+    j.out_len--;
+    check_job(name, &j);
+}
+
 /* More placings than gateways are refused, and so is a gateway that is not there; whether one alone was explained. */
 static bool check_stack(const char *name)
 {
@@ -173,6 +194,7 @@ static bool check_stack(const char *name)
     job_of(&j, ALL, 0);
     check_job(name, &j);
     check_lists_given(name, &j);
+    check_short(name);
     for (int i = 0; i < 3; i++) {
         job_of(&j, SO_FAR, placings[i]);
         check_job(name, &j);
@@ -182,6 +204,23 @@ static bool check_stack(const char *name)
         check_job(name, &j);
     }
     return j.number == 0;
+}
+
+/* The deepest that the short search goes, for each T, and where it goes deep again and again. */
+static void deep_stacks(void)
+{
+    for (int limit = 2; limit <= MAX_LIMIT; limit++) {
+        deep_make(&plant, deep_most(limit), limit, PLACE_FREE);
+        check_short("deep");
+        deep_make(&plant, deep_most(limit), limit, IN_VAIN);
+        check_short("deep in vain");
+        chain_make_full(&plant, (PLAN_GROUPS_GATEWAYS_MAX - 1) / (limit + 1), limit);
+        check_short("deep, and left");
+    }
+    deep_make(&plant, deep_most(2), 2, PLACE_FREE);
+    check_stack("the deepest search");
+    swing_make(&plant, 256, 255);
+    check_stack("a swing");
 }
 
 static void stacks(struct rng *r)
@@ -233,16 +272,23 @@ static int count_accepted(const struct job *jobs, enum call call)
     return count;
 }
 
+static void make_for(enum call call, struct rng *r)
+{
+    if (call == WHY) /* somebody is alone there */
+        family_make(family_named("hubs"), &plant, r, rng_between(r, 20, 100), 2);
+    else if (call == SHORT && rng_below(r, 2) == 0)
+        deep_make(&plant, rng_between(r, 1, 40), 2, PLACE_FREE);
+    else
+        family_make(&families[rng_below(r, family_count)], &plant, r, rng_between(r, 1, 100), 0);
+}
+
 static void fill_side(struct side *s, struct rng *r, pthread_barrier_t *both)
 {
     s->both = both;
     s->differ = 0;
     for (int i = 0; i < PLANTS; i++) {
-        enum call call = (enum call)(i % 4);
-        if (call == WHY) /* somebody is alone there */
-            family_make(family_named("hubs"), &plant, r, rng_between(r, 20, 100), 2);
-        else
-            family_make(&families[rng_below(r, family_count)], &plant, r, rng_between(r, 1, 100), 0);
+        enum call call = (enum call)(i % CALLS);
+        make_for(call, r);
         if (call == CHECK)
             check_job_of(&s->jobs[i], (uint32_t)rng_below(r, 3));
         else
@@ -263,7 +309,9 @@ static void at_once(struct rng *r)
     for (int i = 0; i < 2; i++) {
         fill_side(&sides[i], r, &both);
         int explained = count_accepted(sides[i].alone, WHY), good = count_accepted(sides[i].alone, CHECK);
+        int searched = count_accepted(sides[i].alone, SHORT);
         tally(explained >= 8, "only %d calls of a thread explain one alone", explained);
+        tally(searched >= 8, "only %d calls of a thread plan by the short search", searched);
         tally(good >= 2 && good <= 9, "%d calls of a thread accept lists", good);
     }
     for (int i = 0; i < 2; i++)
@@ -333,6 +381,7 @@ int main(void)
 {
     struct rng r = {9};
     stacks(&r);
+    deep_stacks();
     at_once(&r);
     shared(&r);
     return tally_end();

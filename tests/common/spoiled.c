@@ -125,6 +125,8 @@ void expect_plan(int number, const char *what, int which)
     for (int side = AT_START; side <= AT_END; side++) {
         lent_call(file, len, out_len, side, &outcome);
         compare("plan_groups", by_rules, number, what, which);
+        lent_call_short(file, len, out_len, side, &outcome);
+        compare("plan_groups_recursive", by_rules, number, what, which);
     }
     expect_after(number, what, which);
 }

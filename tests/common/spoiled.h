@@ -38,7 +38,7 @@ void base(void);
 /* Two tests, at either side of the lent areas: plan_groups_after and the rules both give the number. */
 void expect_after(int number, const char *what, int which);
 
-/* Two tests more: plan_groups gives it as well. */
+/* Four tests more: plan_groups and plan_groups_recursive give it as well. */
 void expect_plan(int number, const char *what, int which);
 
 /* Two tests: why_alone and the rules both give the number. */
@@ -47,7 +47,7 @@ void expect_why(int number, const char *what, int which);
 /* Two tests: check_groups and the rules both give the number. */
 void expect_check(int number, const char *what, int which);
 
-/* All four calls give it. */
+/* All five calls give it. */
 void expect(int number, const char *what, int which);
 
 #endif
