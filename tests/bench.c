@@ -1,7 +1,7 @@
 /*
- * Times plan_groups and the flow solver on the same plants in one run. Both begin with the plant and end
- * with their answer: the call reads the plant file and places every gateway, which settles every first k;
- * the flow is solved for all gateways only, and then anew for every first k. Nothing is cleared between calls.
+ * Times plan_groups, plan_groups_recursive and the flow solver on the same plants in one run. All begin with the plant and
+ * end with their answer: the calls read the plant file and place every gateway, which settles every first k; the flow is
+ * solved for all gateways only, and then anew for every first k. Nothing is cleared between calls.
  */
 #define _POSIX_C_SOURCE 200809L
 #include <stdio.h>
@@ -29,6 +29,11 @@ static double now(void)
 static void by_call(void)
 {
     sum += (long)plan_groups(file, len, out, sizeof out) + out[0];
+}
+
+static void by_short(void)
+{
+    sum += (long)plan_groups_recursive(file, len, out, sizeof out) + out[0];
 }
 
 static void by_one_flow(void)
@@ -132,9 +137,9 @@ static void print_growth(double now_taken, double before)
 /* One line of the table; before has the two times of the size before, and takes this one's. */
 static void print_line(const char *name, double *before)
 {
-    double call = seconds(by_call), one = seconds(by_one_flow), every = seconds(by_every_flow);
-    printf("%-8s %8d %6d %3d %12.3f %12.2f %12.4f", name, plant.n, plant.m, plant.limit, 1e3 * call, call / one,
-           call / every);
+    double call = seconds(by_call), by_other = seconds(by_short), one = seconds(by_one_flow), every = seconds(by_every_flow);
+    printf("%-8s %8d %6d %3d %12.3f %12.2f %12.2f %12.4f", name, plant.n, plant.m, plant.limit, 1e3 * call, by_other / call,
+           call / one, call / every);
     print_growth(call, before[0]);
     print_growth(every, before[1]);
     printf("\n");
@@ -147,9 +152,10 @@ int main(void)
     static const int sizes[] = {64, 256, 1024};
     struct rng r = {8};
 
-    printf("%-8s %8s %6s %3s %12s %12s %12s %8s %8s\n", "", "", "", "", "call", "call to", "call to", "growth", "growth");
-    printf("%-8s %8s %6s %3s %12s %12s %12s %8s %8s\n", "plant", "gateways", "links", "T", "in ms", "one flow", "every k",
-           "of call", "of flows");
+    printf("%-8s %8s %6s %3s %12s %12s %12s %12s %8s %8s\n", "", "", "", "", "call", "short search", "call to", "call to",
+           "growth", "growth");
+    printf("%-8s %8s %6s %3s %12s %12s %12s %12s %8s %8s\n", "plant", "gateways", "links", "T", "in ms", "to call",
+           "one flow", "every k", "of call", "of flows");
     for (size_t i = 0; i < sizeof kinds / sizeof kinds[0]; i++) {
         double before[2] = {0, 0};
         for (int j = 0; j < 3; j++) {

@@ -1,6 +1,7 @@
 /*
  * The short search on plants of many shapes: the answer is the tests' own, byte for byte; it covers the same gateways as
- * plan_groups and has its choke bytes, and check_groups accepts it. After every number of placings both searches hold the same.
+ * plan_groups and has its choke bytes, and check_groups accepts it. After every number of placings both searches hold the
+ * same gateways.
  */
 #include "families.h"
 #include "judge_short.h"
@@ -42,7 +43,7 @@ static void some_of_each(struct rng *r, int count, int low, int high)
     some_of(&scarce, r, count, low, high);
 }
 
-/* Few links more than gateways, each limit: what is moved depends on which link comes first. */
+/* Each limit as often as the others, with hubs that are soon full. */
 static void every_limit(struct rng *r, int count)
 {
     for (int i = 0; i < count; i++) {

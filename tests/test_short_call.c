@@ -75,6 +75,18 @@ static void no_area(void)
     tally(plan_groups_recursive(file, plant_write(&plant, file), NULL, 0) == 2, "T = 1 and no out area");
 }
 
+/* The listing's plant, in memory that cannot be written. */
+static void constant_file(void)
+{
+    enum { COUNT = 5 };
+    static const uint8_t constant[] = {'P', 'L', 'T', 1, 0, COUNT, 0, 2, 4, 0, 0, 0, 2, 0, 0, 0, 3, 0,
+                                       0, 0, 4, 0, 1, 0, 2, 0, 2, 0, 3, 0, 4, 0, 0, 0, 1, 0};
+    static const uint8_t expected[PLAN_GROUPS_OUT(COUNT)] = {0, 0, 2, 0, 2, 0, 0, 0, 0, 0, 0, 0, 0, 0, 0, 6};
+    uint8_t out[PLAN_GROUPS_OUT(COUNT)];
+    uint32_t number = plan_groups_recursive(constant, sizeof constant, out, sizeof out);
+    tally(number == 0 && memcmp(out, expected, sizeof out) == 0, "the listing's plant, byte for byte");
+}
+
 /* What was called before leaves no trace: another plant, a refused file, the other search. */
 static void repeated(struct rng *r)
 {
@@ -88,7 +100,8 @@ static void repeated(struct rng *r)
         lent_call_short(file, 3, 3, AT_END, &outcome);
         lent_plan(&other, AT_END, &outcome);
         lent_plan_short(&plant, AT_END, &outcome);
-        tally(is_as_expected() && memcmp(first.out, outcome.out, PLAN_GROUPS_OUT(plant.n)) == 0, "the same plant again, %d", i);
+        tally(is_as_expected() && memcmp(first.out, outcome.out, PLAN_GROUPS_OUT(plant.n)) == 0,
+              "the same plant again, %d", i);
     }
 }
 
@@ -107,7 +120,7 @@ static void alignments(struct rng *r)
     }
 }
 
-/* The number moved stands in these four bytes after the choke set, whatever stands there before, and none past them changes. */
+/* The number moved is these four bytes after the choke set, whatever stands there before, and none past them changes. */
 static void check_bytes(const char *name, const uint8_t *moved)
 {
     static uint8_t out[PLAN_GROUPS_OUT_MAX + MORE];
@@ -162,6 +175,7 @@ int main(void)
     longest(&r);
     lengths(&r);
     no_area();
+    constant_file();
     repeated(&r);
     alignments(&r);
     bytes();

@@ -157,8 +157,8 @@ static void check(const struct edge *e, struct rng *r)
 }
 
 /*
- * A hub that is full when one more comes, and one of those that it holds can move to a gateway that nobody else is linked to.
- * So these two are a group, and all others are led by the hub.
+ * A hub that is full when one more comes, and one of those that it holds can move, to a gateway that nobody else is linked
+ * to. So these two are a group, and all others are led by the hub.
  */
 static void check_row(int limit, int which, struct rng *r)
 {
@@ -198,7 +198,8 @@ static void kinds(void)
         moved_alone += over != 0 && !edges[i].other_leaders;
         leaders_alone += over == 0 && edges[i].other_leaders;
     }
-    tally(leaders >= 4 && more >= 5 && fewer >= 1, "%d other leaders, %d times more moved, %d times fewer", leaders, more, fewer);
+    tally(leaders >= 4 && more >= 5 && fewer >= 1, "%d other leaders, %d times more moved, %d times fewer", leaders, more,
+          fewer);
     tally(moved_alone >= 4 && leaders_alone >= 1, "%d other numbers alone, %d leaders alone", moved_alone, leaders_alone);
 }
 

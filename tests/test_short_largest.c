@@ -1,5 +1,5 @@
 /*
- * The short search on large plants, up to 1,024 gateways and 8,192 links; where it goes as deep as it can, with a place found
+ * The short search on large plants, up to 1,024 gateways and 8,192 links; where it goes as deep as it can, to a place free
  * and in vain; and where the number moved needs three bytes.
  */
 #include "chains.h"
@@ -94,7 +94,10 @@ static void deep(int hubs, int limit, struct rng *r)
     check("deep in vain", r);
 }
 
-/* Where the one more is left, T times the hubs and these themselves are others: so there are fewer of them. */
+/*
+ * Where the one more is left, all that the hubs hold are linked to hubs alone, and are no hubs themselves: so there are fewer
+ * hubs than in the deep plants.
+ */
 static void full(int hubs, int limit, struct rng *r)
 {
     int one_more = hubs * limit;

@@ -276,8 +276,8 @@ static void make_for(enum call call, struct rng *r)
 {
     if (call == WHY) /* somebody is alone there */
         family_make(family_named("hubs"), &plant, r, rng_between(r, 20, 100), 2);
-    else if (call == SHORT && rng_below(r, 2) == 0)
-        deep_make(&plant, rng_between(r, 1, 40), 2, PLACE_FREE);
+    else if (call == SHORT && rng_below(r, 4) > 0) /* long enough to meet the other thread's */
+        deep_make(&plant, rng_between(r, 100, 200), 2, PLACE_FREE);
     else
         family_make(&families[rng_below(r, family_count)], &plant, r, rng_between(r, 1, 100), 0);
 }

@@ -11,7 +11,7 @@ static int mover_of(const struct plant *p, int hubs, int hub)
     return p->n - 2 * hubs + hub;
 }
 
-/* The links to those that a hub holds; so each one's first link is that to its holder. Returns how many dead ends there are. */
+/* The links to those that a hub holds, so that each one's first link is that to its holder. Returns how many dead ends. */
 static int link_held(struct plant *p, int hubs, bool first_is_held)
 {
     int dead = 0;
