@@ -32,7 +32,7 @@ extern "C" {
 #define PLAN_GROUPS_STACK 114688
 
 /* The same for plan_groups_recursive. */
-#define PLAN_GROUPS_RECURSIVE_STACK 262144
+#define PLAN_GROUPS_RECURSIVE_STACK 221184
 
 /*
  * Plans the groups of the plant that a plant file describes.

@@ -71,12 +71,7 @@ pub extern "C" fn plan_groups_recursive(file: &[u8], out: &mut [u8]) -> u32
     ensures answer { λ r. ⌜ r ≡ groupsRefusal (now (file .entry)) (length (now (out .entry))) ⌝ }
     ensures out { λ _. ⌜ now (out .exit) ≡ recursiveOut (now (file .entry)) (now (out .entry)) ⌝ }
 {
-    groups_by(
-        file,
-        Way::Recursive,
-        plant_file::gateways(file) as u32,
-        out,
-    )
+    groups_by(file, Way::Recursive, plant_file::gateways(file) as u32, out)
 }
 
 // Why a gateway is alone in that plan: two sets of gateways.

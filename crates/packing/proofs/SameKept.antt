@@ -1,8 +1,8 @@
 -- Who is kept is decided by the plant and the order alone: two ways of placing the same first k hold the same gateways.
-use Prim.Native.Nat.{ℕ, zero, suc, _<_, _≤_}
-use mathlib.Core.Path.{_≡_, refl, sym, _∙_}
+use Prim.Native.Nat.{ℕ, zero, suc, _<_}
+use mathlib.Core.Path.{_≡_, sym, _∙_}
 use mathlib.Core.Logic.{inl, inr, ⊎-elim}
-use mathlib.Core.Bool.{Bool, true, false}
+use mathlib.Core.Bool.{Bool, true}
 use native.Mathlib.Nat.{not-suc-le-zero}
 use native.Mathlib.Omega.{arith}
 use lib.Dec.{ltb}
@@ -11,7 +11,7 @@ use Rattle.packing.specs.Holders.{held, Feasible}
 use Rattle.packing.proofs.Tests.{by-bool, clash, iff-test}
 use Rattle.packing.proofs.Below.{feasible-limits}
 use Rattle.packing.proofs.Tight.{Tight, Blocked}
-use Rattle.packing.proofs.Prefixes.{IsOrder, Among, order-place, blocked-holders}
+use Rattle.packing.proofs.Prefixes.{order-place, blocked-holders}
 use Rattle.packing.proofs.Placing.{Standing}
 
 module _ {n : ℕ} {limit : ℕ → ℕ} {adj : ℕ → ℕ → Bool} {order h h' : ℕ → ℕ} {k : ℕ} (s : Standing n limit adj order h k) (s' : Standing n limit adj order h' k) where

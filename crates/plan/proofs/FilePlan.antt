@@ -20,7 +20,7 @@ use Rattle.planner.proofs.Demands.{demand-two, demand-three}
 use Rattle.plant_file.specs.PlantFile.{fileN, fileT, fileLinks, fileRefusal}
 use Rattle.plant_file.proofs.Accepted.{file-allowed}
 use Rattle.plant_file.proofs.Refusing.{then-alone}
-use Rattle.plan.specs.Plan.{callsBy, stateBy, fileState, planRefusal, planLeaders, planChoke, fileLeaders, fileChoke}
+use Rattle.plan.specs.Plan.{callsBy, stateBy, planRefusal, planLeaders, planChoke, fileLeaders, fileChoke}
 use Rattle.plan.specs.After.{planLeadersBy, planChokeBy, fileLeadersBy, fileLeadersAfter, fileChokeBy, fileChokeAfter}
 use Rattle.plan.specs.Claim.{PlanOf, FilePlan, FilePlanBy, AfterAll}
 use Rattle.plan.proofs.Refusing.{after-within, number-all, after-all, plan-places}

@@ -15,7 +15,6 @@ use Rattle.plant_file.specs.PlantFile.{fileN, fileT, fileRefusal}
 use Rattle.plan.specs.Plan.{callsBy, stateBy}
 use Rattle.plan.specs.After.{planAfterRefusal, planLeadersBy, planChokeBy, fileLeadersBy, fileChokeBy}
 use Rattle.plan.specs.Claim.{FileWays}
-use Rattle.plan.proofs.ToldByFile.{placedTold}
 use Rattle.plan.proofs.Refusing.{plan-places}
 use Rattle.plan.proofs.After.{ownLinks, own, file-open, told, reads-told, zeros, after-passes}
 

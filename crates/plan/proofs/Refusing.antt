@@ -11,7 +11,6 @@ use Rattle.packing.specs.Refusals.{refuse}
 use Rattle.packing.proofs.Tests.{or-none, or-false-l, or-false-r}
 use Rattle.packing.proofs.Refusals.{refuse-none, refused, accepted, first-refused, first-passed, first-none}
 use Rattle.planner.specs.declared.Way.{Way}
-use Rattle.planner.specs.declared.Way.the-variants.{Queued}
 use Rattle.planner.specs.Calls.{readLeaders, readChoke}
 use Rattle.plant_file.specs.PlantFile.{fileN, fileRefusal, fileThenShort}
 use Rattle.plan.specs.Plan.{stateBy, fileMovesBy, fileState, planRefusal, planLeaders, planChoke}

@@ -10,12 +10,12 @@ use native.Mathlib.Omega.{arith}
 use lib.Dec.{eqb}
 use lib.ListN.{length, set, take, replicate, length-set, length-replicate, getD-replicate}
 use lib.Seq.{length-take-le, take-suc-set}
-use borrow.Author.Tests.{eqb-true, eq-eqb, ne-eqb, ltb-true, lt-ltb}
+use borrow.Author.Tests.{ne-eqb, lt-ltb}
 use Rattle.packing.specs.Lists.{listOf, written}
 use Rattle.packing.specs.Orders.{upTo}
 use Rattle.packing.specs.Plant.{GATEWAYS, LINKS, LOWEST, HIGHEST, NONE, at, common, firstLinks, linked, joins}
 use Rattle.packing.specs.Holders.{held, holds, Feasible}
-use Rattle.packing.proofs.Tests.{clash, or-l, or-r, or-cases}
+use Rattle.packing.proofs.Tests.{clash, or-cases}
 use Rattle.packing.proofs.Sums.{count-none}
 use Rattle.packing.proofs.Lists.{listOf-length, written-length, written-at, listed-at}
 use Rattle.packing.proofs.Links.{linked-append}

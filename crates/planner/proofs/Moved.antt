@@ -1,7 +1,7 @@
 -- The number moved, of any record: specs/Moved.antt.
 use Prim.Native.Nat.{_<_}
-use mathlib.Core.Path.{_≡_, sym, ap, _∙_}
-use mathlib.Core.Bool.{Bool, true, false}
+use mathlib.Core.Path.{_≡_, sym, ap}
+use mathlib.Core.Bool.{true, false}
 use native.Mathlib.Omega.{arith}
 use lib.Dec.{eqb}
 use borrow.Author.Tests.{eqb-true, eqb-false}
@@ -11,11 +11,11 @@ use Rattle.packing.specs.Moved.{Fewest}
 use Rattle.packing.proofs.Tests.{by-bool}
 use Rattle.packing.proofs.Moved.{moved-none, new-moved}
 use Rattle.packing.proofs.Placing.{PlacedIn, left-moves-none}
-use Rattle.search.specs.Search.{placeable, holdersAfter}
+use Rattle.search.specs.Search.{holdersAfter}
 use Rattle.search.specs.Pre.{Placeable}
-use Rattle.search.specs.Moved.{movedBy, NoneMoved, NewCounted, LeastPlaced}
+use Rattle.search.specs.Moved.{movedBy, LeastPlaced}
 use Rattle.search.proofs.Tested.{placeable-holds, holders-placed}
-use Rattle.search.proofs.Moved.{none-moved, new-counted, least-placed}
+use Rattle.search.proofs.Moved.{least-placed}
 use Rattle.sound.specs.Facts.{SoundMeans}
 use Rattle.sound.proofs.Facts.{sound-means-facts}
 use Rattle.planner.specs.State.{State, linksOf, limitOf, soundState}
@@ -26,7 +26,7 @@ use Rattle.planner.specs.Calls.{Call, link, order, placeBy, place, read,
 use Rattle.planner.specs.Turns.{SoundFacts}
 use Rattle.planner.specs.Kept.{heldIn, OthersKeep}
 use Rattle.planner.specs.Moved.{nextOf, NobodyMoved, NewOneMoved, FewestMoved}
-use Rattle.planner.proofs.Next.{SoundState, next-placeable}
+use Rattle.planner.proofs.Next.{next-placeable}
 use Rattle.planner.specs.Records.{PlaceGives, RefusedUnchanged}
 use Rattle.planner.proofs.Conditions.{place-allowed, place-next}
 use Rattle.planner.proofs.Records.{accepted-sound, place-gives, refused-call}

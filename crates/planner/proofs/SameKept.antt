@@ -1,27 +1,24 @@
 -- Two lists of calls that tell the same plant and as many placings: the same gateways are held, and once all are placed the same are covered and the choke bytes are the same.
 use Prim.Native.Nat.{ℕ, _<_, _≤_}
-use mathlib.Core.Path.{_≡_, refl, sym, ap, subst, _∙_}
-use mathlib.Core.Bool.{Bool, true, false}
+use mathlib.Core.Path.{_≡_, refl, sym, ap, _∙_}
+use mathlib.Core.Bool.{Bool, true}
 use mathlib.Core.List.{List, [], _∷_}
 use native.Mathlib.Omega.{arith}
 use Rattle.packing.specs.Count.{pick}
 use Rattle.packing.specs.Plant.{GATEWAYS, at, linked}
-use Rattle.packing.specs.Holders.{held, Feasible}
+use Rattle.packing.specs.Holders.{held}
 use Rattle.packing.proofs.Tests.{iff-test}
 use Rattle.packing.proofs.Prefixes.{order-place, blocked-union}
 use Rattle.packing.proofs.Placing.{Standing}
 use Rattle.packing.proofs.SameKept.{standing-same, standing-alike, feasible-alike}
 use Rattle.search.specs.ChokeSet.{inChoke, chokeByte}
 use Rattle.search.proofs.ChokeLaws.{choke-within}
-use Rattle.planner.specs.declared.Small.{Small}
-use Rattle.planner.specs.declared.Way.{Way}
 use Rattle.planner.specs.Refusals.{openRefusal}
 use Rattle.planner.specs.State.{State}
 use Rattle.planner.specs.Calls.{Call, link, order, placeBy, read, readChoke}
 use Rattle.planner.specs.Told.{Told, refuses, accepted, tellOne, tell}
 use Rattle.planner.specs.Claims.{toldBy, madeBy, AnyRead, DemandTwo}
-use Rattle.planner.specs.SameKept.{SamePlant, SameHeld, SameKept, SameCovered, SameRead, inWay, AnyWayTold, BothWays}
-use Rattle.planner.proofs.Agree.{Agrees, stateTold}
+use Rattle.planner.specs.SameKept.{SamePlant, SameKept, SameRead, inWay, AnyWayTold, BothWays}
 use Rattle.planner.proofs.Demands.{after-calls, any-read, choke-at, demand-two}
 
 -- What any list of calls makes stands as what it tells: nobody but placed ones is held, and whoever is left has its pair.

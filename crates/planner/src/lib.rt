@@ -39,14 +39,7 @@ pub enum Way {
 }
 
 // Places v by one of them.
-fn search_by(
-    way: Way,
-    n: u16,
-    v: u16,
-    limits: &[u8],
-    links: &[u16],
-    holders: &mut [u16],
-) -> Placed
+fn search_by(way: Way, n: u16, v: u16, limits: &[u8], links: &[u16], holders: &mut [u16]) -> Placed
     ensures answer { λ r. ⌜ r ≡ answerBy way n (at (now (limits .entry))) (now (links .entry)) (now (holders .entry)) v ⌝ }
     ensures holders { λ _. ⌜ now (holders .exit) ≡ afterBy way n (at (now (limits .entry))) (now (links .entry)) (now (holders .entry)) v ⌝ }
 {
@@ -189,14 +182,7 @@ impl Small {
         let end = 2 * (m as usize);
         let limits = lists::marks::bytes(t);
         // It is done: the next of a sound record may be placed.
-        let placed = search_by(
-            way,
-            n,
-            order[k as usize],
-            &limits,
-            &links[..end],
-            holders,
-        );
+        let placed = search_by(way, n, order[k as usize], &limits, &links[..end], holders);
         PlaceAnswer {
             refusal: 0,
             small: Small { n, t, m, k: k + 1 },

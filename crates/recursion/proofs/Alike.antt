@@ -1,13 +1,13 @@
 -- Searches that are the same: by another number of calls that is enough, by limits that are equal for every gateway, with a link listed once more.
 use Prim.Native.Nat.{ℕ, zero, suc, _+_, _*_, _<_, _≤_}
 use mathlib.Core.Path.{_≡_, refl, sym, ap, _∙_}
-use mathlib.Core.Bool.{Bool, true, false, cond}
+use mathlib.Core.Bool.{true, false, cond}
 use mathlib.Core.List.{List, [], _∷_, _++_}
 use native.Mathlib.Omega.{arith}
 use lib.Dec.{ltb}
 use lib.ListN.{length, length-set, replicate, length-replicate}
 use Rattle.packing.specs.Lists.{memberOf}
-use Rattle.packing.specs.Plant.{NONE, GATEWAYS, at, common, linked, neighbours}
+use Rattle.packing.specs.Plant.{NONE, GATEWAYS, at, common, neighbours}
 use Rattle.packing.specs.Holders.{holds}
 use Rattle.packing.proofs.Tests.{by-bool}
 use Rattle.packing.proofs.Links.{neighbours-again}
@@ -15,7 +15,7 @@ use Rattle.search.specs.Search.{heldBy, placeable}
 use Rattle.search.specs.Pre.{Placeable}
 use Rattle.search.proofs.Limits.{same-limits}
 use Rattle.search.proofs.Tested.{placeable-holds}
-use Rattle.recursion.specs.Recursion.{Try, freed, failed, tried, mark, orElse, tryEach, takes, unlessTried, findHolder, freePlace, search, settled, recursiveHolders, recursiveAfter}
+use Rattle.recursion.specs.Recursion.{Try, freed, tried, mark, orElse, tryEach, takes, unlessTried, findHolder, freePlace, search, settled, recursiveHolders, recursiveAfter}
 use Rattle.recursion.specs.Pre.{untried}
 use Rattle.recursion.specs.Enough.{EnoughCalls}
 use Rattle.recursion.specs.Twice.{RecursiveFirst}
@@ -57,14 +57,14 @@ module _ (n : ℕ) (limit : ℕ → ℕ) (ls hs : List ℕ) where
   enough (suc j) (suc k) =
       let (find, free) = enough j k in (
         (λ v marks l m.
-        unless-alike (λ u now. takes v u (freePlace j n limit ls hs u now)) (λ u now. takes v u (freePlace k n limit ls hs u now)) (λ now. untried now ≤ untried marks)
-        (takes-grows v (λ u now. freePlace j n limit ls hs u now) (free-grows n limit ls hs j))
-        (λ u now i e. ap (takes v u) (free u (mark now u) (omega (arith, untried-falls now u e)) (omega (arith, untried-falls now u e)))) (λ a b g i. omega (arith, grown-fewer g)) (neighbours ls v) marks (omega arith)),
+            unless-alike (λ u now. takes v u (freePlace j n limit ls hs u now)) (λ u now. takes v u (freePlace k n limit ls hs u now)) (λ now. untried now ≤ untried marks)
+            (takes-grows v (λ u now. freePlace j n limit ls hs u now) (free-grows n limit ls hs j))
+            (λ u now i e. ap (takes v u) (free u (mark now u) (omega (arith, untried-falls now u e)) (omega (arith, untried-falls now u e)))) (λ a b g i. omega (arith, grown-fewer g)) (neighbours ls v) marks (omega arith)),
         λ u marks l m.
-        ap (cond (ltb (holds n (at hs) u) (limit u)) (freed hs))
-        (each-alike (λ x now. findHolder j n limit ls hs x now) (λ x now. findHolder k n limit ls hs x now) (λ now. untried now ≤ untried marks)
-        (λ x now i. find x now (omega arith) (omega arith))
-        (λ x now i. record { whenFailed = λ end e. omega (arith, grown-fewer (find-grows n limit ls hs j x now .whenFailed end e)); whenFreed = λ hs e. tt }) (heldBy n hs u) marks (omega arith)),
+            ap (cond (ltb (holds n (at hs) u) (limit u)) (freed hs))
+            (each-alike (λ x now. findHolder j n limit ls hs x now) (λ x now. findHolder k n limit ls hs x now) (λ now. untried now ≤ untried marks)
+            (λ x now i. find x now (omega arith) (omega arith))
+            (λ x now i. record { whenFailed = λ end e. omega (arith, grown-fewer (find-grows n limit ls hs j x now .whenFailed end e)); whenFreed = λ hs e. tt }) (heldBy n hs u) marks (omega arith)),
       )
 
 pub enough-calls : EnoughCalls
@@ -84,15 +84,15 @@ module _
     alike (suc calls) =
         let (find, free) = alike calls in (
           (λ v marks long.
-          unless-alike (λ u now. takes v u (freePlace calls n limit ls hs u now)) (λ u now. takes v u (freePlace calls n limit' ls' hs u now)) (λ now. length now ≡ n)
-          (takes-grows v (λ u now. freePlace calls n limit ls hs u now) (free-grows n limit ls hs calls))
-          (λ u now i e. ap (takes v u) (free u (mark now u) (length-set now u 0 ∙ i) (rw (← i) (untried-below now u e)))) (λ a b g i. g .long ∙ i) (neighbours ls v) marks long
-          ∙ links (λ u now. takes v u (freePlace calls n limit' ls' hs u now)) (takes-grows v (λ u now. freePlace calls n limit' ls' hs u now) (free-grows n limit' ls' hs calls)) v marks),
+              unless-alike (λ u now. takes v u (freePlace calls n limit ls hs u now)) (λ u now. takes v u (freePlace calls n limit' ls' hs u now)) (λ now. length now ≡ n)
+              (takes-grows v (λ u now. freePlace calls n limit ls hs u now) (free-grows n limit ls hs calls))
+              (λ u now i e. ap (takes v u) (free u (mark now u) (length-set now u 0 ∙ i) (rw (← i) (untried-below now u e)))) (λ a b g i. g .long ∙ i) (neighbours ls v) marks long
+              ∙ links (λ u now. takes v u (freePlace calls n limit' ls' hs u now)) (takes-grows v (λ u now. freePlace calls n limit' ls' hs u now) (free-grows n limit' ls' hs calls)) v marks),
           λ u marks long l.
-          rw (limits u l)
-          (ap (cond (ltb (holds n (at hs) u) (limit' u)) (freed hs))
-          (each-alike (λ x now. findHolder calls n limit ls hs x now) (λ x now. findHolder calls n limit' ls' hs x now) (λ now. length now ≡ n)
-          (λ x now i. find x now i) (λ x now i. record { whenFailed = λ end e. find-grows n limit ls hs calls x now .whenFailed end e .long ∙ i; whenFreed = λ hs e. tt }) (heldBy n hs u) marks long)),
+              rw (limits u l)
+              (ap (cond (ltb (holds n (at hs) u) (limit' u)) (freed hs))
+              (each-alike (λ x now. findHolder calls n limit ls hs x now) (λ x now. findHolder calls n limit' ls' hs x now) (λ now. length now ≡ n)
+              (λ x now i. find x now i) (λ x now i. record { whenFailed = λ end e. find-grows n limit ls hs calls x now .whenFailed end e .long ∙ i; whenFreed = λ hs e. tt }) (heldBy n hs u) marks long)),
         )
 
     pub holders-alike : (v : ℕ) → recursiveHolders n limit ls hs v ≡ recursiveHolders n limit' ls' hs v

@@ -1,20 +1,19 @@
 -- Both functions, by how many calls may stand one within the other: where that is enough, what is known of a call by how it ends.
 use Prim.Native.Nat.{ℕ, zero, suc, _+_, _*_, _<_, _≤_}
-use mathlib.Core.Path.{_≡_, refl, sym, _∙_}
-use mathlib.Core.Bool.{true, false}
+use mathlib.Core.Path.{_≡_, sym, _∙_}
+use mathlib.Core.Bool.{true}
 use mathlib.Core.List.{List}
 use native.Mathlib.Omega.{arith}
 use lib.Dec.{ltb}
 use lib.ListN.{length, length-set}
 use borrow.Author.Tests.{ltb-true, ltb-false}
-use Rattle.packing.specs.Lists.{memberOf}
 use Rattle.packing.specs.Plant.{at, linked, neighbours}
 use Rattle.packing.specs.Holders.{holds}
 use Rattle.packing.proofs.Tests.{by-bool}
 use Rattle.packing.proofs.Links.{neighbours-linked}
 use Rattle.search.specs.Search.{heldBy}
 use Rattle.search.proofs.Queue.{heldBy-in, heldBy-out}
-use Rattle.recursion.specs.Recursion.{tried, mark, tryEach, takes, unlessTried, findHolder, freePlace}
+use Rattle.recursion.specs.Recursion.{tried, mark, takes, unlessTried, findHolder, freePlace}
 use Rattle.recursion.specs.Pre.{untried}
 use Rattle.recursion.proofs.Marks.{marked, untried-below, untried-falls, grown-fewer}
 use Rattle.recursion.proofs.Tries.{Ended, ended-freed, ended-failed, ended-as, ended-takes, each-ended}

@@ -1,18 +1,18 @@
 -- Holders once a place is freed: one gateway with a place free holds one more, and one lost a gateway for it.
 use Prim.Native.Nat.{ℕ, _+_, _<_, _≤_}
 use mathlib.Core.Path.{_≡_, refl, sym, ap, _∙_}
-use mathlib.Core.Logic.{_⊎_, inl, inr, ⊎-elim}
+use mathlib.Core.Logic.{_⊎_, inl, inr}
 use mathlib.Core.Bool.{Bool, true, false, _||_, or-false}
 use mathlib.Core.List.{List}
 use native.Mathlib.Omega.{arith}
 use lib.Dec.{eqb}
 use lib.ListN.{length, set, drop, length-set}
 use lib.Seq.{drop-set-lt}
-use borrow.Author.Tests.{eqb-true, eqb-false, eq-eqb, ne-eqb, lt-ltb}
+use borrow.Author.Tests.{eqb-true, eqb-false, ne-eqb, lt-ltb}
 use Rattle.packing.specs.Count.{pick}
 use Rattle.packing.specs.Plant.{at, linked}
 use Rattle.packing.specs.Holders.{held, holds}
-use Rattle.packing.proofs.Tests.{by-bool, clash, or-l}
+use Rattle.packing.proofs.Tests.{by-bool, clash}
 use Rattle.search.proofs.States.{seen-kept}
 use Rattle.search.proofs.Taken.{taken-here, taken-other, taken-holds, taken-held}
 use Rattle.recursion.specs.Recursion.{tried, mark}

@@ -1,7 +1,7 @@
 -- However many calls may stand one within the other: marks only grow, and each neighbour gone through is marked.
 use Prim.Native.Nat.{ℕ, zero, suc}
 use mathlib.Core.Path.{_≡_}
-use mathlib.Core.Bool.{true, false}
+use mathlib.Core.Bool.{true}
 use mathlib.Core.List.{List}
 use lib.Dec.{ltb}
 use Rattle.packing.specs.Lists.{memberOf}
@@ -9,7 +9,7 @@ use Rattle.packing.specs.Plant.{at, neighbours}
 use Rattle.packing.specs.Holders.{holds}
 use Rattle.packing.proofs.Tests.{by-bool}
 use Rattle.search.specs.Search.{heldBy}
-use Rattle.recursion.specs.Recursion.{Try, failed, tried, mark, tryEach, takes, unlessTried, findHolder, freePlace}
+use Rattle.recursion.specs.Recursion.{Try, tried, mark, tryEach, takes, unlessTried, findHolder, freePlace}
 use Rattle.recursion.proofs.Marks.{marked, Grown, grown-same, grown-then, grown-mark}
 use Rattle.recursion.proofs.Tries.{Ended, ended-freed, ended-failed, ended-as, ended-takes, each-ended}
 

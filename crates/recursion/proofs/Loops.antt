@@ -3,12 +3,11 @@ use Prim.Native.Nat.{ℕ, zero, suc, _+_, _-_, _*_, _<_, _≤_}
 use mathlib.Core.Path.{_≡_, refl, sym, ap, _∙_}
 use mathlib.Core.Bool.{Bool, true, false, cond, true≢false}
 use mathlib.Core.List.{List, [], _∷_, _++_, append-nil, append-assoc}
-use native.Mathlib.Nat.{sub-zero}
 use native.Mathlib.Numerals.{add-one}
 use native.Mathlib.Omega.{arith}
-use lib.Dec.{eqb, ltb}
+use lib.Dec.{eqb}
 use lib.ListN.{length, set, drop, length-set}
-use borrow.Author.Tests.{eqb-true, eq-eqb, ne-eqb, le-ltb, lt-ltb}
+use borrow.Author.Tests.{eq-eqb, ne-eqb, le-ltb, lt-ltb}
 use Rattle.packing.specs.Count.{count}
 use Rattle.packing.specs.Lists.{listWhere}
 use Rattle.packing.specs.Plant.{NONE, GATEWAYS, at, neighbours}
@@ -17,7 +16,7 @@ use Rattle.packing.proofs.Tests.{by-bool, not-i, not-i-false}
 use Rattle.packing.proofs.Flat.{pair-at, pair-end}
 use Rattle.search.specs.Search.{heldBy}
 use Rattle.search.proofs.States.{none-seen}
-use Rattle.recursion.specs.Recursion.{Try, freed, failed, tried, mark, orElse, tryEach, takes, unlessTried, findHolder, freePlace}
+use Rattle.recursion.specs.Recursion.{Try, failed, tried, mark, orElse, tryEach, takes, unlessTried, findHolder, freePlace}
 use Rattle.recursion.specs.Pre.{untried, asTry, Ends}
 use Rattle.recursion.proofs.Marks.{untried-falls}
 

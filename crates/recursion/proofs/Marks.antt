@@ -1,16 +1,16 @@
 -- Marks of who has been tried: one more is one fewer to try, and marks that only grow leave no more to try.
-use Prim.Native.Nat.{ℕ, suc, _+_, _<_, _≤_}
+use Prim.Native.Nat.{ℕ, _+_, _<_, _≤_}
 use mathlib.Core.Path.{_≡_, refl, sym, ap, _∙_}
 use mathlib.Core.Bool.{Bool, true, false, not, _&&_, and-false}
 use mathlib.Core.List.{List}
 use native.Mathlib.Omega.{arith}
 use lib.Dec.{eqb}
-use lib.ListN.{length, length-set, replicate, length-replicate}
-use borrow.Author.Tests.{eqb-true, eqb-false, eq-eqb, ne-eqb, not-true}
-use Rattle.packing.specs.Count.{pick, count}
-use Rattle.packing.specs.Plant.{NONE, GATEWAYS}
-use Rattle.packing.proofs.Tests.{by-bool, clash, not-i, not-i-false}
-use Rattle.packing.proofs.Sums.{count-ext, count-mono, count-bound}
+use lib.ListN.{length, length-set}
+use borrow.Author.Tests.{eqb-false, not-true}
+use Rattle.packing.specs.Count.{pick}
+use Rattle.packing.specs.Plant.{NONE}
+use Rattle.packing.proofs.Tests.{by-bool, clash, not-i}
+use Rattle.packing.proofs.Sums.{count-ext, count-mono}
 use Rattle.packing.proofs.Moved.{count-point}
 use Rattle.search.proofs.States.{unseen-below, seen-marked, seen-other, seen-kept}
 use Rattle.recursion.specs.Recursion.{tried, mark}

@@ -1,12 +1,12 @@
 -- The short search is a way of placing: v is kept or left, as packing says it of holders before and after.
-use Prim.Native.Nat.{ℕ, suc, _+_, _*_, _<_, _≤_}
-use mathlib.Core.Path.{_≡_, refl, sym, ap, _∙_}
+use Prim.Native.Nat.{ℕ, suc, _*_, _≤_}
+use mathlib.Core.Path.{_≡_, refl, ap}
 use mathlib.Core.Logic.{inl, inr, ⊎-elim}
 use mathlib.Core.Bool.{Bool, true, _&&_, _||_}
 use mathlib.Core.List.{List}
 use native.Mathlib.Omega.{arith}
-use lib.Dec.{eqb, ltb}
-use lib.ListN.{length, replicate, length-replicate, List·getD-eq-default}
+use lib.Dec.{eqb}
+use lib.ListN.{replicate, length-replicate, List·getD-eq-default}
 use borrow.Author.Tests.{eqb-true, eq-eqb, ltb-true, ltb-false}
 use Rattle.packing.specs.Count.{pick}
 use Rattle.packing.specs.Plant.{NONE, at, linked}
@@ -14,10 +14,10 @@ use Rattle.packing.specs.Holders.{held, Feasible}
 use Rattle.packing.specs.Moved.{Kept}
 use Rattle.packing.proofs.Tests.{by-bool, and-l, and-r, and-i, or-l, or-r, or-cases}
 use Rattle.packing.proofs.Sums.{count-bound}
-use Rattle.packing.proofs.Placing.{Left, Placing, PlacedIn}
+use Rattle.packing.proofs.Placing.{Left, PlacedIn}
 use Rattle.search.specs.Pre.{Placeable}
 use Rattle.search.proofs.States.{unseen-start}
-use Rattle.recursion.specs.Recursion.{Try, freed, failed, tried, findHolder, search, recursiveHolders}
+use Rattle.recursion.specs.Recursion.{tried, search, recursiveHolders}
 use Rattle.recursion.specs.Pre.{untried}
 use Rattle.recursion.proofs.Tries.{by-try, Ended}
 use Rattle.recursion.proofs.Closed.{Around, Closed}

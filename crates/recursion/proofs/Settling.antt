@@ -1,6 +1,6 @@
 -- Placing v with marks to work in: what the search leaves, and the number moved.
-use Prim.Native.Nat.{ℕ, suc, _+_, _*_, _<_, _≤_}
-use mathlib.Core.Path.{_≡_, refl, sym, ap, _∙_}
+use Prim.Native.Nat.{ℕ, suc, _+_, _*_, _≤_}
+use mathlib.Core.Path.{_≡_, refl, ap, _∙_}
 use mathlib.Core.Bool.{Bool, true, false, not}
 use mathlib.Core.List.{List}
 use native.Mathlib.Omega.{arith}
@@ -11,7 +11,6 @@ use Rattle.packing.specs.Moved.{moved}
 use Rattle.packing.specs.Plant.{NONE, GATEWAYS, at}
 use Rattle.packing.proofs.Sums.{count-ext}
 use Rattle.packing.proofs.Lists.{listOf-at}
-use Rattle.search.specs.Pre.{Placeable}
 use Rattle.search.proofs.Rows.{take-replicate}
 use Rattle.recursion.specs.Recursion.{findHolder, search, settled, recursiveHolders}
 use Rattle.recursion.specs.Pre.{untried, asTry, Ends}

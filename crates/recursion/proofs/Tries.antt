@@ -1,27 +1,15 @@
 -- What a call of either function leaves: marks that are closed where it failed, and other holders where a place is freed.
-use Prim.Native.Nat.{ℕ, zero, suc, _+_, _*_, _<_, _≤_}
-use mathlib.Core.Path.{_≡_, refl, sym, ap, subst, _∙_}
-use mathlib.Core.Logic.{_⊎_, inl, inr, ⊎-elim}
-use mathlib.Core.Bool.{Bool, true, false, not, _||_, false≢true, true≢false, or-false}
+use Prim.Native.Nat.{ℕ}
+use mathlib.Core.Path.{_≡_, refl, sym, ap, subst}
+use mathlib.Core.Logic.{_⊎_, ⊎-elim}
+use mathlib.Core.Bool.{Bool, true, false, false≢true, true≢false}
 use mathlib.Core.List.{List, [], _∷_}
-use native.Mathlib.Omega.{arith}
-use lib.Dec.{eqb, ltb}
-use lib.ListN.{length, set, drop, length-set}
-use lib.Seq.{drop-set-lt}
-use borrow.Author.Tests.{eqb-true, eqb-false, eq-eqb, ne-eqb, lt-ltb, ltb-true, ltb-false}
-use Rattle.packing.specs.Count.{pick}
+use lib.Dec.{eqb}
+use lib.ListN.{set}
+use borrow.Author.Tests.{eqb-true, eq-eqb}
 use Rattle.packing.specs.Lists.{memberOf}
-use Rattle.packing.specs.Plant.{at, linked, neighbours}
-use Rattle.packing.specs.Holders.{held, holds}
-use Rattle.packing.proofs.Tests.{by-bool, clash, or-l, or-r, or-cases}
-use Rattle.packing.proofs.Links.{neighbours-linked}
-use Rattle.search.specs.Search.{heldBy}
-use Rattle.search.proofs.Queue.{heldBy-in, heldBy-out}
-use Rattle.search.proofs.States.{seen-cases}
-use Rattle.search.proofs.Taken.{taken-here, taken-other, taken-holds, taken-held}
-use Rattle.recursion.specs.Recursion.{Try, freed, failed, tried, mark, orElse, tryEach, takes, unlessTried, findHolder, freePlace}
-use Rattle.recursion.specs.Pre.{untried}
-use Rattle.recursion.proofs.Marks.{marked, untried-below, untried-falls, Grown, grown-same, grown-then, grown-mark, grown-fewer}
+use Rattle.packing.proofs.Tests.{or-l, or-r, or-cases}
+use Rattle.recursion.specs.Recursion.{Try, freed, failed, orElse, tryEach, takes}
 
 -- the two ways a call ends
 pub freed-is : {a b : List ℕ} → freed a ≡ freed b → a ≡ b

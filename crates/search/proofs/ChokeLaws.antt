@@ -102,5 +102,5 @@ module _
         let s = unheld-startable n hs few in
         let pair = walk-tight ls s t (λ v q m. left v q (unheld-out n hs v m .1)) in
         let there = tight-alike (λ w q. refl) links (transfer f pair (feasible-alike (λ w q. refl) (λ x w p q. sym (links x w p q)) f') (λ v q r e. sym (same v q) ∙ e)) in
-        walk-least ls' (unheld-startable n hs' few) (walkQueued n ls hs (withoutHolder n hs)) (walkSaw n ls hs (withoutHolder n hs)) 
+        walk-least ls' (unheld-startable n hs' few) (walkQueued n ls hs (withoutHolder n hs)) (walkSaw n ls hs (withoutHolder n hs))
         (tight-closed there (λ v q m. walk-closed ls s .starts v q (unheld-in n hs v q (same v q ∙ unheld-out n hs' v m .1)))) .1 u l

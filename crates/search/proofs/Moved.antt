@@ -1,16 +1,13 @@
 -- The statements of specs/Moved.antt: what the number moved says of any input, and that it is the least.
 use mathlib.Core.Path.{_≡_, sym, ap, _∙_}
 use mathlib.Core.Logic.{⊎-elim}
-use mathlib.Core.Bool.{true, false, not}
+use mathlib.Core.Bool.{true, false}
 use mathlib.Core.List.{List, [], _∷_}
 use Prim.Native.Nat.{ℕ}
-use lib.Dec.{eqb}
-use borrow.Author.Tests.{ne-eqb}
 use Rattle.packing.specs.Plant.{at, linked}
 use Rattle.packing.specs.Holders.{held}
 use Rattle.packing.specs.Moved.{Kept, moved}
-use Rattle.packing.proofs.Tests.{by-bool, clash, not-i}
-use Rattle.packing.proofs.Sums.{count-some}
+use Rattle.packing.proofs.Tests.{by-bool, clash}
 use Rattle.packing.proofs.Moved.{new-moved, moved-none, fewest}
 use Rattle.search.specs.Search.{walk, settled, placeable, placedHolders, holdersAfter}
 use Rattle.search.specs.Moved.{movedBy, NoneMoved, NewCounted, LeastPlaced}

@@ -1,15 +1,14 @@
 -- "A link listed twice in a record filled by hand counts where it first stands": a neighbour that was looked at is seen, and looking at it again changes nothing.
-use Prim.Native.Nat.{ℕ, _*_, _-_}
+use Prim.Native.Nat.{ℕ, _*_}
 use mathlib.Core.Path.{_≡_, refl, sym, ap, _∙_}
 use mathlib.Core.Logic.{_⊎_, inl, inr, ⊎-elim}
-use mathlib.Core.Bool.{Bool, true, false, cond, false≢true}
+use mathlib.Core.Bool.{true, false, false≢true}
 use mathlib.Core.List.{List, [], _∷_, _++_}
-use native.Mathlib.Omega.{arith}
 use lib.Dec.{eqb}
 use lib.ListN.{length, set}
 use borrow.Author.Tests.{eqb-true}
 use Rattle.packing.specs.Plant.{NONE, linked, neighbours}
-use Rattle.packing.proofs.Tests.{by-bool, or-cases}
+use Rattle.packing.proofs.Tests.{or-cases}
 use Rattle.packing.proofs.Links.{neighbours-again}
 use Rattle.packing.specs.Lists.{memberOf}
 use Rattle.search.specs.Search.{Search, found, more, seen, look, visit, walk, settled, placedHolders}

@@ -1,5 +1,5 @@
 -- A result and the lent lists, read as a state of the search; and what is so with some holders that a table is of.
-use Prim.Native.Nat.{ℕ, _-_, _≤_}
+use Prim.Native.Nat.{ℕ, _≤_}
 use mathlib.Core.Path.{_≡_, sym}
 use mathlib.Core.List.{List}
 use native.Mathlib.Omega.{arith}

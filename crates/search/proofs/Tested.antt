@@ -15,7 +15,6 @@ use Rattle.packing.proofs.Tests.{tests, by-bool, and-l, and-r}
 use Rattle.sound.specs.Searchable.{searchable}
 use Rattle.sound.proofs.Searchable.{Searchable, searchable-means, searchable-holds}
 use Rattle.search.specs.Search.{placedHolders, placeable, holdersAfter}
-use Rattle.search.specs.Moved.{movedBy, placeAnswer}
 use Rattle.search.specs.declared.Placed.{Placed}
 use Rattle.search.specs.ChokeSet.{chokeByte, chokeable, chokeWritten}
 use Rattle.search.specs.Pre.{Placeable}

@@ -9,7 +9,7 @@ use native.Mathlib.Omega.{arith}
 use lib.ListN.{length}
 use Rattle.packing.specs.Plant.{at}
 use Rattle.recursion.specs.Pre.{untried}
-use Rattle.recursion.proofs.Loops.{Finding, finding-start, finding-passed, finding-less, finding-few, finding-next, finding-found, finding-out, Freeing, freeing-at-once, freeing-start, freeing-passed, freeing-less, freeing-next, freeing-freed, freeing-out}
+use Rattle.recursion.proofs.Loops.{Finding, finding-start, finding-passed, finding-less, finding-few, finding-next, finding-found, finding-out, Freeing, freeing-at-once, freeing-start, freeing-passed, freeing-next, freeing-freed, freeing-out}
 use Rattle.recursion.proofs.find_holder.Reads as find-holder
 use Rattle.recursion.proofs.find_holder.Kinds as find-kinds
 use Rattle.recursion.proofs.+find_holder+free_place.Lts-find_holder as find
@@ -98,8 +98,7 @@ module _ (t : ℕ) where
       let entry = put .before .before .before in
       let ends = entry .before .before in
       let turn = ends .before .before .before in
-      let start = turn .before .before .before .before .before .before in
-      (
+      let start = turn .before .before .before .before .before .before in (
         omega (arith, start .pre .0, finding-less _ _ _ _ _ _ (turn .before .loop .inv) (turn .loop-test .taken) (ends .other-end .ensures) (entry .entry .ensures) (put .before .before .if1 .taken) (put .put .ensures)),
         finding-few _ _ _ _ _ _ (turn .before .loop .inv) (turn .loop-test .taken) (ends .other-end .ensures) (entry .entry .ensures) (put .before .before .if1 .taken) (put .put .ensures),
       )
