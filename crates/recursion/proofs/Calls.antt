@@ -11,7 +11,6 @@ use Rattle.packing.specs.Plant.{at, linked, neighbours}
 use Rattle.packing.specs.Holders.{holds}
 use Rattle.packing.proofs.Tests.{by-bool}
 use Rattle.packing.proofs.Links.{neighbours-linked}
-use Rattle.search.specs.Search.{heldBy}
 use Rattle.search.proofs.Queue.{heldBy-in, heldBy-out}
 use Rattle.recursion.specs.Recursion.{tried, mark, takes, unlessTried, findHolder, freePlace}
 use Rattle.recursion.specs.Pre.{untried}
@@ -65,7 +64,7 @@ module _ (n : ℕ) (limit : ℕ → ℕ) (ls hs : List ℕ) (room : n ≤ length
       rw e
       (ended-as
       (each-ended (λ x now. findHolder calls n limit ls hs x now) (Closed n limit ls hs) (Around n limit ls hs) (FreedAt n limit ls hs u marks)
-      (closed-same n limit ls hs) (closed-then n limit ls hs) (λ x a b c q w link. c .grown .stay w (q w link)) marks (heldBy n hs u) marks (closed-same n limit ls hs marks)
+      (closed-same n limit ls hs) (closed-then n limit ls hs) (λ x a b c q w link. c .grown .stay w (q w link)) marks _ marks (closed-same n limit ls hs marks)
       (λ x now m c.
       let (l, is) = heldBy-out n hs u x m in
       ended-as (find x now l (c .grown .long ∙ long) (rw is (c .grown .stay u own)) (omega (arith, grown-fewer (c .grown))))

@@ -8,7 +8,6 @@ use Rattle.packing.specs.Lists.{memberOf}
 use Rattle.packing.specs.Plant.{at, neighbours}
 use Rattle.packing.specs.Holders.{holds}
 use Rattle.packing.proofs.Tests.{by-bool}
-use Rattle.search.specs.Search.{heldBy}
 use Rattle.recursion.specs.Recursion.{Try, tried, mark, tryEach, takes, unlessTried, findHolder, freePlace}
 use Rattle.recursion.proofs.Marks.{marked, Grown, grown-same, grown-then, grown-mark}
 use Rattle.recursion.proofs.Tries.{Ended, ended-freed, ended-failed, ended-as, ended-takes, each-ended}
@@ -44,7 +43,7 @@ module _ (n : ℕ) (limit : ℕ → ℕ) (ls hs : List ℕ) where
   both (suc calls) =
       let (find, free) = both calls in (
         (λ v marks. ended-as (each-tried (λ u now. takes v u (freePlace calls n limit ls hs u now)) (λ u now. ended-takes v u (freePlace calls n limit ls hs u now) (free u now) (λ end g. g) (λ new t. t)) (neighbours ls v) marks) (λ end q. q .0) (λ new t. t)),
-        λ u marks. by-bool (ltb (holds n (at hs) u) (limit u)) (λ e. rw e (ended-freed hs tt)) (λ e. rw e (each-grows (λ x now. findHolder calls n limit ls hs x now) find (heldBy n hs u) marks)),
+        λ u marks. by-bool (ltb (holds n (at hs) u) (limit u)) (λ e. rw e (ended-freed hs tt)) (λ e. rw e (each-grows (λ x now. findHolder calls n limit ls hs x now) find _ marks)),
       )
 
   pub find-grows : (calls : ℕ) → Growing (λ v marks. findHolder calls n limit ls hs v marks)
