@@ -1,10 +1,11 @@
-// Place: its refusals, 01's listing step by step, and a placing that moves several holders.
+// Placing, in either way: its refusals, 01's listing step by step, and placings that move several holders.
 use crate::lines;
 use crate::parts;
 use planner::Small;
+use planner::Way;
 
 // n, T and k of 01's listing, which is fully placed but for k
-pub(crate) fn case(label: &[u8], a: &[u16]) {
+pub(crate) fn case(label: &[u8], way: Way, a: &[u16]) {
     let links = [0u16, 2, 0, 3, 0, 4, 1, 2];
     let order = [2u16, 3, 4, 0, 1];
     let came = [2u16, 2, 1, 0, 0, 9, 9, 9];
@@ -15,17 +16,24 @@ pub(crate) fn case(label: &[u8], a: &[u16]) {
         m: 4,
         k: lists::entry(a, 4),
     };
-    let r = s.place(&links, &order, &mut holders);
+    let r = s.place_by(way, &links, &order, &mut holders);
     lines::placed(label, r);
     lines::after(&holders, &came);
 }
 
 // One placing after the other, on 8 places of holders.
-fn place_each(label: &[u8], first: Small, links: &[u16], order: &[u16], holders: &mut [u16]) {
+fn place_each(
+    label: &[u8],
+    way: Way,
+    first: Small,
+    links: &[u16],
+    order: &[u16],
+    holders: &mut [u16],
+) {
     let mut s = first;
     let mut i: u16 = 0;
     while i < 8 {
-        let r = s.place(links, order, holders);
+        let r = s.place_by(way, links, order, holders);
         s = r.small;
         lines::placed(label, r);
         lines::list(holders);
@@ -35,7 +43,7 @@ fn place_each(label: &[u8], first: Small, links: &[u16], order: &[u16], holders:
 }
 
 // n, m, eight places of order and seven links
-pub(crate) fn steps(label: &[u8], a: &[u16]) {
+pub(crate) fn steps(label: &[u8], way: Way, a: &[u16]) {
     let mut holders = [lists::NONE; 8];
     let s = Small {
         n: lists::entry(a, 2),
@@ -45,6 +53,7 @@ pub(crate) fn steps(label: &[u8], a: &[u16]) {
     };
     place_each(
         label,
+        way,
         s,
         parts::rest(a, 12),
         parts::rest(a, 4),

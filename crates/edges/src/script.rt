@@ -9,6 +9,7 @@ use crate::ordering;
 use crate::placing;
 use crate::reading;
 use crate::soundness;
+use planner::Way;
 ghost use Prim.Native.Nat.{_<_, _≤_};
 ghost use lib.ListN.{length};
 
@@ -69,8 +70,8 @@ fn call(label: &[u8], a: &[u16]) {
         2 => opening::large(label, a),
         3 => linking::case(label, a),
         4 => ordering::case(label, a),
-        5 => placing::case(label, a),
-        6 => placing::steps(label, a),
+        5 => placing::case(label, Way::Queued, a),
+        6 => placing::steps(label, Way::Queued, a),
         7 => reading::case(label, a),
         8 => membering::case(label, a),
         9 => soundness::case(label, a),
@@ -81,6 +82,8 @@ fn call(label: &[u8], a: &[u16]) {
         15 => reading::steps(label, a),
         16 => asking::case(label, a),
         17 => asking::steps(label, a),
+        18 => placing::case(label, Way::Recursive, a),
+        19 => placing::steps(label, Way::Recursive, a),
         _ => full::run(),
     }
 }

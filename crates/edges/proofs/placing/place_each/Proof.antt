@@ -7,16 +7,16 @@ use Rattle.edges.proofs.placing.place_each.Statement.{statement}
 use Rattle.edges.proofs.placing.place_each.Tie as tie
 
 abbrev Inv-loop : tie.InvT-loop
-Inv-loop label links order holders₀ s₀ i₀ holders s i = (i ≤ 8) × (length holders ≡ length holders₀)
+Inv-loop label way links order holders₀ s₀ i₀ holders s i = (i ≤ 8) × (length holders ≡ length holders₀)
 
 abbrev μ-loop : tie.MeasureT-loop
-μ-loop label links order holders₀ s₀ i₀ holders s i = 8 - i
+μ-loop label way links order holders₀ s₀ i₀ holders s i = 8 - i
 
 loop-holds : tie.Need-loop-holds Inv-loop μ-loop
 loop-holds c = search needs
 
-place-requires : tie.Need-place-requires Inv-loop μ-loop
-place-requires c κs = search needs
+place-by-requires : tie.Need-place-by-requires Inv-loop μ-loop
+place-by-requires c κs = search needs
 
 placed-requires : tie.Need-placed-requires Inv-loop μ-loop
 placed-requires c κs = search needs
@@ -49,7 +49,7 @@ place-each-spec =
     Inv-loop
     μ-loop
     loop-holds
-    place-requires
+    place-by-requires
     placed-requires
     list-requires
     end-requires
