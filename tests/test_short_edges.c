@@ -1,6 +1,7 @@
 /*
- * The short search on small plants, worked out by hand: the cases of document 01, "At the edges"; plants on which it differs
- * from plan_groups in holders, groups or the number moved; and plants on which each step of it matters.
+ * The short search on small plants, with answers worked out beforehand: the cases of document 01, "At the edges"; plants on
+ * which it differs from plan_groups in holders, groups or the number moved; plants on which each step of it matters; and the
+ * plant of docs/SHORT-SEARCH.md.
  */
 #include "holders.h"
 #include "judge_short.h"
@@ -79,6 +80,9 @@ static const struct edge {
     {"to another that the same hub holds", 9, 2, 9,
         {{0, 1}, {0, 2}, {2, 3}, {2, 4}, {0, 5}, {1, 2}, {3, 6}, {1, 7}, {7, 8}}, {1, 2, 3, 4, 5, 0, 6, 7, 8},
         {1, 2, 0, 6, 2, 0, 3, 1, 7}, {5, 2, 2, 3, 2, 5, 3, 7, 7}, {0}, {1, 1, 1, 1, 3, 1, 1, 1, 1}, 10, true},
+    {"the worked plant", 10, 2, 10, {{0, 3}, {0, 4}, {1, 4}, {1, 5}, {1, 6}, {2, 6}, {0, 7}, {2, 7}, {0, 8}, {0, 9}},
+        {3, 4, 5, 6, 7, 8, 9, 0, 1, 2}, {3, 4, 6, 0, 1, 1, 2, 2, 0, NOBODY}, {0, 1, 2, 0, 1, 1, 2, 2, 0, ALONE},
+        {1, 0, 0, 0, 0, 0, 0, 0, 0, 0}, {1, 1, 1, 1, 3, 2, 0, 1, 1, 1}, 11, false},
     {"T = 3, the third can move", 6, 3, 5, {{0, 1}, {0, 2}, {0, 3}, {0, 4}, {3, 5}}, {1, 2, 3, 4, 0, 5}, {1, 0, 0, 5, 0, 3},
         {0, 0, 0, 3, 0, 3}, {0}, {1, 1, 1, 2, 1, 1}, 7, false},
 };
