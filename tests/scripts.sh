@@ -161,6 +161,7 @@ run_script_tests() {
     run_one 'the C example of README.md, while it is being placed' readme_example 'While the plant is being placed'
     run_one 'the C example of README.md, why a gateway is alone' readme_example 'Why a gateway is alone'
     run_one 'the C example of README.md, lists by any hand' readme_example 'Lists by any hand'
+    run_one 'the C example of README.md, by the short search' readme_example 'By the short search'
     run_one 'the text and the listing of README.md' readme_text
     run_one 'the Rattle example of README.md' readme_rattle
 }
