@@ -31,7 +31,7 @@ extern "C" {
 /* The bytes of stack that are enough for a thread that makes the call: see below. */
 #define PLAN_GROUPS_STACK 114688
 
-/* The same for plan_groups_recursive. */
+/* The same for plan_groups_recursive, which needs more. */
 #define PLAN_GROUPS_RECURSIVE_STACK 221184
 
 /*
@@ -173,9 +173,10 @@ uint32_t why_alone(const uint8_t *file, size_t file_len, uint32_t gateway, uint8
  *     be another;
  *   - the number moved is counted in the same way, placing by placing, but need not be the least.
  *
- * What it uses. Its two functions call each other, at most 512 times each for a plant of 1,024 gateways, so
- * it needs more stack than the others: a thread whose stack has PLAN_GROUPS_RECURSIVE_STACK bytes, with what
- * the thread itself takes of them, can make the call on every file. All else is as for plan_groups.
+ * What it uses. Its two functions call each other, up to 512 times each one within the other in a plant of
+ * 1,024 gateways; on such plants it takes about 184 KB of stack, on most far less. A thread whose stack has
+ * PLAN_GROUPS_RECURSIVE_STACK bytes, with what the thread itself takes of them, can make the call on every
+ * file. All else is as for plan_groups; it takes about as long, and longer where many are moved.
  */
 uint32_t plan_groups_recursive(const uint8_t *file, size_t file_len, uint8_t *out, size_t out_len);
 
