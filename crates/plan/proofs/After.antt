@@ -2,14 +2,14 @@
 use Prim.Native.Nat.{ℕ, zero, suc, _<_, _≤_}
 use mathlib.Core.Path.{_≡_, refl, sym, ap, _∙_}
 use mathlib.Core.Bool.{false}
-use mathlib.Core.List.{List, _++_, append-nil}
+use mathlib.Core.List.{List}
 use native.Mathlib.Omega.{arith}
-use lib.ListN.{length, take, replicate, length-replicate, drop-of-length-le}
+use lib.ListN.{length, take, replicate, length-replicate}
 use Rattle.packing.specs.Lists.{listOf, written}
 use Rattle.packing.specs.Plant.{GATEWAYS, ENDS, at}
 use Rattle.packing.specs.Pairs.{EarlierLeads}
 use Rattle.packing.proofs.Counting.{pick-few}
-use Rattle.packing.proofs.Lists.{listOf-length, listOf-at, written-room, written-front, listed-at}
+use Rattle.packing.proofs.Lists.{listOf-length, listOf-at, written-room, written-front, written-whole, listed-at}
 use Rattle.packing.proofs.SoFar.{so-far-below}
 use Rattle.stars.specs.Stars.{leaderList}
 use Rattle.search.specs.ChokeSet.{inChoke, chokeByte}
@@ -51,8 +51,7 @@ module _ (file : List ℕ) (z : fileRefusal file ≡ 0) where
 
   -- what is written into n entries is all of it
   whole : (f : ℕ → ℕ) → written (fileN file) (listOf (fileN file) f) (replicate (fileN file) 0) ≡ listOf (fileN file) f
-  unfolding written
-  whole f = ap (λ (l : List ℕ). listOf (fileN file) f ++ l) (drop-of-length-le (replicate (fileN file) 0) {i = fileN file} (omega (arith, length-replicate {A = ℕ} (fileN file) 0))) ∙ append-nil (listOf (fileN file) f)
+  whole f = written-whole (fileN file) (listOf (fileN file) f) (replicate (fileN file) 0) (listOf-length (fileN file) f) (omega (arith, length-replicate {A = ℕ} (fileN file) 0))
 
   module _ (w : Way) (k : ℕ) (within : k ≤ fileN file) where
     -- what the calls tell: the file's n, T, links and order, and k placed
