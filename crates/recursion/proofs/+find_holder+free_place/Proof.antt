@@ -9,7 +9,8 @@ use native.Mathlib.Omega.{arith}
 use lib.ListN.{length}
 use Rattle.packing.specs.Plant.{at}
 use Rattle.recursion.specs.Pre.{untried}
-use Rattle.recursion.proofs.Loops.{Finding, finding-start, finding-passed, finding-less, finding-few, finding-next, finding-found, finding-out, Freeing, freeing-at-once, freeing-start, freeing-passed, freeing-next, freeing-freed, freeing-out}
+use Rattle.recursion.proofs.Finding.{Finding, finding-start, finding-passed, finding-less, finding-few, finding-next, finding-found, finding-out}
+use Rattle.recursion.proofs.Freeing.{Freeing, freeing-at-once, freeing-start, freeing-passed, freeing-next, freeing-freed, freeing-out}
 use Rattle.recursion.proofs.find_holder.Reads as find-holder
 use Rattle.recursion.proofs.find_holder.Kinds as find-kinds
 use Rattle.recursion.proofs.+find_holder+free_place.Lts-find_holder as find
