@@ -1,5 +1,5 @@
 -- The Hall bound: what is held from within a set of gateways is at most the sum of the set's limits.
-use Prim.Native.Nat.{ℕ, _<_, _≤_}
+use Prim.Native.Nat.{ℕ, _*_, _<_, _≤_}
 use mathlib.Core.Path.{_≡_, _∙_}
 use mathlib.Core.Bool.{Bool, true, _&&_}
 use native.Mathlib.Omega.{arith}
@@ -8,7 +8,7 @@ use borrow.Author.Tests.{ltb-true, lt-ltb, eqb-true}
 use Rattle.packing.specs.Count.{count, sumOver}
 use Rattle.packing.specs.Holders.{held, holds, Feasible}
 use Rattle.packing.proofs.Tests.{and-l, and-r, and-i, iff-test}
-use Rattle.packing.proofs.Sums.{count-mono, count-ext, fibre, sumOver-mono, sumOver-ext}
+use Rattle.packing.proofs.Sums.{count-mono, count-ext, fibre, sumOver-mono, sumOver-ext, sumOver-const}
 
 -- how many of R u holds
 unfoldable pub holdsOf : ℕ → (ℕ → ℕ) → (ℕ → Bool) → ℕ → ℕ
@@ -25,6 +25,21 @@ pub held-from : (n : ℕ) (h : ℕ → ℕ) (R S : ℕ → Bool) → ((x : ℕ) 
 unfolding holdsOf
 held-from n h R S into =
     fibre n n (λ x. R x && held n h x) S h (λ x l e. ltb-true (h x) n (and-r (R x) (held n h x) e)) (λ x l e. into x l (and-l (R x) (held n h x) e) (and-r (R x) (held n h x) e))
+
+-- gateways that hold two or more are at most half as many as those held
+pub half-as-many : (n : ℕ) (h : ℕ → ℕ) (S : ℕ → Bool) → ((u : ℕ) → u < n → S u ≡ true → 2 ≤ holds n h u) → 2 * count n S ≤ count n (held n h)
+unfolding holdsOf holds
+half-as-many n h S two =
+    omega (
+      arith,
+      sumOver-const n 2 S,
+      sumOver-mono n S (λ u. 2) (holdsOf n h (λ x. S (h x))) (λ u l s. omega (arith, two u l s, count-mono n (λ x. eqb (h x) u) (λ x. S (h x) && held n h x && eqb (h x) u) (all-of u l s))),
+      held-from n h (λ x. S (h x)) S (λ x l r e. r),
+      count-mono n (λ x. S (h x) && held n h x) (held n h) (λ x l. and-r (S (h x)) (held n h x)),
+    )
+  where
+    all-of : (u : ℕ) → u < n → S u ≡ true → (x : ℕ) → x < n → eqb (h x) u ≡ true → (S (h x) && held n h x && eqb (h x) u) ≡ true
+    all-of u l s x k e = let is : h x ≡ u = eqb-true (h x) u e in and-i (S (h x) && held n h x) (eqb (h x) u) (and-i (S (h x)) (held n h x) (rw is s) (rw is (lt-ltb u n l))) e
 
 -- the Hall bound
 pub hall : {n : ℕ} {limit : ℕ → ℕ} {adj : ℕ → ℕ → Bool} {h : ℕ → ℕ} (R S : ℕ → Bool) → Feasible n limit adj h

@@ -1,9 +1,8 @@
--- Searches that are the same: by another number of calls that is enough, by limits that are equal for every gateway, with a link listed once more.
-use Prim.Native.Nat.{ℕ, zero, suc, _+_, _*_, _<_, _≤_}
+-- Searches that are the same: by limits that are equal for every gateway, with a link listed once more.
+use Prim.Native.Nat.{ℕ, zero, suc, _+_, _*_, _<_}
 use mathlib.Core.Path.{_≡_, refl, sym, ap, _∙_}
 use mathlib.Core.Bool.{true, false, cond}
 use mathlib.Core.List.{List, [], _∷_, _++_}
-use native.Mathlib.Omega.{arith}
 use lib.Dec.{ltb}
 use lib.ListN.{length, length-set, replicate, length-replicate}
 use Rattle.packing.specs.Lists.{memberOf}
@@ -16,13 +15,10 @@ use Rattle.search.specs.Pre.{Placeable}
 use Rattle.search.proofs.Limits.{same-limits}
 use Rattle.search.proofs.Tested.{placeable-holds}
 use Rattle.recursion.specs.Recursion.{Try, freed, tried, mark, orElse, tryEach, takes, unlessTried, findHolder, freePlace, search, settled, recursiveHolders, recursiveAfter}
-use Rattle.recursion.specs.Pre.{untried}
-use Rattle.recursion.specs.Enough.{EnoughCalls}
 use Rattle.recursion.specs.Twice.{RecursiveFirst}
-use Rattle.recursion.proofs.Marks.{untried-below, untried-falls, Grown, grown-fewer}
+use Rattle.recursion.proofs.Marks.{untried-below, Grown}
 use Rattle.recursion.proofs.Tries.{by-try, Ended, ended-takes}
 use Rattle.recursion.proofs.Grows.{Growing, each-tried, unless-grows, find-grows, free-grows}
-use Rattle.recursion.proofs.Placing.{untried-start}
 
 -- Two attempts that are the same with marks that have Inv, which a failed one keeps, are the same one after the other.
 module _ (f g : ℕ → List ℕ → Try) (Inv : List ℕ → Type 0) (same : (x : ℕ) (marks : List ℕ) → Inv marks → f x marks ≡ g x marks) (keeps : (x : ℕ) (marks : List ℕ) → Inv marks → Ended Inv (λ hs. Unit {0}) (f x marks)) where
@@ -43,33 +39,8 @@ module _
         each-alike (unlessTried f) (unlessTried g) Inv (λ u marks i. by-bool (tried marks u) (λ e. rw e) (λ e. rw e (same u marks i e)))
         (λ u marks i. record { whenFailed = λ end e. later marks end (unless-grows f grows u marks .whenFailed end e .0) i; whenFreed = λ hs e. tt })
 
-takes-grows : (v : ℕ) (f : ℕ → List ℕ → Try) → Growing f → Growing (λ u marks. takes v u (f u marks))
+pub takes-grows : (v : ℕ) (f : ℕ → List ℕ → Try) → Growing f → Growing (λ u marks. takes v u (f u marks))
 takes-grows v f grows u marks = ended-takes v u (f u marks) (grows u marks) (λ end g. g) (λ hs t. t)
-
--- Enough calls.
-module _ (n : ℕ) (limit : ℕ → ℕ) (ls hs : List ℕ) where
-  enough : (j k : ℕ)
-      → ((v : ℕ) (marks : List ℕ) → 2 * untried marks + 1 ≤ j → 2 * untried marks + 1 ≤ k → findHolder j n limit ls hs v marks ≡ findHolder k n limit ls hs v marks)
-      × ((u : ℕ) (marks : List ℕ) → 2 * untried marks + 2 ≤ j → 2 * untried marks + 2 ≤ k → freePlace j n limit ls hs u marks ≡ freePlace k n limit ls hs u marks)
-  unfolding findHolder freePlace
-  enough zero k = ((λ v marks l m. absurd (omega arith)), λ u marks l m. absurd (omega arith))
-  enough (suc j) zero = ((λ v marks l m. absurd (omega arith)), λ u marks l m. absurd (omega arith))
-  enough (suc j) (suc k) =
-      let (find, free) = enough j k in (
-        (λ v marks l m.
-            unless-alike (λ u now. takes v u (freePlace j n limit ls hs u now)) (λ u now. takes v u (freePlace k n limit ls hs u now)) (λ now. untried now ≤ untried marks)
-            (takes-grows v (λ u now. freePlace j n limit ls hs u now) (free-grows n limit ls hs j))
-            (λ u now i e. ap (takes v u) (free u (mark now u) (omega (arith, untried-falls now u e)) (omega (arith, untried-falls now u e)))) (λ a b g i. omega (arith, grown-fewer g)) (neighbours ls v) marks (omega arith)),
-        λ u marks l m.
-            ap (cond (ltb (holds n (at hs) u) (limit u)) (freed hs))
-            (each-alike (λ x now. findHolder j n limit ls hs x now) (λ x now. findHolder k n limit ls hs x now) (λ now. untried now ≤ untried marks)
-            (λ x now i. find x now (omega arith) (omega arith))
-            (λ x now i. record { whenFailed = λ end e. omega (arith, grown-fewer (find-grows n limit ls hs j x now .whenFailed end e)); whenFreed = λ hs e. tt }) (heldBy n hs u) marks (omega arith)),
-      )
-
-pub enough-calls : EnoughCalls
-unfolding EnoughCalls search
-enough-calls calls n limit ls hs v l = enough n limit ls hs calls (suc (2 * n)) .0 v (replicate n NONE) (omega (arith, untried-start n)) (omega (arith, untried-start n))
 
 -- Other limits and links: u's limit is looked at for gateways only, and what is gone through may be other neighbours that give the same.
 module _
@@ -97,7 +68,7 @@ module _
 
     pub holders-alike : (v : ℕ) → recursiveHolders n limit ls hs v ≡ recursiveHolders n limit' ls' hs v
     unfolding recursiveHolders search
-    holders-alike v = ap (settled hs) (alike (suc (2 * n)) .0 v (replicate n NONE) (length-replicate n NONE))
+    holders-alike v = ap (settled hs) (alike (2 * n + 2) .0 v (replicate n NONE) (length-replicate n NONE))
 
 -- a call with a list of limits that are all t places by the common limit
 pub recursive-common : {n : ℕ} (t : ℕ) (ls : List ℕ) {hs : List ℕ} {v : ℕ} → Placeable n hs v → recursiveAfter n (at (replicate GATEWAYS t)) ls hs v ≡ recursiveHolders n (common t) ls hs v

@@ -5,16 +5,16 @@ use mathlib.Core.Bool.{Bool, true, false, not, _&&_, and-false}
 use mathlib.Core.List.{List}
 use native.Mathlib.Omega.{arith}
 use lib.Dec.{eqb}
-use lib.ListN.{length, length-set}
+use lib.ListN.{length, length-set, replicate, length-replicate}
 use borrow.Author.Tests.{eqb-false, not-true}
-use Rattle.packing.specs.Count.{pick}
+use Rattle.packing.specs.Count.{pick, count}
 use Rattle.packing.specs.Plant.{NONE}
-use Rattle.packing.proofs.Tests.{by-bool, clash, not-i}
-use Rattle.packing.proofs.Sums.{count-ext, count-mono}
+use Rattle.packing.proofs.Tests.{by-bool, clash, and-l, and-r, and-i, not-i}
+use Rattle.packing.proofs.Sums.{count-ext, count-mono, count-bound}
 use Rattle.packing.proofs.Moved.{count-point}
 use Rattle.search.proofs.States.{unseen-below, seen-marked, seen-other, seen-kept}
 use Rattle.recursion.specs.Recursion.{tried, mark}
-use Rattle.recursion.specs.Pre.{untried}
+use Rattle.recursion.specs.Pre.{untriedIn, untried}
 
 -- whoever is not tried has a place among the marks
 pub untried-below : (marks : List ℕ) (u : ℕ) → tried marks u ≡ false → u < length marks
@@ -27,22 +27,30 @@ marked marks u e = seen-marked marks u 0 (untried-below marks u e) none
     none : _≡_ {A = ℕ} 0 NONE → ⊥
     none q = omega arith
 
--- "the count of untried neighbours falls"
-pub untried-falls : (marks : List ℕ) (u : ℕ) → tried marks u ≡ false → untried marks ≡ untried (mark marks u) + 1
-unfolding untried
-untried-falls marks u e =
+-- one of a set that is marked is one fewer of it to try
+pub one-tried : (set : ℕ → Bool) (marks : List ℕ) (u : ℕ) → tried marks u ≡ false → set u ≡ true → untriedIn set marks ≡ untriedIn set (mark marks u) + 1
+unfolding untriedIn
+one-tried set marks u e s =
     rw (length-set marks u 0)
     (omega (
       arith,
-      count-point (length marks) (λ w. not (tried marks w)) u (untried-below marks u e),
-      ap (λ (b : Bool). pick (not b) 1) e,
-      count-point (length marks) (λ w. not (tried (mark marks u) w)) u (untried-below marks u e),
-      ap (λ (b : Bool). pick (not b) 1) (marked marks u e),
-      count-ext (length marks) (λ w. not (tried (mark marks u) w) && not (eqb u w)) (λ w. not (tried marks w) && not (eqb u w)) rest,
+      count-point (length marks) (λ w. not (tried marks w) && set w) u (untried-below marks u e),
+      ap (λ (b : Bool). pick (not b && set u) 1) e,
+      ap (λ (b : Bool). pick b 1) s,
+      count-point (length marks) (λ w. not (tried (mark marks u) w) && set w) u (untried-below marks u e),
+      ap (λ (b : Bool). pick (not b && set u) 1) (marked marks u e),
+      count-ext (length marks) (λ w. not (tried (mark marks u) w) && set w && not (eqb u w)) (λ w. not (tried marks w) && set w && not (eqb u w)) rest,
     ))
   where
-    rest : (w : ℕ) → w < length marks → (not (tried (mark marks u) w) && not (eqb u w)) ≡ (not (tried marks w) && not (eqb u w))
-    rest w l = by-bool (eqb u w) (λ q. rw q (and-false (not (tried (mark marks u) w)) ∙ sym (and-false (not (tried marks w))))) (λ q. rw (seen-other marks u 0 w (λ r. eqb-false u w q (sym r))))
+    rest : (w : ℕ) → w < length marks → (not (tried (mark marks u) w) && set w && not (eqb u w)) ≡ (not (tried marks w) && set w && not (eqb u w))
+    rest w l =
+        by-bool (eqb u w) (λ q. rw q (and-false (not (tried (mark marks u) w) && set w) ∙ sym (and-false (not (tried marks w) && set w))))
+        (λ q. rw (seen-other marks u 0 w (λ r. eqb-false u w q (sym r))))
+
+-- "the count of untried neighbours falls"
+pub untried-falls : (marks : List ℕ) (u : ℕ) → tried marks u ≡ false → untried marks ≡ untried (mark marks u) + 1
+unfolding untried
+untried-falls marks u e = one-tried (λ w. true) marks u e refl
 
 -- marks that only grow: whoever was tried stays so
 pub record Grown (marks marks' : List ℕ) : Type 0 where
@@ -58,7 +66,23 @@ grown-then g h = record { long = h .long ∙ g .long; stay = λ w e. h .stay w (
 pub grown-mark : (marks : List ℕ) (u : ℕ) → tried marks u ≡ false → Grown marks (mark marks u)
 grown-mark marks u e = record { long = length-set marks u 0; stay = λ w t. seen-kept marks u 0 w e t }
 
+pub grown-fewer-in : (set : ℕ → Bool) {a b : List ℕ} → Grown a b → untriedIn set b ≤ untriedIn set a
+unfolding untriedIn
+grown-fewer-in set {a} {b} g =
+    rw (g .long)
+    (count-mono (length a) (λ w. not (tried b w) && set w) (λ w. not (tried a w) && set w)
+    (λ w l e. and-i _ _ (by-bool (tried a w) (λ t. clash (tried b w) (g .stay w t) (not-true _ (and-l (not (tried b w)) (set w) e))) (λ t. not-i _ t)) (and-r (not (tried b w)) (set w) e)))
+
 pub grown-fewer : {a b : List ℕ} → Grown a b → untried b ≤ untried a
 unfolding untried
-grown-fewer {a} {b} g =
-    rw (g .long) (count-mono (length a) (λ w. not (tried b w)) (λ w. not (tried a w)) (λ w l e. by-bool (tried a w) (λ t. clash (tried b w) (g .stay w t) (not-true _ e)) (λ t. not-i _ t)))
+grown-fewer g = grown-fewer-in (λ w. true) g
+
+-- at the start all of a set are yet to be tried
+pub untried-start-in : (set : ℕ → Bool) (n : ℕ) → untriedIn set (replicate n NONE) ≤ count n set
+unfolding untriedIn
+untried-start-in set n = rw (length-replicate n NONE) (count-mono n (λ u. not (tried (replicate n NONE) u) && set u) set (λ u l. and-r (not (tried (replicate n NONE) u)) (set u)))
+
+-- .. n at most
+pub untried-start : (n : ℕ) → untried (replicate n NONE) ≤ n
+unfolding untried
+untried-start n = omega (arith, untried-start-in (λ u. true) n, count-bound n (λ u. true))

@@ -1,5 +1,5 @@
 -- The short search is a way of placing: v is kept or left, as packing says it of holders before and after.
-use Prim.Native.Nat.{ℕ, suc, _*_, _≤_}
+use Prim.Native.Nat.{ℕ, _+_, _*_}
 use mathlib.Core.Path.{_≡_, refl, ap}
 use mathlib.Core.Logic.{inl, inr, ⊎-elim}
 use mathlib.Core.Bool.{Bool, true, _&&_, _||_}
@@ -13,21 +13,15 @@ use Rattle.packing.specs.Plant.{NONE, at, linked}
 use Rattle.packing.specs.Holders.{held, Feasible}
 use Rattle.packing.specs.Moved.{Kept}
 use Rattle.packing.proofs.Tests.{by-bool, and-l, and-r, and-i, or-l, or-r, or-cases}
-use Rattle.packing.proofs.Sums.{count-bound}
 use Rattle.packing.proofs.Placing.{Left, PlacedIn}
 use Rattle.search.specs.Pre.{Placeable}
 use Rattle.search.proofs.States.{unseen-start}
 use Rattle.recursion.specs.Recursion.{tried, search, recursiveHolders}
-use Rattle.recursion.specs.Pre.{untried}
+use Rattle.recursion.proofs.Marks.{untried-start}
 use Rattle.recursion.proofs.Tries.{by-try, Ended}
 use Rattle.recursion.proofs.Closed.{Around, Closed}
 use Rattle.recursion.proofs.Freed.{FoundFor}
 use Rattle.recursion.proofs.Calls.{find-ended}
-
--- n can be tried
-pub untried-start : (n : ℕ) → untried (replicate n NONE) ≤ n
-unfolding untried
-untried-start n = rw (length-replicate n NONE) (count-bound n _)
 
 module _ {n : ℕ} (limit : ℕ → ℕ) (ls : List ℕ) {hs : List ℕ} {v : ℕ} (p : Placeable n hs v) where
   abbrev start : List ℕ
@@ -39,7 +33,7 @@ module _ {n : ℕ} (limit : ℕ → ℕ) (ls : List ℕ) {hs : List ℕ} {v : �
 
   searched : Ended (λ end. Closed n limit ls hs start end × Around n limit ls hs v end) (FoundFor n limit ls hs v start) (search n limit ls hs v)
   unfolding search
-  searched = find-ended n limit ls hs (p .holders) (suc (2 * n)) v start (p .inside) (length-replicate n NONE) own (omega (arith, untried-start n))
+  searched = find-ended n limit ls hs (p .holders) (2 * n + 2) v start (p .inside) (length-replicate n NONE) own (omega (arith, untried-start n))
 
   module _ (f : Feasible n limit (linked ls) (at hs)) where
     -- a place is freed

@@ -1,5 +1,5 @@
 -- Placing v with marks to work in: what the search leaves, and the number moved.
-use Prim.Native.Nat.{ℕ, suc, _+_, _*_, _≤_}
+use Prim.Native.Nat.{ℕ, _+_, _*_, _≤_}
 use mathlib.Core.Path.{_≡_, refl, ap, _∙_}
 use mathlib.Core.Bool.{Bool, true, false, not}
 use mathlib.Core.List.{List}
@@ -14,7 +14,7 @@ use Rattle.packing.proofs.Lists.{listOf-at}
 use Rattle.search.proofs.Rows.{take-replicate}
 use Rattle.recursion.specs.Recursion.{findHolder, search, settled, recursiveHolders}
 use Rattle.recursion.specs.Pre.{untried, asTry, Ends}
-use Rattle.recursion.proofs.Placing.{untried-start}
+use Rattle.recursion.proofs.Marks.{untried-start}
 
 -- the first n of the marks of nobody
 module _ {n : ℕ} {all : List ℕ} (unseen : all ≡ replicate GATEWAYS NONE) (few : n ≤ GATEWAYS) where
@@ -30,9 +30,9 @@ module _ {n : ℕ} {all : List ℕ} (unseen : all ≡ replicate GATEWAYS NONE) (
     where
       pub left-holders : hs' ≡ recursiveHolders n limit ls hs v
       unfolding recursiveHolders search
-      left-holders = by b (d .unchanged) (rw fresh at (d .is (suc (2 * n)) (rw fresh (omega (arith, untried-start n)))))
+      left-holders = by b (d .unchanged) (rw fresh at (d .is (2 * n + 2) (rw fresh (omega (arith, untried-start n)))))
         where
-          by : (b : Bool) → (b ≡ false → hs' ≡ hs) → asTry b hs' marks' ≡ findHolder (suc (2 * n)) n limit ls hs v (replicate n NONE) → hs' ≡ settled hs (findHolder (suc (2 * n)) n limit ls hs v (replicate n NONE))
+          by : (b : Bool) → (b ≡ false → hs' ≡ hs) → asTry b hs' marks' ≡ findHolder (2 * n + 2) n limit ls hs v (replicate n NONE) → hs' ≡ settled hs (findHolder (2 * n + 2) n limit ls hs v (replicate n NONE))
           by true same e = ap (settled hs) e
           by false same e = same refl ∙ ap (settled hs) e
 

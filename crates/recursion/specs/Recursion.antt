@@ -1,6 +1,6 @@
 -- 02, change 7: "a short search to follow by pencil". ls are the plant's links, hs the holders, limit u how many u may hold.
 -- docs/SHORT-SEARCH.md goes through it on one plant, step by step.
-use Prim.Native.Nat.{ℕ, zero, suc, _*_}
+use Prim.Native.Nat.{ℕ, zero, suc, _+_, _*_}
 use mathlib.Core.Bool.{Bool, cond}
 use mathlib.Core.List.{List, [], _∷_}
 use lib.Dec.{ltb}
@@ -55,9 +55,9 @@ unfoldable mutual
   freePlace zero n limit ls hs u marks = failed marks
   freePlace (suc calls) n limit ls hs u marks = cond (ltb (holds n (at hs) u) (limit u)) (freed hs) (tryEach (λ x now. findHolder calls n limit ls hs x now) (heldBy n hs u) marks)
 
--- The search for v's holder, nobody tried yet. Each call of the second function marks one gateway more, and n can be marked.
+-- The search for v's holder, nobody tried yet. Each call of the second function has one more marked, and n can be marked.
 unfoldable pub search : ℕ → (ℕ → ℕ) → List ℕ → List ℕ → ℕ → Try
-search n limit ls hs v = findHolder (suc (2 * n)) n limit ls hs v (replicate n NONE)
+search n limit ls hs v = findHolder (2 * n + 2) n limit ls hs v (replicate n NONE)
 
 -- the holders after a search: unchanged where no place is freed
 abbrev pub settled : List ℕ → Try → List ℕ
