@@ -10,7 +10,7 @@ use Rattle.packing.specs.Plant.{NONE, GATEWAYS, at, common, neighbours}
 use Rattle.packing.specs.Holders.{holds}
 use Rattle.packing.proofs.Tests.{by-bool}
 use Rattle.packing.proofs.Links.{neighbours-again}
-use Rattle.search.specs.Search.{heldBy, placeable}
+use Rattle.search.specs.Search.{placeable}
 use Rattle.search.specs.Pre.{Placeable}
 use Rattle.search.proofs.Limits.{same-limits}
 use Rattle.search.proofs.Tested.{placeable-holds}
@@ -63,7 +63,7 @@ module _
               rw (limits u l)
               (ap (cond (ltb (holds n (at hs) u) (limit' u)) (freed hs))
               (each-alike (λ x now. findHolder calls n limit ls hs x now) (λ x now. findHolder calls n limit' ls' hs x now) (λ now. length now ≡ n)
-              (λ x now i. find x now i) (λ x now i. record { whenFailed = λ end e. find-grows n limit ls hs calls x now .whenFailed end e .long ∙ i; whenFreed = λ hs e. tt }) (heldBy n hs u) marks long)),
+              (λ x now i. find x now i) (λ x now i. record { whenFailed = λ end e. find-grows n limit ls hs calls x now .whenFailed end e .long ∙ i; whenFreed = λ hs e. tt }) _ marks long)),
         )
 
     pub holders-alike : (v : ℕ) → recursiveHolders n limit ls hs v ≡ recursiveHolders n limit' ls' hs v

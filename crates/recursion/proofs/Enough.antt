@@ -14,7 +14,6 @@ use Rattle.packing.proofs.Tests.{by-bool, clash, not-i}
 use Rattle.packing.proofs.Sums.{count-mono, count-all, count-bound}
 use Rattle.packing.proofs.Moved.{count-point}
 use Rattle.packing.proofs.Hall.{half-as-many}
-use Rattle.search.specs.Search.{heldBy}
 use Rattle.recursion.specs.Recursion.{mark, takes, findHolder, freePlace, search}
 use Rattle.recursion.specs.Pre.{untriedIn}
 use Rattle.recursion.specs.Enough.{EnoughCalls, HalfTheCalls}
@@ -47,7 +46,7 @@ module _ (n : ℕ) (limit : ℕ → ℕ) (ls hs : List ℕ) (set : ℕ → Bool)
             rw e
             (each-alike (λ x now. findHolder j n limit ls hs x now) (λ x now. findHolder k n limit ls hs x now) (λ now. untriedIn set now ≤ untriedIn set marks)
             (λ x now i. find x now (omega (arith, p)) (omega (arith, q)))
-            (λ x now i. record { whenFailed = λ end e. omega (arith, grown-fewer-in set (find-grows n limit ls hs j x now .whenFailed end e)); whenFreed = λ hs e. tt }) (heldBy n hs u) marks (omega arith))),
+            (λ x now i. record { whenFailed = λ end e. omega (arith, grown-fewer-in set (find-grows n limit ls hs j x now .whenFailed end e)); whenFreed = λ hs e. tt }) _ marks (omega arith))),
       )
 
 -- all gateways are such a set
