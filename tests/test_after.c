@@ -2,7 +2,6 @@
 #include "families.h"
 #include "flow.h"
 #include "judge.h"
-#include "orders.h"
 #include "tally.h"
 
 static struct plant plant;
@@ -50,15 +49,9 @@ static void check_some(const char *name, struct rng *r)
     check(name, ks, 7, r);
 }
 
-/* Every graph of n gateways in every order. */
-static void every_plant(int n, int limit, struct rng *r)
+static void check_small(struct rng *r)
 {
-    for (int bits = 0; bits < 1 << (n * (n - 1) / 2); bits++) {
-        family_graph(&plant, n, limit, bits);
-        do {
-            check_every("a graph", r);
-        } while (order_next(plant.order, n));
-    }
+    check_every("a graph", r);
 }
 
 static void some_of_each(struct rng *r, int count, int low, int high)
@@ -88,20 +81,14 @@ static void largest(struct rng *r)
         family_make(family_named(names[i]), &plant, r, MAX_GATEWAYS, 2 + i);
         check_some(names[i], r);
     }
-    plant_open(&plant, MAX_GATEWAYS, 2);
-    family_fill(&plant, r, MAX_LINKS);
-    rng_shuffle(r, plant.order, plant.n);
+    family_largest(&plant, r, 0, 2, 0, MAX_LINKS);
     check_some("random links", r);
 }
 
 int main(void)
 {
     struct rng r = {11};
-    for (int n = 0; n <= 3; n++)
-        for (int limit = 2; limit <= 16; limit += 7)
-            every_plant(n, limit, &r);
-    every_plant(4, 2, &r);
-    every_plant(4, 3, &r);
+    family_small(&plant, check_small, &r);
     some_of_each(&r, 250, 3, 12);
     some_of_each(&r, 40, 13, 40);
     some_of_each(&r, 4, 41, 120);

@@ -23,9 +23,7 @@ static void large(struct rng *r)
 /* All gateways, and random links up to m of them. */
 static void largest(struct rng *r, int limit, int m)
 {
-    plant_open(&plant, MAX_GATEWAYS, limit);
-    family_fill(&plant, r, m);
-    rng_shuffle(r, plant.order, plant.n);
+    family_largest(&plant, r, 0, limit, 0, m);
     check("random links", r);
 }
 

@@ -1,7 +1,6 @@
 /* Plants of many shapes: the answer is a packing, as good as the flow's over every first k, and the rules' own. */
 #include "families.h"
 #include "judge.h"
-#include "orders.h"
 #include "tally.h"
 
 static struct plant plant;
@@ -24,25 +23,15 @@ static void some_of_each(struct rng *r, int count, int low, int high)
     }
 }
 
-/* Every graph of n gateways in every order. */
-static void every_plant(int n, int limit, struct rng *r)
+static void check_small(struct rng *r)
 {
-    for (int bits = 0; bits < 1 << (n * (n - 1) / 2); bits++) {
-        family_graph(&plant, n, limit, bits);
-        do {
-            check("graph", bits, r);
-        } while (order_next(plant.order, n));
-    }
+    check("graph of gateways", plant.n, r);
 }
 
 int main(void)
 {
     struct rng r = {5};
-    for (int n = 0; n <= 3; n++)
-        for (int limit = 2; limit <= 16; limit += 7)
-            every_plant(n, limit, &r);
-    every_plant(4, 2, &r);
-    every_plant(4, 3, &r);
+    family_small(&plant, check_small, &r);
     some_of_each(&r, 10, 0, 2);
     some_of_each(&r, 250, 3, 12);
     some_of_each(&r, 60, 13, 40);

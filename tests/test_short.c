@@ -5,7 +5,6 @@
  */
 #include "families.h"
 #include "judge_short.h"
-#include "orders.h"
 #include "tally.h"
 
 static struct plant plant;
@@ -53,26 +52,16 @@ static void every_limit(struct rng *r, int count)
     }
 }
 
-/* Every graph of n gateways in every order. */
-static void every_plant(int n, int limit, struct rng *r)
+static void check_small(struct rng *r)
 {
-    for (int bits = 0; bits < 1 << (n * (n - 1) / 2); bits++) {
-        family_graph(&plant, n, limit, bits);
-        do {
-            check("graph", bits, r);
-            check_kept("graph", bits, r);
-        } while (order_next(plant.order, n));
-    }
+    check("graph of gateways", plant.n, r);
+    check_kept("graph of gateways", plant.n, r);
 }
 
 int main(void)
 {
     struct rng r = {31};
-    for (int n = 0; n <= 3; n++)
-        for (int limit = 2; limit <= 16; limit += 7)
-            every_plant(n, limit, &r);
-    every_plant(4, 2, &r);
-    every_plant(4, 3, &r);
+    family_small(&plant, check_small, &r);
     some_of_each(&r, 10, 0, 2);
     some_of_each(&r, 300, 3, 12);
     some_of_each(&r, 60, 13, 40);

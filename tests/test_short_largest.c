@@ -28,25 +28,10 @@ static void large(struct rng *r)
     }
 }
 
-/* All gateways, and random links up to m of them. */
-static void largest(struct rng *r, int limit, int m)
+static void largest(const char *name, struct rng *r, int hubs, int limit, int each, int m)
 {
-    plant_open(&plant, MAX_GATEWAYS, limit);
-    family_fill(&plant, r, m);
-    rng_shuffle(r, plant.order, plant.n);
-    check("random links", r);
-}
-
-/* Each other gateway at so many of the hubs by chance, and random links up to m of them. */
-static void largest_hubs(struct rng *r, int hubs, int limit, int each, int m)
-{
-    plant_open(&plant, MAX_GATEWAYS, limit);
-    for (int v = hubs; v < plant.n; v++)
-        for (int times = each; times > 0; times--)
-            plant_link(&plant, rng_below(r, hubs), v);
-    family_fill(&plant, r, m);
-    rng_shuffle(r, plant.order, plant.n);
-    check("hubs", r);
+    family_largest(&plant, r, hubs, limit, each, m);
+    check(name, r);
 }
 
 static void largest_of(struct rng *r, const struct family *f)
@@ -148,13 +133,13 @@ int main(void)
 {
     struct rng r = {32};
     large(&r);
-    largest(&r, 2, MAX_LINKS);
-    largest(&r, 16, MAX_LINKS);
-    largest(&r, 2, 900);
-    largest_hubs(&r, 8, 16, 30, MAX_LINKS);
-    largest_hubs(&r, 341, 2, 3, 0);
-    largest_hubs(&r, 300, 2, 2, 0);
-    largest_hubs(&r, 60, 16, 4, 0);
+    largest("random links", &r, 0, 2, 0, MAX_LINKS);
+    largest("random links", &r, 0, 16, 0, MAX_LINKS);
+    largest("random links", &r, 0, 2, 0, 900);
+    largest("hubs", &r, 8, 16, 30, MAX_LINKS);
+    largest("hubs", &r, 341, 2, 3, 0);
+    largest("hubs", &r, 300, 2, 2, 0);
+    largest("hubs", &r, 60, 16, 4, 0);
     largest_of(&r, family_named("ring"));
     largest_of(&r, family_named("deep tree"));
     largest_of(&r, family_named("chain of rings"));

@@ -4,20 +4,13 @@
  */
 #include "families.h"
 #include "judge_why.h"
-#include "orders.h"
 #include "tally.h"
 
 static struct plant plant;
 
-/* Every graph of n gateways in every order. */
-static void every_plant(int n, int limit, struct rng *r)
+static void check_small(struct rng *r)
 {
-    for (int bits = 0; bits < 1 << (n * (n - 1) / 2); bits++) {
-        family_graph(&plant, n, limit, bits);
-        do {
-            judge_gateways("a graph", &plant, r);
-        } while (order_next(plant.order, n));
-    }
+    judge_gateways("a graph", &plant, r);
 }
 
 /* Limit 0 for any. */
@@ -42,11 +35,7 @@ int main(void)
 {
     static const char *const crowded[] = {"hubs", "stairs", "star"};
     struct rng r = {17};
-    for (int n = 0; n <= 3; n++)
-        for (int limit = 2; limit <= 16; limit += 7)
-            every_plant(n, limit, &r);
-    every_plant(4, 2, &r);
-    every_plant(4, 3, &r);
+    family_small(&plant, check_small, &r);
     for (int f = 0; f < family_count; f++) {
         some(&families[f], &r, 150, 3, 12, 0);
         some(&families[f], &r, 15, 13, 40, 0);

@@ -39,30 +39,19 @@ static void check(const char *name, int samples, int least, struct rng *r)
     tally(fault == NULL, "%s, one that is covered: %s", name, fault);
 }
 
-/* Each other gateway at so many hubs by chance, and random links up to m of them. */
-static void make_hubs(struct rng *r, int hubs, int limit, int each, int m)
-{
-    plant_open(&plant, MAX_GATEWAYS, limit);
-    for (int v = hubs; v < plant.n; v++)
-        for (int times = each; times > 0; times--)
-            plant_link(&plant, rng_below(r, hubs), v);
-    family_fill(&plant, r, m);
-    rng_shuffle(r, plant.order, plant.n);
-}
-
 int main(void)
 {
     struct rng r = {19};
-    make_hubs(&r, 8, 4, 30, MAX_LINKS);
+    family_largest(&plant, &r, 8, 4, 30, MAX_LINKS);
     tally(plant.m == MAX_LINKS, "the largest plant has only %d links", plant.m);
     check("few hubs", 2, 300, &r);
-    make_hubs(&r, 200, 2, 3, 0);
+    family_largest(&plant, &r, 200, 2, 3, 0);
     check("hubs, and leaves at three", 2, 300, &r);
-    make_hubs(&r, 300, 2, 2, 0);
+    family_largest(&plant, &r, 300, 2, 2, 0);
     check("hubs, and leaves at two", 8, 100, &r);
-    make_hubs(&r, 200, 2, 1, 0);
+    family_largest(&plant, &r, 200, 2, 1, 0);
     check("stars", 25, 300, &r);
-    make_hubs(&r, 1, 16, 0, 0);
+    family_largest(&plant, &r, 1, 16, 0, 0);
     check("no links", 5, MAX_GATEWAYS, &r);
     judge_tally_why(&(struct why_met){.left = 42, .wide = 8, .beyond = 6});
     return tally_end();

@@ -2,6 +2,7 @@
 
 #include <string.h>
 
+#include "orders.h"
 #include "shapes.h"
 
 const struct family families[] = {
@@ -42,6 +43,25 @@ void family_graph(struct plant *p, int n, int limit, int bits)
         for (int b = a + 1; b < n; b++, bits /= 2)
             if (bits % 2 == 1)
                 plant_link(p, a, b);
+}
+
+static void each_graph(struct plant *p, int n, int limit, void (*check)(struct rng *r), struct rng *r)
+{
+    for (int bits = 0; bits < 1 << (n * (n - 1) / 2); bits++) {
+        family_graph(p, n, limit, bits);
+        do {
+            check(r);
+        } while (order_next(p->order, n));
+    }
+}
+
+void family_small(struct plant *p, void (*check)(struct rng *r), struct rng *r)
+{
+    for (int n = 0; n <= 3; n++)
+        for (int limit = 2; limit <= 16; limit += 7)
+            each_graph(p, n, limit, check, r);
+    each_graph(p, 4, 2, check, r);
+    each_graph(p, 4, 3, check, r);
 }
 
 void family_fill(struct plant *p, struct rng *r, int m)
@@ -110,4 +130,14 @@ void family_make(const struct family *f, struct plant *p, struct rng *r, int n, 
     if (rng_below(r, 4) > 0)
         shuffle_links(p, r);
     choose_order(p, r);
+}
+
+void family_largest(struct plant *p, struct rng *r, int hubs, int limit, int each, int m)
+{
+    plant_open(p, MAX_GATEWAYS, limit);
+    for (int v = hubs; v < p->n; v++)
+        for (int times = each; times > 0; times--)
+            plant_link(p, rng_below(r, hubs), v);
+    family_fill(p, r, m);
+    rng_shuffle(r, p->order, p->n);
 }

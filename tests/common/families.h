@@ -26,7 +26,16 @@ const struct family *family_named(const char *name);
 /* The graph number bits of n gateways: each bit that is set is a link. */
 void family_graph(struct plant *p, int n, int limit, int bits);
 
+/* Makes every graph of up to four gateways in every order, with several limits, and calls check for each. */
+void family_small(struct plant *p, void (*check)(struct rng *r), struct rng *r);
+
 /* Random links up to m of them in all. */
 void family_fill(struct plant *p, struct rng *r, int m);
+
+/*
+ * As many gateways as a plant can have: each but the hubs at so many of the hubs by chance, and random links up to m of them
+ * in all.
+ */
+void family_largest(struct plant *p, struct rng *r, int hubs, int limit, int each, int m);
 
 #endif

@@ -85,24 +85,13 @@ static const char *fault_of(const struct plant *p, const int *most, int k, const
     return answer_differs(a, &expected, p->n);
 }
 
-/* NULL and the answer, or why there is none. */
-static const char *answer_of(const struct plant *p, const struct outcome *o, struct answer *a)
-{
-    if (o->fault != NULL)
-        return o->fault;
-    if (o->number != 0)
-        return "a plant was refused";
-    answer_read(a, p->n, o->out);
-    return NULL;
-}
-
 const char *judge_plant(const struct plant *p, struct rng *r)
 {
     static struct outcome o;
     static struct answer a;
     static int most[MAX_GATEWAYS + 1];
     lent_plan(p, lent_side(r), &o);
-    const char *fault = answer_of(p, &o, &a);
+    const char *fault = lent_answer(p, &o, &a);
     if (fault != NULL)
         return fault;
     flow_every(p, most);
@@ -120,7 +109,7 @@ const char *judge_after(const struct plant *p, const int *most, int k, struct rn
 {
     static struct outcome o;
     lent_plan_after(p, k, lent_side(r), &o);
-    const char *fault = answer_of(p, &o, a);
+    const char *fault = lent_answer(p, &o, a);
     if (fault == NULL)
         fault = fault_of(p, most, k, a);
     if (fault == NULL && k == p->n && !is_whole_answer(p, &o))

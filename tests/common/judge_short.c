@@ -53,17 +53,6 @@ static const char *fault_of(const struct plant *p, const struct answer *a)
     return answer_differs(a, &expected, p->n);
 }
 
-/* NULL and the answer, or why there is none. */
-static const char *answer_of(const struct plant *p, const struct outcome *o, struct answer *a)
-{
-    if (o->fault != NULL)
-        return o->fault;
-    if (o->number != 0)
-        return "a plant was refused";
-    answer_read(a, p->n, o->out);
-    return NULL;
-}
-
 const char *judge_short(const struct plant *p, struct rng *r)
 {
     static struct outcome o, of_plan, of_check;
@@ -72,11 +61,11 @@ const char *judge_short(const struct plant *p, struct rng *r)
     size_t len = plant_write(p, file), out_len = answer_size(p->n);
     lent_call_short(file, len, out_len, lent_side(r), &o);
     lent_call(file, len, out_len, AT_END, &of_plan);
-    const char *fault = answer_of(p, &o, &a);
+    const char *fault = lent_answer(p, &o, &a);
     if (fault == NULL)
         fault = fault_of(p, &a);
     if (fault == NULL)
-        fault = answer_of(p, &of_plan, &plan);
+        fault = lent_answer(p, &of_plan, &plan);
     if (fault == NULL)
         fault = differs_from_plan(p, &a, &plan);
     if (fault != NULL)
@@ -104,7 +93,7 @@ static const char *differs_so_far(const struct plant *p, int k, const int *holde
     static struct outcome o;
     static struct answer a;
     lent_plan_after(p, k, lent_side(r), &o);
-    const char *fault = answer_of(p, &o, &a);
+    const char *fault = lent_answer(p, &o, &a);
     for (int i = 0; i < k && fault == NULL; i++) {
         int v = p->order[i];
         if ((holder[v] == NOBODY) != (a.leader[v] == ALONE))

@@ -200,3 +200,13 @@ void lent_why(const struct plant *p, uint32_t gateway, enum side side, struct ou
     size_t len = plant_write(p, file);
     lent_call_why(file, len, gateway, WHY_ALONE_OUT(p->n), side, o);
 }
+
+const char *lent_answer(const struct plant *p, const struct outcome *o, struct answer *a)
+{
+    if (o->fault != NULL)
+        return o->fault;
+    if (o->number != 0)
+        return "a plant was refused";
+    answer_read(a, p->n, o->out);
+    return NULL;
+}

@@ -44,4 +44,7 @@ void lent_plan_after(const struct plant *p, int k, enum side side, struct outcom
 void lent_plan_short(const struct plant *p, enum side side, struct outcome *o);
 void lent_why(const struct plant *p, uint32_t gateway, enum side side, struct outcome *o);
 
+/* The answer that a plan for the plant gave: NULL, or why there is none. */
+const char *lent_answer(const struct plant *p, const struct outcome *o, struct answer *a);
+
 #endif

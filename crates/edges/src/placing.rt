@@ -1,4 +1,4 @@
-// Placing, in either way: its refusals, 01's listing step by step, and placings that move several holders.
+// Placing, in either way and in both by turns: its refusals, 01's listing step by step, and placings that move several holders.
 use crate::lines;
 use crate::parts;
 use planner::Small;
@@ -21,10 +21,19 @@ pub(crate) fn case(label: &[u8], way: Way, a: &[u16]) {
     lines::after(&holders, &came);
 }
 
+// One way for the first placing, the other for the next, and so on.
+fn in_turn(i: u16, one: Way, other: Way) -> Way {
+    if i % 2 == 0 {
+        return one;
+    }
+    other
+}
+
 // One placing after the other, on 8 places of holders.
 fn place_each(
     label: &[u8],
-    way: Way,
+    one: Way,
+    other: Way,
     first: Small,
     links: &[u16],
     order: &[u16],
@@ -33,7 +42,7 @@ fn place_each(
     let mut s = first;
     let mut i: u16 = 0;
     while i < 8 {
-        let r = s.place_by(way, links, order, holders);
+        let r = s.place_by(in_turn(i, one, other), links, order, holders);
         s = r.small;
         lines::placed(label, r);
         lines::list(holders);
@@ -43,7 +52,7 @@ fn place_each(
 }
 
 // n, m, eight places of order and seven links
-pub(crate) fn steps(label: &[u8], way: Way, a: &[u16]) {
+pub(crate) fn steps(label: &[u8], one: Way, other: Way, a: &[u16]) {
     let mut holders = [lists::NONE; 8];
     let s = Small {
         n: lists::entry(a, 2),
@@ -53,7 +62,8 @@ pub(crate) fn steps(label: &[u8], way: Way, a: &[u16]) {
     };
     place_each(
         label,
-        way,
+        one,
+        other,
         s,
         parts::rest(a, 12),
         parts::rest(a, 4),

@@ -71,7 +71,7 @@ fn call(label: &[u8], a: &[u16]) {
         3 => linking::case(label, a),
         4 => ordering::case(label, a),
         5 => placing::case(label, Way::Queued, a),
-        6 => placing::steps(label, Way::Queued, a),
+        6 => placing::steps(label, Way::Queued, Way::Queued, a),
         7 => reading::case(label, a),
         8 => membering::case(label, a),
         9 => soundness::case(label, a),
@@ -83,7 +83,9 @@ fn call(label: &[u8], a: &[u16]) {
         16 => asking::case(label, a),
         17 => asking::steps(label, a),
         18 => placing::case(label, Way::Recursive, a),
-        19 => placing::steps(label, Way::Recursive, a),
+        19 => placing::steps(label, Way::Recursive, Way::Recursive, a),
+        20 => placing::steps(label, Way::Queued, Way::Recursive, a),
+        21 => placing::steps(label, Way::Recursive, Way::Queued, a),
         _ => full::run(),
     }
 }

@@ -3,7 +3,7 @@ use Prim.Native.Nat.{ℕ, zero, suc, _+_, _<_, _≤_}
 use mathlib.Core.Path.{_≡_, refl, sym, ap, _∙_}
 use mathlib.Core.Logic.{⊎-elim}
 use mathlib.Core.Bool.{Bool, true, false, cond, _||_, or-assoc, false≢true}
-use mathlib.Core.List.{List, [], _∷_, _++_, append-nil}
+use mathlib.Core.List.{List, [], _∷_, _++_, append-nil, append-assoc}
 use native.Mathlib.Nat.{not-suc-le-zero, le-antisymm, add-zero, add-suc, suc-add}
 use native.Mathlib.Numerals.{add-one}
 use native.Mathlib.Omega.{arith}
@@ -14,7 +14,7 @@ use borrow.Author.Tests.{eqb-true, eq-eqb}
 use Rattle.packing.specs.Count.{pick, sum, count}
 use Rattle.packing.specs.Lists.{listOf, listWhere, written, Ascending, memberOf, Lists}
 use Rattle.packing.specs.Plant.{at}
-use Rattle.packing.proofs.Tests.{below-suc, or-cases, or-l, or-r}
+use Rattle.packing.proofs.Tests.{by-bool, below-suc, or-cases, or-l, or-r}
 use Rattle.packing.proofs.Counting.{Tallied, tally-start, tally-more, tally-same, tally-less, tally-end}
 
 pub listOf-length : (n : ℕ) (f : ℕ → ℕ) → length (listOf n f) ≡ n
@@ -129,6 +129,23 @@ listWhere-more n p e = rw (add-one, e)
 listWhere-same : (n : ℕ) (p : ℕ → Bool) → p n ≡ false → listWhere (n + 1) p ≡ listWhere n p
 unfolding listWhere
 listWhere-same n p e = rw (add-one, e) (append-nil (listWhere n p))
+
+-- the same from the front, as a loop goes through them: those of the d numbers from x on with p
+unfoldable pub whereFrom : ℕ → ℕ → (ℕ → Bool) → List ℕ
+whereFrom zero x p = []
+whereFrom (suc d) x p = cond (p x) (x ∷ whereFrom d (suc x) p) (whereFrom d (suc x) p)
+
+where-parts : (d x n : ℕ) (p : ℕ → Bool) → n ≡ x + d → listWhere x p ++ whereFrom d x p ≡ listWhere n p
+unfolding whereFrom listWhere
+where-parts zero x n p e = let same : x ≡ n = omega (arith, e) in append-nil (listWhere x p) ∙ ap (λ (k : ℕ). listWhere k p) same
+where-parts (suc d) x n p e =
+    let next : listWhere (suc x) p ++ whereFrom d (suc x) p ≡ listWhere n p = where-parts d (suc x) n p (omega (arith, e)) in
+    let joined = sym (append-assoc (listWhere x p) (cond (p x) (x ∷ []) []) (whereFrom d (suc x) p)) ∙ next in
+    by-bool (p x) (λ q. rw q (rw q at joined)) (λ q. rw q (rw q at joined))
+
+pub where-all : (n : ℕ) (p : ℕ → Bool) → listWhere n p ≡ whereFrom n 0 p
+unfolding listWhere
+where-all n p = sym (where-parts n 0 n p (omega arith))
 
 -- A lent list whose first n entries are written, by any front of n entries: its length, its entries there, and that front
 module _ (n : ℕ) (front lent : List ℕ) (long : length front ≡ n) where

@@ -1,39 +1,21 @@
--- The loop over what u holds: the same.
-use Prim.Native.Nat.{ℕ, zero, suc, _+_, _-_, _*_, _<_, _≤_}
-use mathlib.Core.Path.{_≡_, refl, sym, ap, _∙_}
-use mathlib.Core.Bool.{Bool, true, false, cond, true≢false}
-use mathlib.Core.List.{List, [], _∷_, _++_, append-nil, append-assoc}
+-- The loop over what u holds, ascending: each call in it is the next of the model's, and what is left of the model gives what the whole gives.
+use Prim.Native.Nat.{ℕ, suc, _+_, _-_, _*_, _<_, _≤_}
+use mathlib.Core.Path.{_≡_, refl, sym, _∙_}
+use mathlib.Core.Bool.{Bool, true, false, true≢false}
+use mathlib.Core.List.{List}
 use native.Mathlib.Numerals.{add-one}
 use native.Mathlib.Omega.{arith}
 use lib.Dec.{eqb}
 use lib.ListN.{length}
 use borrow.Author.Tests.{eq-eqb, ne-eqb, le-ltb, lt-ltb}
 use Rattle.packing.specs.Count.{count}
-use Rattle.packing.specs.Lists.{listWhere}
 use Rattle.packing.specs.Plant.{GATEWAYS, at}
 use Rattle.packing.specs.Holders.{holds}
-use Rattle.packing.proofs.Tests.{by-bool}
+use Rattle.packing.proofs.Lists.{whereFrom, where-all}
 use Rattle.search.specs.Search.{heldBy}
 use Rattle.recursion.specs.Recursion.{Try, orElse, tryEach, findHolder, freePlace}
 use Rattle.recursion.specs.Pre.{untried, asTry}
 use Rattle.recursion.proofs.Promises.{FoundBy, FreedBy, one-more}
-
--- those with p from x on, of d numbers
-unfoldable pub whereFrom : ℕ → ℕ → (ℕ → Bool) → List ℕ
-whereFrom zero x p = []
-whereFrom (suc d) x p = cond (p x) (x ∷ whereFrom d (suc x) p) (whereFrom d (suc x) p)
-
-where-parts : (d x n : ℕ) (p : ℕ → Bool) → n ≡ x + d → listWhere x p ++ whereFrom d x p ≡ listWhere n p
-unfolding whereFrom listWhere
-where-parts zero x n p e = let same : x ≡ n = omega (arith, e) in append-nil (listWhere x p) ∙ ap (λ (k : ℕ). listWhere k p) same
-where-parts (suc d) x n p e =
-    let next : listWhere (suc x) p ++ whereFrom d (suc x) p ≡ listWhere n p = where-parts d (suc x) n p (omega (arith, e)) in
-    let joined = sym (append-assoc (listWhere x p) (cond (p x) (x ∷ []) []) (whereFrom d (suc x) p)) ∙ next in
-    by-bool (p x) (λ q. rw q (rw q at joined)) (λ q. rw q (rw q at joined))
-
-where-all : (n : ℕ) (p : ℕ → Bool) → listWhere n p ≡ whereFrom (n - 0) 0 p
-unfolding listWhere
-where-all n p = sym (where-parts (n - 0) 0 n p (omega arith))
 
 -- the loop over what u holds, before x
 pub record Freeing (n : ℕ) (limit : ℕ → ℕ) (ls : List ℕ) (u : ℕ) (hs₀ marks₀ hs marks : List ℕ) (x : ℕ) : Type 0 where
@@ -68,13 +50,14 @@ module _ (n : ℕ) (limit : ℕ → ℕ) (ls : List ℕ) (u : ℕ) (hs₀ marks�
     pub freeing-start : most ≤ held → length marks₀ ≤ GATEWAYS → Freeing n limit ls u hs₀ marks₀ hs₀ marks₀ 0
     unfolding freePlace holds heldBy
     freeing-start l few =
+        let all : n - 0 ≡ n = omega arith in
         record {
           upto = omega arith;
           few = few;
           long = refl;
           unchanged = refl;
           fewer = omega arith;
-          rest = λ calls q. rw (le-ltb (count n (λ y. eqb (at hs₀ y) u)) (limit u) (omega (arith, is, its)), where-all n (λ y. eqb (at hs₀ y) u));
+          rest = λ calls q. rw (le-ltb (count n (λ y. eqb (at hs₀ y) u)) (limit u) (omega (arith, is, its)), where-all n (λ y. eqb (at hs₀ y) u), all);
         }
 
   pub freeing-out : {hs marks : List ℕ} {x : ℕ} → Freeing n limit ls u hs₀ marks₀ hs marks x → n ≤ x → FreedBy n limit ls u hs₀ marks₀ false hs marks

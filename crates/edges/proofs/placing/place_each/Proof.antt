@@ -7,13 +7,16 @@ use Rattle.edges.proofs.placing.place_each.Statement.{statement}
 use Rattle.edges.proofs.placing.place_each.Tie as tie
 
 abbrev Inv-loop : tie.InvT-loop
-Inv-loop label way links order holders₀ s₀ i₀ holders s i = (i ≤ 8) × (length holders ≡ length holders₀)
+Inv-loop label one other links order holders₀ s₀ i₀ holders s i = (i ≤ 8) × (length holders ≡ length holders₀)
 
 abbrev μ-loop : tie.MeasureT-loop
-μ-loop label way links order holders₀ s₀ i₀ holders s i = 8 - i
+μ-loop label one other links order holders₀ s₀ i₀ holders s i = 8 - i
 
 loop-holds : tie.Need-loop-holds Inv-loop μ-loop
 loop-holds c = search needs
+
+in-turn-requires : tie.Need-in-turn-requires Inv-loop μ-loop
+in-turn-requires c κs = search needs
 
 place-by-requires : tie.Need-place-by-requires Inv-loop μ-loop
 place-by-requires c κs = search needs
@@ -49,6 +52,7 @@ place-each-spec =
     Inv-loop
     μ-loop
     loop-holds
+    in-turn-requires
     place-by-requires
     placed-requires
     list-requires
