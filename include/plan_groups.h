@@ -177,7 +177,7 @@ uint32_t why_alone(const uint8_t *file, size_t file_len, uint32_t gateway, uint8
  * 1,024 gateways; on such plants it takes about 184 KB of stack, on most far less. A thread whose stack has
  * PLAN_GROUPS_RECURSIVE_STACK bytes, with what the thread itself takes of them, can make the call on every
  * file. Its time grows as n * n * (n + m) at worst: it takes about as long as plan_groups on most plants, up
- * to twice as long where hundreds are left alone, and longer where many are moved. All else is as for
+ * to about twice as long where many are left alone, and longer where many are moved. All else is as for
  * plan_groups.
  */
 uint32_t plan_groups_recursive(const uint8_t *file, size_t file_len, uint8_t *out, size_t out_len);
