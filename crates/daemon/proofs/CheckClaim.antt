@@ -28,7 +28,7 @@ use Rattle.daemon.specs.Groups.{bytesFor, groupsOut, recursiveOut}
 use Rattle.daemon.specs.Check.{entriesIn, groupsCheck}
 use Rattle.daemon.specs.Claim.{leaderAt, chokeAt, BytesPlan, BytesAcceptsExactly, BytesCoverMost, leaderBytes, chokeBytes, OwnAccepted, RecursiveAccepted, OwnChokeBytes}
 use Rattle.daemon.specs.Turns.{GroupsCheckExactly}
-use Rattle.daemon.proofs.Claim.{groups-fine, groups-room, bytes-plan, short-room, short-one, short-plan}
+use Rattle.daemon.proofs.Claim.{groups-fine, groups-room, bytes-plan, recursive-room, recursive-one, recursive-plan}
 
 -- the entries are what the bytes say, ..
 module _ (leaders : List ℕ) where
@@ -94,7 +94,7 @@ own-accepted file out z = let (plan, bits, _) = bytes-plan file out z in answer-
 
 pub recursive-accepted : RecursiveAccepted
 unfolding RecursiveAccepted
-recursive-accepted file out z = answer-accepted file (recursiveOut file out) (groups-fine file out z) (short-room file out z) (short-plan file out z) (short-one file out z)
+recursive-accepted file out z = answer-accepted file (recursiveOut file out) (groups-fine file out z) (recursive-room file out z) (recursive-plan file out z) (recursive-one file out z)
 
 pub own-choke-bytes : OwnChokeBytes
 unfolding OwnChokeBytes OwnAccepted BytesAcceptsExactly BytesCoverMost groupsCheck OneChokeList

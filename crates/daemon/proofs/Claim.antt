@@ -202,39 +202,39 @@ bytes-refused file out h = sym (refused (written (bytesFor (fileN file)) (planBy
 
 -- plan_groups_recursive's answer
 module _ (file out : List ℕ) (z : groupsRefusal file (length out) ≡ 0) where
-  short-leader : (v : ℕ) → v < fileN file → at (fileLeadersBy Recursive file (fileN file)) v ≡ leaderAt (recursiveOut file out) v
+  recursive-leader : (v : ℕ) → v < fileN file → at (fileLeadersBy Recursive file (fileN file)) v ≡ leaderAt (recursiveOut file out) v
   unfolding recursiveOut
-  short-leader = leader-after Recursive file (fileN file) out (all-fine file out z)
+  recursive-leader = leader-after Recursive file (fileN file) out (all-fine file out z)
 
-  short-choke : (v : ℕ) → v < fileN file → at (fileChokeBy Recursive file (fileN file)) v ≡ chokeAt (fileN file) (recursiveOut file out) v
+  recursive-choke : (v : ℕ) → v < fileN file → at (fileChokeBy Recursive file (fileN file)) v ≡ chokeAt (fileN file) (recursiveOut file out) v
   unfolding recursiveOut
-  short-choke = choke-after Recursive file (fileN file) out (all-fine file out z)
+  recursive-choke = choke-after Recursive file (fileN file) out (all-fine file out z)
 
   -- lists of n entries, in both ways
   both : ((v : ℕ) → v < fileN file → covered (at (fileLeadersBy Recursive file (fileN file))) v ≡ covered (at (fileLeadersBy Queued file (fileN file))) v)
       × ((v : ℕ) → v < fileN file → at (fileChokeBy Recursive file (fileN file)) v ≡ at (fileChokeBy Queued file (fileN file)) v)
   both = lists-ways Recursive Queued file (groups-fine file out z)
 
-  pub short-room : bytesFor (fileN file) ≤ length (recursiveOut file out)
+  pub recursive-room : bytesFor (fileN file) ≤ length (recursiveOut file out)
   unfolding recursiveOut
-  short-room = room-after Recursive file (fileN file) out (all-fine file out z)
+  recursive-room = room-after Recursive file (fileN file) out (all-fine file out z)
 
-  pub short-one : (v : ℕ) → v < fileN file → chokeAt (fileN file) (recursiveOut file out) v ≤ 1
-  short-one v l = rw (short-choke v l) at (choke-bit file (groups-fine file out z) Recursive (fileN file) (omega arith) v l)
+  pub recursive-one : (v : ℕ) → v < fileN file → chokeAt (fileN file) (recursiveOut file out) v ≤ 1
+  recursive-one v l = rw (recursive-choke v l) at (choke-bit file (groups-fine file out z) Recursive (fileN file) (omega arith) v l)
 
-  pub short-plan : PlanOf file (leaderAt (recursiveOut file out)) (λ v. eqb (chokeAt (fileN file) (recursiveOut file out) v) 1)
-  short-plan =
-      plan-below file (groups-fine file out z) (at (fileLeadersBy Recursive file (fileN file))) _ (λ v. eqb (at (fileChokeBy Recursive file (fileN file)) v) 1) _ short-leader
-      (λ v l. ap (λ (x : ℕ). eqb x 1) (short-choke v l)) (lists-plan-by file (groups-fine file out z) Recursive)
+  pub recursive-plan : PlanOf file (leaderAt (recursiveOut file out)) (λ v. eqb (chokeAt (fileN file) (recursiveOut file out) v) 1)
+  recursive-plan =
+      plan-below file (groups-fine file out z) (at (fileLeadersBy Recursive file (fileN file))) _ (λ v. eqb (at (fileChokeBy Recursive file (fileN file)) v) 1) _ recursive-leader
+      (λ v l. ap (λ (x : ℕ). eqb x 1) (recursive-choke v l)) (lists-plan-by file (groups-fine file out z) Recursive)
 
   recursive-answer : RecursiveAnswer file out
   unfolding recursiveOut
   recursive-answer =
       record {
-        plan = unfold recursiveOut in short-plan;
-        pairs = leads-below (fileN file) (at (fileOrder file)) (at (fileOrder file)) (at (fileLeadersBy Recursive file (fileN file))) _ (λ i l. refl) short-leader (lists-pairs Recursive file (fileN file) (groups-fine file out z) (omega arith));
-        covers = λ other y v l. ap (λ (x : ℕ). not (eqb x NONE)) (sym (short-leader v l)) ∙ both .0 v l ∙ ap (λ (x : ℕ). not (eqb x NONE)) (ap (λ (g : List ℕ). at g v) (leaders-all file) ∙ leader-is file other y v l);
-        chokes = λ other y v l. sym (short-choke v l) ∙ both .1 v l ∙ ap (λ (c : List ℕ). at c v) (choke-all file) ∙ choke-is file other y v l;
+        plan = unfold recursiveOut in recursive-plan;
+        pairs = leads-below (fileN file) (at (fileOrder file)) (at (fileOrder file)) (at (fileLeadersBy Recursive file (fileN file))) _ (λ i l. refl) recursive-leader (lists-pairs Recursive file (fileN file) (groups-fine file out z) (omega arith));
+        covers = λ other y v l. ap (λ (x : ℕ). not (eqb x NONE)) (sym (recursive-leader v l)) ∙ both .0 v l ∙ ap (λ (x : ℕ). not (eqb x NONE)) (ap (λ (g : List ℕ). at g v) (leaders-all file) ∙ leader-is file other y v l);
+        chokes = λ other y v l. sym (recursive-choke v l) ∙ both .1 v l ∙ ap (λ (c : List ℕ). at c v) (choke-all file) ∙ choke-is file other y v l;
         moves = rw (moved-after Recursive file (fileN file) out (all-fine file out z)) (moves-sum file (groups-fine file out z) Recursive (fileN file) (omega arith));
         past = past-after Recursive file (fileN file) out (all-fine file out z);
       }
