@@ -22,7 +22,7 @@ use Rattle.recursion.proofs.Grows.{Growing, each-tried, unless-grows, f
 
 -- Two attempts that are the same with marks that have Inv, which a failed one keeps, are the same one after the other.
 module _ (f g : ℕ → List ℕ → Try) (Inv : List ℕ → Type 0) (same : (x : ℕ) (marks : List ℕ) → Inv marks → f x marks ≡ g x marks) (keeps : (x : ℕ) (marks : List ℕ) → Inv marks → Ended Inv (λ hs. Unit {0}) (f x marks)) where
-  pub each-alike : (xs marks : List ℕ) → Inv marks → tryEach f xs marks ≡ tryEach g xs marks
+  each-alike : (xs marks : List ℕ) → Inv marks → tryEach f xs marks ≡ tryEach g xs marks
   unfolding tryEach
   each-alike [] marks i = refl
   each-alike (x ∷ xs) marks i =
@@ -34,7 +34,7 @@ module _
     (f g : ℕ → List ℕ → Try) (Inv : List ℕ → Type 0) (grows : Growing f)
     (same : (u : ℕ) (marks : List ℕ) → Inv marks → tried marks u ≡ false → f u (mark marks u) ≡ g u (mark marks u)) (later : (a b : List ℕ) → Grown a b → Inv a → Inv b)
   where
-    pub unless-alike : (us marks : List ℕ) → Inv marks → tryEach (unlessTried f) us marks ≡ tryEach (unlessTried g) us marks
+    unless-alike : (us marks : List ℕ) → Inv marks → tryEach (unlessTried f) us marks ≡ tryEach (unlessTried g) us marks
     unless-alike =
         each-alike (unlessTried f) (unlessTried g) Inv (λ u marks i. by-bool (tried marks u) (λ e. rw e) (λ e. rw e (same u marks i e)))
         (λ u marks i. record { whenFailed = λ end e. later marks end (unless-grows f grows u marks .whenFailed end e .0) i; whenFreed = λ hs e. tt })

@@ -12,6 +12,7 @@ use Rattle.sound.specs.Searchable.{searchable}
 use Rattle.search.specs.Search.{heldBy, look, visit, turn, turns, walk, shift, settled, placedHolders, placeable, holdersAfter}
 use Rattle.search.specs.Moved.{movedBy}
 use Rattle.recursion.specs.Recursion.{failed, tryEach, findHolder, search, recursiveHolders, recursiveAfter, recursiveMoved}
+use Rattle.recursion.specs.Enough.{EachGone, FindWithin}
 
 -- 0, 1 and 2 are linked to what they can hold: 0 to 3, 4, 7, 8 and 9, 1 to 4, 5 and 6, 2 to 6 and 7
 unfoldable links : List ℕ
@@ -44,3 +45,14 @@ differs = (refl, refl)
 refused : (recursiveAfter 10 (common 2) links five 7 ≡ five) × (recursiveAfter 10 (common 2) links five 10 ≡ five)
 unfolding links five sum count all listWhere common neighbours holds holdersWithin searchable placeable recursiveAfter
 refused = (refl, refl)
+
+-- Of four gateways four calls one within the other are enough (specs/Enough.antt), and three are not: 1 is placed at 0, which is full, and 2, which it holds, at 1.
+unfoldable around : List ℕ
+around = 0 ∷ 1 ∷ 0 ∷ 2 ∷ 0 ∷ 3 ∷ 1 ∷ 2 ∷ []
+
+unfoldable full : List ℕ
+full = NONE ∷ NONE ∷ 0 ∷ 0 ∷ []
+
+four-deep : FindWithin 3 4 (common 2) around full 1 (NONE ∷ NONE ∷ NONE ∷ NONE ∷ []) → ⊥
+unfolding around full sum count listWhere common neighbours holds heldBy tryEach findHolder EachGone FindWithin
+four-deep within = (within .0 refl refl .0 .1 _ refl) .0 refl
