@@ -33,8 +33,8 @@ void family_small(struct plant *p, void (*check)(struct rng *r), struct rng *r);
 void family_fill(struct plant *p, struct rng *r, int m);
 
 /*
- * As many gateways as a plant can have: each but the hubs at so many of the hubs by chance, and random links up to m of them
- * in all.
+ * As many gateways as a plant can have: each but the hubs at so many of the hubs by chance (0 and 0 for no hubs), and random
+ * links up to m of them in all.
  */
 void family_largest(struct plant *p, struct rng *r, int hubs, int limit, int each, int m);
 

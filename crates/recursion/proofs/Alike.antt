@@ -15,19 +15,30 @@ use Rattle.search.specs.Pre.{Placeable}
 use Rattle.search.proofs.Limits.{same-limits}
 use Rattle.search.proofs.Tested.{placeable-holds}
 use Rattle.recursion.specs.Recursion.{Try, freed, tried, mark, orElse, tryEach, takes, unlessTried, findHolder, freePlace, search, settled, recursiveHolders, recursiveAfter}
+use Rattle.recursion.specs.Enough.{EachGone}
 use Rattle.recursion.specs.Twice.{RecursiveFirst}
 use Rattle.recursion.proofs.Marks.{untried-below, Grown}
 use Rattle.recursion.proofs.Tries.{by-try, Ended, ended-takes}
 use Rattle.recursion.proofs.Grows.{Growing, each-tried, unless-grows, find-grows, free-grows}
 
--- Two attempts that are the same with marks that have Inv, which a failed one keeps, are the same one after the other.
+-- What holds with marks that have Inv, which a failed attempt keeps, holds of each that is gone through.
+pub each-gone : (attempt : ℕ → List ℕ → Try) (Has : ℕ → List ℕ → Type 0) (Inv : List ℕ → Type 0) → ((x : ℕ) (marks : List ℕ) → Inv marks → Ended Inv (λ hs. Unit {0}) (attempt x marks))
+    → ((x : ℕ) (marks : List ℕ) → Inv marks → Has x marks) → (xs marks : List ℕ) → Inv marks → EachGone attempt Has xs marks
+unfolding EachGone
+each-gone attempt Has Inv keeps has [] marks i = tt
+each-gone attempt Has Inv keeps has (x ∷ xs) marks i = (has x marks i, λ now e. each-gone attempt Has Inv keeps has xs now (keeps x marks i .whenFailed now e))
+
+-- Two attempts that are the same of each that is gone through are the same one after the other, ..
+pub each-same : (f g : ℕ → List ℕ → Try) (Has : ℕ → List ℕ → Type 0) → ((x : ℕ) (marks : List ℕ) → Has x marks → g x marks ≡ f x marks) → (xs marks : List ℕ) → EachGone f Has xs marks → tryEach g xs marks ≡ tryEach f xs marks
+unfolding EachGone tryEach
+each-same f g Has same [] marks gone = refl
+each-same f g Has same (x ∷ xs) marks gone =
+    by-try (f x marks) (λ hs e. rw (same x marks (gone .0), e)) (λ now e. rw (same x marks (gone .0), e) (each-same f g Has same xs now (gone .1 now e)))
+
+-- .. so where they are the same with marks that have Inv
 module _ (f g : ℕ → List ℕ → Try) (Inv : List ℕ → Type 0) (same : (x : ℕ) (marks : List ℕ) → Inv marks → f x marks ≡ g x marks) (keeps : (x : ℕ) (marks : List ℕ) → Inv marks → Ended Inv (λ hs. Unit {0}) (f x marks)) where
   each-alike : (xs marks : List ℕ) → Inv marks → tryEach f xs marks ≡ tryEach g xs marks
-  unfolding tryEach
-  each-alike [] marks i = refl
-  each-alike (x ∷ xs) marks i =
-      by-try (f x marks) (λ hs e. rw (← same x marks i, e))
-      (λ next e. rw (← same x marks i, e) (each-alike xs next (keeps x marks i .whenFailed next e)))
+  each-alike xs marks i = sym (each-same f g (λ x now. Inv now) (λ x now j. sym (same x now j)) xs marks (each-gone f (λ x now. Inv now) Inv keeps (λ x now j. j) xs marks i))
 
 -- .. where each is passed by or marked first
 module _

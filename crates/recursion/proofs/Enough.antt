@@ -1,8 +1,8 @@
--- How many calls stand one within the other: enough for all, for any gateways; half as many where each full one holds two or more.
+-- How many calls stand one within the other: never more than the search is given; and of each function at most one for every two gateways, where each full one holds two or more.
 use Prim.Native.Nat.{ℕ, zero, suc, _+_, _*_, _<_, _≤_}
 use mathlib.Core.Path.{_≡_, refl, ap}
 use mathlib.Core.Bool.{Bool, true, false, not}
-use mathlib.Core.List.{List, [], _∷_}
+use mathlib.Core.List.{List}
 use native.Mathlib.Omega.{arith}
 use lib.Dec.{eqb, ltb, leb}
 use borrow.Author.Tests.{ltb-false, leb-true, le-leb, ne-eqb}
@@ -14,27 +14,13 @@ use Rattle.packing.proofs.Tests.{by-bool, clash, not-i}
 use Rattle.packing.proofs.Sums.{count-mono, count-all, count-bound}
 use Rattle.packing.proofs.Moved.{count-point}
 use Rattle.packing.proofs.Hall.{half-as-many}
-use Rattle.recursion.specs.Recursion.{Try, tried, mark, tryEach, takes, unlessTried, findHolder, freePlace}
+use Rattle.recursion.specs.Recursion.{tried, mark, takes, unlessTried, findHolder, freePlace}
 use Rattle.recursion.specs.Pre.{untriedIn}
-use Rattle.recursion.specs.Enough.{EachGone, FindWithin, FreeWithin, EnoughCalls, MoreTheSame, HalfTheCalls}
+use Rattle.recursion.specs.Enough.{FindWithin, FreeWithin, EnoughCalls, MoreTheSame, HalfTheCalls}
 use Rattle.recursion.proofs.Marks.{one-tried, grown-fewer-in, untried-start-in}
-use Rattle.recursion.proofs.Tries.{by-try, Ended, ended-as}
-use Rattle.recursion.proofs.Alike.{takes-grows}
+use Rattle.recursion.proofs.Tries.{ended-as}
+use Rattle.recursion.proofs.Alike.{each-gone, each-same, takes-grows}
 use Rattle.recursion.proofs.Grows.{unless-grows, find-grows, free-grows}
-
--- one after the other, with marks that have Inv, which a failed one keeps
-each-gone : (attempt : ℕ → List ℕ → Try) (Has : ℕ → List ℕ → Type 0) (Inv : List ℕ → Type 0) → ((x : ℕ) (marks : List ℕ) → Inv marks → Ended Inv (λ hs. Unit {0}) (attempt x marks))
-    → ((x : ℕ) (marks : List ℕ) → Inv marks → Has x marks) → (xs marks : List ℕ) → Inv marks → EachGone attempt Has xs marks
-unfolding EachGone
-each-gone attempt Has Inv keeps has [] marks i = tt
-each-gone attempt Has Inv keeps has (x ∷ xs) marks i = (has x marks i, λ now e. each-gone attempt Has Inv keeps has xs now (keeps x marks i .whenFailed now e))
-
--- two attempts that are the same of each that is gone through
-each-same : (f g : ℕ → List ℕ → Try) (Has : ℕ → List ℕ → Type 0) → ((x : ℕ) (marks : List ℕ) → Has x marks → g x marks ≡ f x marks) → (xs marks : List ℕ) → EachGone f Has xs marks → tryEach g xs marks ≡ tryEach f xs marks
-unfolding EachGone tryEach
-each-same f g Has same [] marks gone = refl
-each-same f g Has same (x ∷ xs) marks gone =
-    by-try (f x marks) (λ hs e. rw (same x marks (gone .0), e)) (λ now e. rw (same x marks (gone .0), e) (each-same f g Has same xs now (gone .1 now e)))
 
 -- Let a set have every gateway that holds as many as its limit: only for such does the second function call the first, and then with one fewer of the set to try.
 module _ (n : ℕ) (limit : ℕ → ℕ) (ls hs : List ℕ) (set : ℕ → Bool) (full : (u : ℕ) → limit u ≤ holds n (at hs) u → set u ≡ true) where
@@ -47,7 +33,9 @@ module _ (n : ℕ) (limit : ℕ → ℕ) (ls hs : List ℕ) (set : ℕ → Bool)
       let (find, free) = within calls in (
         (λ v marks l.
             each-gone (unlessTried (λ u now. takes v u (freePlace calls n limit ls hs u now))) (λ u now. tried now u ≡ false → FreeWithin calls n limit ls hs u (mark now u)) (λ now. untriedIn set now ≤ untriedIn set marks)
-            (λ u now i. ended-as (unless-grows (λ w at. takes v w (freePlace calls n limit ls hs w at)) (takes-grows v (λ w at. freePlace calls n limit ls hs w at) (free-grows n limit ls hs calls)) u now) (λ end q. omega (arith, grown-fewer-in set (q .0))) (λ new t. t))
+            (λ u now i.
+            ended-as (unless-grows (λ w here. takes v w (freePlace calls n limit ls hs w here)) (takes-grows v (λ w here. freePlace calls n limit ls hs w here) (free-grows n limit ls hs calls)) u now)
+            (λ end q. omega (arith, grown-fewer-in set (q .0))) (λ new t. t))
             (λ u now i e. free u (mark now u) (omega arith) (λ h. omega (arith, one-tried set now u e (full u h)))) (neighbours ls v) marks (omega arith)),
         λ u marks l more e.
             let m = more (ltb-false _ _ e) in

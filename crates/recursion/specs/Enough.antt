@@ -10,7 +10,7 @@ use Rattle.packing.specs.Holders.{held, holds}
 use Rattle.search.specs.Search.{heldBy}
 use Rattle.recursion.specs.Recursion.{Try, failed, tried, mark, takes, unlessTried, findHolder, freePlace}
 
--- of each that is gone through, with the marks that the failed ones before it left
+-- Has holds of each that is gone through, with the marks that the failed ones before it left
 unfoldable pub EachGone : (attempt : ℕ → List ℕ → Try) (Has : ℕ → List ℕ → Type 0) → List ℕ → List ℕ → Type 0
 EachGone attempt Has [] marks = Unit {0}
 EachGone attempt Has (x ∷ xs) marks = Has x marks × ((now : List ℕ) → attempt x marks ≡ failed now → EachGone attempt Has xs now)
