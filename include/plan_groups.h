@@ -26,7 +26,7 @@ extern "C" {
 
 /* The bytes of the longest plant file; a longer one is refused. */
 #define PLAN_GROUPS_FILE_MAX \
-    ((size_t)10 + 4 * (size_t)PLAN_GROUPS_LINKS_MAX + 2 * (size_t)PLAN_GROUPS_GATEWAYS_MAX)
+    ((size_t)10 + 4 * (size_t)PLAN_GROUPS_LINKS_MAX + 4 * (size_t)PLAN_GROUPS_GATEWAYS_MAX)
 
 /* The bytes of stack that are enough for a thread that makes the call: see below. */
 #define PLAN_GROUPS_STACK 114688
@@ -62,23 +62,24 @@ extern "C" {
  *
  *    9   the file has fewer than 10 bytes
  *    7   it does not begin with PLT
- *    8   its version is not 1
+ *    8   its version is neither 1 nor 2
  *    1   n is above 1,024
  *    2   T is below 2 or above 16
  *   12   m is above 8,192
- *    9   the file's length is not 10 + 4m + 2n
+ *    9   the file's length is not 10 + 4m + 2n, in version 2 not 10 + 4m + 4n
  *    3   a link's end is not below n
  *    4   both ends of a link are equal
  *   20   a link stands there already, either way round
  *    6   the order repeats a number or has one not below n
+ *   33   a limit byte is 1 or above 16 (version 2)
  *   10   out_len is below 3n + 4, for a plant of 0 gateways too
  *
  * The number moved. The plan is made by placing the gateways one after the other, in the order: each is
  * given a holder, or left. So that the next one finds a place, others may change their holder. Each
  * placing counts the gateways whose holder changed, the new one included, and 0 where it is left; the
  * number moved is the sum over all placings. For each placing it is the least possible: no other holders
- * of the gateways kept before and the new one, along links and within T, differ from those before at
- * fewer gateways. The sum is at most 1,048,576.
+ * of the gateways kept before and the new one, along links and within the limits, differ from those before
+ * at fewer gateways. The sum is at most 1,048,576.
  *
  * What it uses. The call is reentrant and keeps nothing: the library has no writable data and allocates
  * none. Calls may run at once in any threads, each with an out of its own; they may share a file that
@@ -89,8 +90,14 @@ extern "C" {
  * Its time grows as n * n * (m + 1) at worst. With 1,024 gateways most plants take well under a second;
  * one with thousands of links that leaves hundreds alone can take a few seconds.
  *
- * The plant file: "PLT", version, n, T, m, then m links of two ends, then the n numbers of the order.
- * T has one byte; every other number has two, low byte first.
+ * The plant file: "PLT", version, n, T, m, then m links of two ends, then the n numbers of the order; in
+ * version 2 then a pair of bytes for each gateway, from gateway 0 on: its kind and its limit byte. T has one
+ * byte, as have kind and limit byte; every other number has two, low byte first.
+ *
+ * The limits. No gateway leads or holds more others than its limit, which is one of 2 to 16. In version 1 it
+ * is T for each. In version 2 a limit byte of 2 to 16 is the gateway's limit, above T too; where it is 0 the
+ * limit goes by the kind: kind 0 takes T, 1 to 31 take 2, 32 to 127 take 4, 128 to 191 take 8, 192 to 255
+ * take 16.
  */
 uint32_t plan_groups(const uint8_t *file, size_t file_len, uint8_t *out, size_t out_len);
 
@@ -144,10 +151,10 @@ uint32_t plan_groups_after(const uint8_t *file, size_t file_len, uint32_t placin
  *     gateway in the order.
  *   - No two gateways of the first are linked.
  *   - The second is exactly the gateways linked to one of the first.
- *   - a = T * b + 1.
+ *   - a is the sum of the second set's limits, plus one: T * b + 1 where each has the limit T.
  * So no grouping covers all of the first set: its gateways can only be in groups with those of the second,
- * and each of these can bring in T of them at most. One has to stay alone, and in the first set the gateway
- * is the last in the order. With b = 0 the gateway has no link at all.
+ * and each of these can bring in as many of them as its limit at most. One has to stay alone, and in the
+ * first set the gateway is the last in the order. With b = 0 the gateway has no link at all.
  *
  * Both sets are those that the choke set's walk reaches when it starts from this gateway only. No smaller
  * ones say it: whatever two sets have what is listed above, the first set is within their first and the
@@ -174,7 +181,7 @@ uint32_t why_alone(const uint8_t *file, size_t file_len, uint32_t gateway, uint8
  *   - the number moved is counted in the same way, placing by placing, but need not be the least.
  *
  * What it uses. Its two functions call each other, up to 512 times each one within the other in a plant of
- * 1,024 gateways; on such plants it takes about 184 KB of stack, on most far less. A thread whose stack has
+ * 1,024 gateways; on such plants it takes about 185 KB of stack, on most far less. A thread whose stack has
  * PLAN_GROUPS_RECURSIVE_STACK bytes, with what the thread itself takes of them, can make the call on every
  * file. Its time grows as n * n * (n + m) at worst: it takes about as long as plan_groups on most plants, up
  * to about twice as long where many are left alone, and longer where many are moved. All else is as for
@@ -196,13 +203,13 @@ uint32_t plan_groups_recursive(const uint8_t *file, size_t file_len, uint8_t *ou
  * Nothing is written.
  *
  * It accepts exactly if the file is accepted and
- *   - each of the first n entries is 65535; or its own number, where one to T other gateways among the n have
- *     that number as their entry; or the number of a gateway below n that is linked to it and has its own
- *     number as entry;
+ *   - each of the first n entries is 65535; or its own number, where one to as many other gateways as its
+ *     limit, among the n, have that number as their entry; or the number of a gateway below n that is linked
+ *     to it and has its own number as entry;
  *   - each of the first n choke bytes is 0 or 1; and
- *   - the gateways outside the choke set that have no link to another one outside it, less T times the number
- *     of gateways in the set, are as many as the entries of 65535 among the first n. A difference below zero
- *     is no number of entries.
+ *   - the gateways outside the choke set that have no link to another one outside it, less the sum of the
+ *     limits of the gateways in the set, are as many as the entries of 65535 among the first n. A difference
+ *     below zero is no number of entries.
  * Entries and choke bytes past the first n are not looked at, so either list may be longer. The file's order
  * is tested as for plan_groups and plays no other part: of two lists that cover equally many gateways, but not
  * the same, both are accepted.

@@ -81,6 +81,19 @@ script_packs_the_sample() {
     scripts/pack data/sample.txt "$folder/sample.plt" && cmp "$folder/sample.plt" data/sample.plt
 }
 
+script_packs_own_limits() {
+    scripts/pack data/sample2.txt "$folder/sample2.plt" && cmp "$folder/sample2.plt" data/sample2.plt
+}
+
+script_lists_own_limits() {
+    [ "$(scripts/list data/sample2.plt)" = 'gateways 15 limit 3 covered 14
+lead 0: 3 4
+lead 1: 6 7 8 9 10
+lead 2: 11 12 13 14
+alone: 5
+choke: 0' ]
+}
+
 script_packs_what_comes_in() {
     scripts/pack - - <data/sample.txt | cmp - data/sample.plt
 }
@@ -121,9 +134,10 @@ readme_example() {
     "$folder/example" | diff - "$folder/example.txt"
 }
 
+# a section's text gives its listing
 readme_text() {
-    readme_block 'From a text to a listing' text 1 >"$folder/readme.txt"
-    readme_block 'From a text to a listing' text 2 >"$folder/readme.listing"
+    readme_block "$1" text 1 >"$folder/readme.txt"
+    readme_block "$1" text 2 >"$folder/readme.listing"
     [ -s "$folder/readme.listing" ] || return
     scripts/pack "$folder/readme.txt" - | scripts/list - | diff - "$folder/readme.listing"
 }
@@ -149,6 +163,8 @@ run_script_tests() {
     run_one 'scripts/list, a folder' refused_at_once 1 'scripts/list: data: a folder, not a plant file' data
     run_one 'scripts/list, two files' refused_at_once 2 'usage: scripts/list [FILE]' data/sample.plt data/sample.plt
     run_one 'scripts/pack with the sample' script_packs_the_sample
+    run_one 'scripts/pack with own limits' script_packs_own_limits
+    run_one 'scripts/list with own limits' script_lists_own_limits
     run_one 'scripts/pack with -' script_packs_what_comes_in
     run_one 'scripts/pack, no such file' pack_refuses 1 none.txt -
     run_one 'scripts/pack, no arguments' pack_refuses 2
@@ -162,6 +178,7 @@ run_script_tests() {
     run_one 'the C example of README.md, why a gateway is alone' readme_example 'Why a gateway is alone'
     run_one 'the C example of README.md, lists by any hand' readme_example 'Lists by any hand'
     run_one 'the C example of README.md, by the short search' readme_example 'By the short search'
-    run_one 'the text and the listing of README.md' readme_text
+    run_one 'the text and the listing of README.md' readme_text 'From a text to a listing'
+    run_one 'the text and the listing of README.md, with a limit of its own' readme_text 'A limit for each gateway'
     run_one 'the Rattle example of README.md' readme_rattle
 }

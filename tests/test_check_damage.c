@@ -10,7 +10,7 @@
 #include "moves.h"
 #include "tally.h"
 
-enum { TRIALS = 60000, ROOM = 256, FILE_ROOM = 4096, NUMBERS = 33, WAYS = 14 };
+enum { TRIALS = 60000, ROOM = 256, FILE_ROOM = 4096, NUMBERS = 34, WAYS = 14 };
 
 static struct plant plant;
 static struct answer good;

@@ -1,12 +1,13 @@
 /*
  * The listing program, run in a folder of its own and compared byte by byte.
- * Arguments: the program, an empty folder to work in, the plant file of document 01's listing.
+ * Arguments: the program, an empty folder to work in, the plant file of document 01's listing, one with own limits.
  */
 #define _POSIX_C_SOURCE 200809L
 #include <stdio.h>
 #include <string.h>
 #include <unistd.h>
 
+#include "any_limits.h"
 #include "families.h"
 #include "file_rules.h"
 #include "judge.h"
@@ -85,6 +86,41 @@ static void document_plant(const uint8_t *sample, size_t sample_len)
     expect(document_listing, strlen(document_listing), "the listing of document 01's plant", 0);
 }
 
+/* The sample with own limits: T is 3, and the hubs 0, 1 and 2 have 2, by its kind 16, and 4. */
+static const char own_listing[] =
+    "gateways 15 limit 3 covered 14\n"
+    "lead 0: 3 4\n"
+    "lead 1: 6 7 8 9 10\n"
+    "lead 2: 11 12 13 14\n"
+    "alone: 5\n"
+    "choke: 0\n";
+
+/* The same plant in version 1. */
+static const char common_listing[] =
+    "gateways 15 limit 3 covered 12\n"
+    "lead 0: 3 4 5\n"
+    "lead 1: 6 7 8\n"
+    "lead 2: 11 12 13\n"
+    "alone: 9 10 14\n"
+    "choke: 1 2\n";
+
+static void own_plant(const uint8_t *sample, size_t sample_len)
+{
+    plant_open(&plant, 15, 3);
+    for (int v = 3; v < 15; v++)
+        plant_link(&plant, v < 6 ? 0 : v < 11 ? 1 : 2, v);
+    len = plant_write(&plant, file);
+    store_plant();
+    expect(common_listing, strlen(common_listing), "the listing without own limits", 0);
+    plant_set_own(&plant, 0, 0, 2);
+    plant_set_own(&plant, 1, 200, 0);
+    plant_set_own(&plant, 2, 0, 4);
+    len = plant_write(&plant, file);
+    tally(len == sample_len && memcmp(file, sample, len) == 0, "the sample with own limits is another plant");
+    store_plant();
+    expect(own_listing, strlen(own_listing), "the listing with own limits", 0);
+}
+
 /* Two linked gateways under both orders. */
 static void two_linked(void)
 {
@@ -151,32 +187,54 @@ static void small_plants(struct rng *r)
     }
 }
 
-/* The longest file that there is, and one a byte longer. */
-static void longest_file(struct rng *r)
+/* The longest file of either version, and one a byte longer. */
+static void longest_files(struct rng *r)
 {
     plant_open(&plant, MAX_GATEWAYS, 3);
     family_fill(&plant, r, MAX_LINKS);
     expect_listing("the longest file", plant.m);
     len++;
     expect_refused(9, "the longest file and a byte more", plant.m);
+    any_limits(&plant, r);
+    expect_listing("the longest file of version 2", plant.m);
+    len++;
+    expect_refused(9, "the longest file of version 2 and a byte more", plant.m);
+    len -= 2;
+    expect_refused(9, "the longest file of version 2 and a byte less", plant.m);
+}
+
+static void own_plants(struct rng *r)
+{
+    for (int i = 0; i < 3 * family_turn; i++) {
+        family_make_own(family_in_turn(i), &plant, r, rng_between(r, 1, 40));
+        expect_listing(family_in_turn(i)->name, i);
+    }
+    plant_set_own(&plant, plant.n / 2, 0, 17);
+    len = plant_write(&plant, file);
+    expect_refused(33, "a limit byte of 17", plant.n);
+    plant_set_own(&plant, plant.n / 2, 255, 1);
+    len = plant_write(&plant, file);
+    expect_refused(33, "a limit byte of 1", plant.n);
 }
 
 int main(int argc, char **argv)
 {
-    static uint8_t sample[100];
+    static uint8_t sample[100], own_sample[200];
     struct rng r = {7};
-    if (argc != 4)
+    if (argc != 5)
         return 2;
-    size_t sample_len = load(argv[3], sample, sizeof sample);
+    size_t sample_len = load(argv[3], sample, sizeof sample), own_len = load(argv[4], own_sample, sizeof own_sample);
     program = argv[1];
     if (chdir(argv[2]) != 0)
         return 2;
     document_plant(sample, sample_len);
+    own_plant(own_sample, own_len);
     two_linked();
     refused_files();
     missing_file();
     long_files();
     small_plants(&r);
-    longest_file(&r);
+    longest_files(&r);
+    own_plants(&r);
     return tally_end();
 }

@@ -7,6 +7,7 @@
 #include <string.h>
 #include <unistd.h>
 
+#include "any_limits.h"
 #include "families.h"
 #include "outside.h"
 #include "plan_groups.h"
@@ -62,8 +63,8 @@ static void wrong_texts(void)
         {"limit 17\n", "1: limit 17 is not 2 to 16"},
         {"limit 258\n", "1: limit 258 is not 2 to 16"},
         {"limit 2\nlimit 2\n", "2: \"limit\" stands in line 1 already"},
-        {"links 0 1\n", "1: \"links\" is none of gateways, limit, link, order"},
-        {"gateways 5\n0 1\n", "2: \"0\" is none of gateways, limit, link, order"},
+        {"links 0 1\n", "1: \"links\" is none of gateways, limit, link, order, version, own"},
+        {"gateways 5\n0 1\n", "2: \"0\" is none of gateways, limit, link, order, version, own"},
         {"limit 2\nlink 0 1\n", "2: \"link\" stands before the line \"gateways\""},
         {"limit 2\norder 0 1\n", "2: \"order\" stands before the line \"gateways\""},
         {"gateways 5\nlimit 2\nlink 0\n", "3: \"link\" takes two numbers"},
@@ -87,6 +88,32 @@ static void wrong_texts(void)
         expect_wrong(texts[i][0], texts[i][1]);
 }
 
+static void wrong_own_texts(void)
+{
+    static const char *const texts[][2] = {
+        {"version\n", "1: \"version\" takes one number"},
+        {"version 0\n", "1: version 0 is neither 1 nor 2"},
+        {"version 3\n", "1: version 3 is neither 1 nor 2"},
+        {"version 258\n", "1: version 258 is neither 1 nor 2"},
+        {"version 2\n\nversion 2\n", "3: \"version\" stands in line 1 already"},
+        {"version 2\nown 0 0 2\n", "2: \"own\" stands before the line \"gateways\""},
+        {"gateways 5\nown 0 0 2\nversion 2\n", "2: \"own\" has no line \"version 2\" before it"},
+        {"version 1\ngateways 5\nown 0 0 2\n", "3: \"own\" has no line \"version 2\" before it"},
+        {"version 2\ngateways 5\nown 0 2\n", "3: \"own\" takes three numbers"},
+        {"version 2\ngateways 5\nown 0 0 2 2\n", "3: \"own\" takes three numbers"},
+        {"version 2\ngateways 5\nown 0 0 x\n", "3: \"x\" is not a number from 0 on"},
+        {"version 2\ngateways 5\nown 5 0 2\n", "3: gateway 5 is not below 5 gateways"},
+        {"version 2\ngateways 5\nown 4 256 2\n", "3: kind 256 is not 0 to 255"},
+        {"version 2\ngateways 5\nown 4 0 1\n", "3: limit 1 is neither 0 nor 2 to 16"},
+        {"version 2\ngateways 5\nown 4 255 17\n", "3: limit 17 is neither 0 nor 2 to 16"},
+        {"version 2\ngateways 5\nown 4 255 256\n", "3: limit 256 is neither 0 nor 2 to 16"},
+        {"version 2\ngateways 5\nown 4 0 2\n\nown 04 0 2\n", "5: gateway 4 has a line \"own\" already, line 3"},
+        {"version 2\ngateways 5\nown 4 0 2\n", " there is no line \"limit\""},
+    };
+    for (size_t i = 0; i < sizeof texts / sizeof texts[0]; i++)
+        expect_wrong(texts[i][0], texts[i][1]);
+}
+
 /* One link more than there may be: all but the last as in the largest plant. */
 static void too_many_links(void)
 {
@@ -104,6 +131,17 @@ static void too_many_links(void)
     tally(ok, "8,193 links: status %d, said %s", status, said);
 }
 
+/* What is said of each gateway, from any of them on. One of which nothing is said needs no line. */
+static void write_own(FILE *f, const char *end, struct rng *r)
+{
+    int first = rng_below(r, plant.n);
+    for (int i = 0; i < plant.n; i++) {
+        int v = (first + i) % plant.n, kind = plant.kinds[v], byte = plant.limit_bytes[v];
+        if (kind > 0 || byte > 0 || rng_below(r, 4) == 0)
+            fprintf(f, "own %d %d %d%s", v, kind, byte, end);
+    }
+}
+
 /* What a text of the plant may look like: comments, blank lines, the limit early or late, the order in parts. */
 static void write_plant(struct rng *r)
 {
@@ -114,6 +152,10 @@ static void write_plant(struct rng *r)
     if (early)
         fprintf(f, "# a plant%slimit %d%s%s", end, plant.limit, end, end);
     fprintf(f, "  gateways\t%d # gateways%s", plant.n, end);
+    if (plant.version == 2) {
+        fprintf(f, "version 2%s", end);
+        write_own(f, end, r);
+    }
     for (int i = 0; i < plant.m; i++)
         fprintf(f, "link %d %d%s", plant.ends[i][0], plant.ends[i][1], end);
     fprintf(f, "order");
@@ -144,6 +186,34 @@ static void no_order(void)
     plant_open(&plant, 0, 2);
     write_text("gateways 0\nlimit 2\norder\n");
     expect_packed("no gateway");
+}
+
+/* No line for any gateway is as good as a line of zeros for each. */
+static void nothing_said(void)
+{
+    plant_open(&plant, 3, 2);
+    plant_link(&plant, 0, 2);
+    plant.version = 2;
+    write_text("version 2\ngateways 3\nlimit 2\nlink 0 2\n");
+    expect_packed("version 2 and no more");
+    write_text("gateways 3\nlimit 2\nlink 0 2\nversion 2\nown 2 0 0\nown 0 0 0\nown 1 0 0\n");
+    expect_packed("version 2 and zeros");
+    plant_forget_own(&plant);
+    write_text("version 1\ngateways 3\nlimit 2\nlink 0 2\n");
+    expect_packed("version 1");
+}
+
+static void own_plants(struct rng *r)
+{
+    for (int i = 0; i < family_turn; i++) {
+        family_make_own(family_in_turn(i), &plant, r, rng_between(r, 0, 200));
+        write_plant(r);
+        expect_packed(family_in_turn(i)->name);
+    }
+    family_largest(&plant, r, 50, 3, 2, MAX_LINKS);
+    any_limits(&plant, r);
+    write_plant(r);
+    expect_packed("the largest plant with own limits");
 }
 
 static void plants(struct rng *r)
@@ -178,8 +248,11 @@ int main(int argc, char **argv)
     script = argv[1];
     must(chdir(argv[2]) == 0, argv[2]);
     wrong_texts();
+    wrong_own_texts();
     too_many_links();
     no_order();
+    nothing_said();
+    own_plants(&(struct rng){47});
     plants(&r);
     kept_file();
     return tally_end();

@@ -29,7 +29,7 @@ static void beginnings(void)
 
 static void versions(void)
 {
-    static const int others[] = {0, 2, 3, 255, 256, 257, 513, 65535};
+    static const int others[] = {0, 3, 4, 255, 256, 257, 258, 512, 513, 65535};
     for (size_t i = 0; i < sizeof others / sizeof others[0]; i++) {
         base();
         put_number(file + 3, others[i]);

@@ -14,19 +14,9 @@
 
 static struct plant plant;
 
-static bool flow_agrees(const struct plant *p)
-{
-    int most[MAX_BRUTE + 1];
-    brute_most(p, most);
-    for (int k = 0; k <= p->n; k++)
-        if (flow_most(p, k) != most[k])
-            return false;
-    return true;
-}
-
 static void check(const char *what, int number)
 {
-    bool ok = flow_agrees(&plant);
+    bool ok = brute_agrees(&plant);
     tally(ok, "the flow on %s %d", what, number);
     if (!ok)
         plant_print(&plant);
@@ -48,6 +38,22 @@ static void some_of_six(struct rng *r)
         family_make(&families[i % family_count], &plant, r, MAX_BRUTE, 0);
         check("plant of six", i);
     }
+}
+
+/* A limit for each gateway: often more are covered than with T for all, or fewer. */
+static void some_with_own_limits(struct rng *r)
+{
+    int more = 0, fewer = 0;
+    for (int i = 0; i < 200 * family_count; i++) {
+        family_make_own(&families[i % family_count], &plant, r, i % 16 == 9 ? MAX_BRUTE : rng_between(r, 3, 5));
+        check("plant with own limits", i);
+        int most = flow_most(&plant, plant.n);
+        plant_forget_own(&plant);
+        more += most > flow_most(&plant, plant.n);
+        fewer += most < flow_most(&plant, plant.n);
+    }
+    tally(more >= 100 && fewer >= 20, "only %d plants of which more is covered by own limits, and %d of which less", more,
+          fewer);
 }
 
 /* A star of four round gateway 0, and a link 1-2; T is 3. */
@@ -190,7 +196,7 @@ static void least_by_hand(void)
     }
 }
 
-/* Any holders along links and within T, also such as no placings lead to; one at least is without. */
+/* Any holders along links and within limits, also such as no placings lead to; one at least is without. */
 static void any_holders(struct rng *r, int *holder, int *without)
 {
     int holds[MAX_BRUTE] = {0};
@@ -199,24 +205,29 @@ static void any_holders(struct rng *r, int *holder, int *without)
         holder[w] = NOBODY;
     for (int times = 10 * plant.n; times > 0; times--) {
         int w = rng_below(r, plant.n), u = rng_below(r, plant.n);
-        if (w == *without || holder[w] != NOBODY || holds[u] == plant.limit || !plant_has_link(&plant, u, w))
+        if (w == *without || holder[w] != NOBODY || holds[u] == plant.limits[u] || !plant_has_link(&plant, u, w))
             continue;
         holder[w] = u;
         holds[u]++;
     }
 }
 
-static void least_of_any(struct rng *r)
+/* With T for all, or with a limit for each gateway. */
+static void least_of_any(bool own, struct rng *r)
 {
     int holder[MAX_BRUTE], v, seen[MAX_BRUTE + 1] = {0};
     for (int i = 0; i < 20000; i++) {
-        family_make(&families[i % family_count], &plant, r, rng_between(r, 5, MAX_BRUTE), 2 + i % 7 / 6);
+        const struct family *f = &families[i % family_count];
+        if (own)
+            family_make_own(f, &plant, r, rng_between(r, 5, MAX_BRUTE));
+        else
+            family_make(f, &plant, r, rng_between(r, 5, MAX_BRUTE), 2 + i % 7 / 6);
         any_holders(r, holder, &v);
         int moved = brute_least(&plant, holder, v).moved;
         tally(least_moved(&plant, holder, v) == moved, "the least by the flow and by all holders, %d", i);
         seen[moved]++;
     }
-    for (int moved = 0; moved <= 3; moved++)
+    for (int moved = 0; moved <= (own ? 2 : 3); moved++)
         tally(seen[moved] >= 5, "only %d holders where %d is the least", seen[moved], moved);
 }
 
@@ -235,6 +246,8 @@ int main(void)
     every_graph(5, 2, &r);
     every_graph(5, 3, &r);
     some_of_six(&r);
-    least_of_any(&r);
+    least_of_any(false, &r);
+    some_with_own_limits(&r);
+    least_of_any(true, &r);
     return tally_end();
 }

@@ -6,6 +6,7 @@
 #include <sys/mman.h>
 
 #include "answer.h"
+#include "any_limits.h"
 #include "chains.h"
 #include "deep.h"
 #include "families.h"
@@ -244,6 +245,23 @@ static void stacks(struct rng *r)
     tally(explained >= 6, "only %d plants in which one alone was explained", explained);
 }
 
+/* The largest plant, the longest walk and the deepest search where each gateway has a limit of its own. */
+static void own_stacks(struct rng *r)
+{
+    plant_open(&plant, PLAN_GROUPS_GATEWAYS_MAX, 2);
+    family_fill(&plant, r, PLAN_GROUPS_LINKS_MAX);
+    any_limits(&plant, r);
+    check_stack("the largest plant with own limits");
+    plant_set_own(&plant, PLAN_GROUPS_GATEWAYS_MAX - 1, 0, 1);
+    check_stack("a plant with a limit that is refused");
+    chain_make_full(&plant, 341, 2);
+    limits_for_all(&plant, r, MAX_LIMIT);
+    tally(check_stack("the longest walk with own limits"), "one alone was not explained");
+    deep_make(&plant, deep_most(2), 2, PLACE_FREE);
+    limits_for_all(&plant, r, MAX_LIMIT);
+    check_stack("the deepest search with own limits");
+}
+
 /* A thread's own plants, planned again and again beside the other's. */
 struct side {
     struct job jobs[PLANTS], alone[PLANTS];
@@ -382,6 +400,7 @@ int main(void)
     struct rng r = {9};
     stacks(&r);
     deep_stacks();
+    own_stacks(&(struct rng){48});
     at_once(&r);
     shared(&r);
     return tally_end();

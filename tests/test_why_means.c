@@ -44,8 +44,8 @@ static const struct sets {
     {4, {3, 0, {2, 3, 4}, {0}}, "not exactly"},
     {4, {3, 1, {2, 3, 4}, {1}}, "not exactly"},
     {4, {3, 2, {2, 3, 4}, {0, 1}}, "not exactly"},
-    {4, {2, 1, {2, 4}, {0}}, "T times"},
-    {7, {4, 2, {2, 5, 6, 7}, {0, 1}}, "T times"},
+    {4, {2, 1, {2, 4}, {0}}, "sum of"},
+    {7, {4, 2, {2, 5, 6, 7}, {0, 1}}, "sum of"},
 };
 
 static void facts_by_hand(void)

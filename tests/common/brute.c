@@ -1,5 +1,6 @@
 #include "brute.h"
 
+#include "flow.h"
 #include "packing.h"
 
 static void count_list(const struct plant *p, const int *leader, int *most)
@@ -34,4 +35,14 @@ void brute_most(const struct plant *p, int *most)
     for (int k = 0; k <= p->n; k++)
         most[k] = 0;
     try_from(p, 0, leader, most);
+}
+
+bool brute_agrees(const struct plant *p)
+{
+    int most[MAX_BRUTE + 1];
+    brute_most(p, most);
+    for (int k = 0; k <= p->n; k++)
+        if (flow_most(p, k) != most[k])
+            return false;
+    return true;
 }

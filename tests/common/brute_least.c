@@ -43,7 +43,7 @@ static void try_from(struct trial *t, int w, int moved)
         return;
     }
     for (int u = 0; u < t->plant->n; u++) {
-        if (t->holds[u] == t->plant->limit || !plant_has_link(t->plant, u, w))
+        if (t->holds[u] == t->plant->limits[u] || !plant_has_link(t->plant, u, w))
             continue;
         t->holds[u]++;
         try_from(t, w + 1, moved + (t->before[w] != u));

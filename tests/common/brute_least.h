@@ -13,8 +13,8 @@ struct fewest {
 bool brute_can_try(const struct plant *p);
 
 /*
- * Over all holders, along links and within T, that hold exactly those held and v, which is held by nobody yet. Both
- * numbers are 0 where there are none.
+ * Over all holders, along links and within each one's limit, that hold exactly those held and v, which is held by nobody
+ * yet. Both numbers are 0 where there are none.
  */
 struct fewest brute_least(const struct plant *p, const int *holder, int v);
 

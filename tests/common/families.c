@@ -2,6 +2,7 @@
 
 #include <string.h>
 
+#include "any_limits.h"
 #include "orders.h"
 #include "shapes.h"
 
@@ -27,6 +28,14 @@ const struct family families[] = {
 const int family_count = sizeof families / sizeof families[0];
 
 const struct family scarce = {"too few places", link_scarce, false};
+
+const int family_turn = sizeof families / sizeof families[0] + 1;
+
+const struct family *family_in_turn(int i)
+{
+    i %= family_turn;
+    return i < family_count ? &families[i] : &scarce;
+}
 
 const struct family *family_named(const char *name)
 {
@@ -71,6 +80,16 @@ void family_fill(struct plant *p, struct rng *r, int m)
         plant_link(p, rng_below(r, p->n), rng_below(r, p->n));
 }
 
+/* What is said of gateway v is said of gateway name[v]. */
+static void rename_own(struct plant *p, const int *name)
+{
+    uint8_t kinds[MAX_GATEWAYS], limit_bytes[MAX_GATEWAYS];
+    memcpy(kinds, p->kinds, sizeof kinds);
+    memcpy(limit_bytes, p->limit_bytes, sizeof limit_bytes);
+    for (int v = 0; v < p->n; v++)
+        plant_set_own(p, name[v], kinds[v], limit_bytes[v]);
+}
+
 /* Gateway v becomes gateway name[v], so that no number means anything. */
 static void rename_gateways(struct plant *p, struct rng *r)
 {
@@ -81,6 +100,8 @@ static void rename_gateways(struct plant *p, struct rng *r)
             p->ends[i][side] = name[p->ends[i][side]];
     for (int i = 0; i < p->n; i++)
         p->order[i] = name[p->order[i]];
+    if (p->version == 2)
+        rename_own(p, name);
 }
 
 static void swap(int *a, int *b)
@@ -119,9 +140,9 @@ static int choose_limit(struct rng *r)
     return i < 8 ? often[i] : rng_between(r, 2, MAX_LIMIT);
 }
 
-void family_make(const struct family *f, struct plant *p, struct rng *r, int n, int limit)
+/* Links an opened plant. */
+static void make(const struct family *f, struct plant *p, struct rng *r)
 {
-    plant_open(p, n, limit == 0 ? choose_limit(r) : limit);
     f->link(p, r);
     if (rng_below(r, 4) > 0)
         rename_gateways(p, r);
@@ -130,6 +151,19 @@ void family_make(const struct family *f, struct plant *p, struct rng *r, int n, 
     if (rng_below(r, 4) > 0)
         shuffle_links(p, r);
     choose_order(p, r);
+}
+
+void family_make(const struct family *f, struct plant *p, struct rng *r, int n, int limit)
+{
+    plant_open(p, n, limit == 0 ? choose_limit(r) : limit);
+    make(f, p, r);
+}
+
+void family_make_own(const struct family *f, struct plant *p, struct rng *r, int n)
+{
+    plant_open(p, n, choose_limit(r));
+    any_limits(p, r);
+    make(f, p, r);
 }
 
 void family_largest(struct plant *p, struct rng *r, int hubs, int limit, int each, int m)

@@ -20,6 +20,13 @@ extern const struct family scarce;
 /* A plant of n gateways of one family, mostly with gateways, links and order shuffled; limit 0 for any. */
 void family_make(const struct family *f, struct plant *p, struct rng *r, int n, int limit);
 
+/* The same in a file of version 2, with a limit for each gateway by chance; the shape goes by these. */
+void family_make_own(const struct family *f, struct plant *p, struct rng *r, int n);
+
+/* One after the other, and then from the first again: all families and the one not among them; how many these are. */
+const struct family *family_in_turn(int i);
+extern const int family_turn;
+
 /* The family of that name. */
 const struct family *family_named(const char *name);
 

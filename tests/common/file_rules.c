@@ -2,6 +2,7 @@
 
 #include <string.h>
 
+#include "own_limit.h"
 #include "placing.h"
 
 struct header {
@@ -23,7 +24,7 @@ static int header_refusal(const uint8_t *file, size_t len, struct header *h)
     read_header(file, h);
     if (memcmp(file, "PLT", 3) != 0)
         return 7;
-    if (h->version != 1)
+    if (h->version != 1 && h->version != 2)
         return 8;
     if (h->n > MAX_GATEWAYS)
         return 1;
@@ -31,7 +32,7 @@ static int header_refusal(const uint8_t *file, size_t len, struct header *h)
         return 2;
     if (h->m > MAX_LINKS)
         return 12;
-    if (len != (size_t)HEADER + 4 * (size_t)h->m + 2 * (size_t)h->n)
+    if (len != (size_t)HEADER + 4 * (size_t)h->m + (size_t)(h->version == 1 ? 2 * h->n : 4 * h->n))
         return 9;
     return 0;
 }
@@ -77,19 +78,34 @@ static int order_refusal(const uint8_t *at, const struct header *h, struct plant
     return 0;
 }
 
+/* The kinds and limit bytes of version 2, which stand at the end. Any gateway's may be the one at fault. */
+static int limits_refusal(const uint8_t *at, const struct header *h, struct plant *p)
+{
+    for (int v = 0; v < h->n; v++, at += 2) {
+        if (own_limit_refused(at[1]))
+            return 33;
+        plant_set_own(p, v, at[0], at[1]);
+    }
+    p->version = 2;
+    return 0;
+}
+
 int file_own_refusal(const uint8_t *file, size_t len, struct plant *p)
 {
     struct header h;
     int refusal = header_refusal(file, len, &h);
     if (refusal != 0)
         return refusal;
+    plant_open(p, h.n, h.limit);
     refusal = links_refusal(file + HEADER, &h, p);
     if (refusal != 0)
         return refusal;
-    p->n = h.n;
-    p->limit = h.limit;
     p->m = h.m;
-    return order_refusal(file + HEADER + 4 * h.m, &h, p);
+    const uint8_t *order = file + HEADER + 4 * h.m;
+    refusal = order_refusal(order, &h, p);
+    if (refusal != 0 || h.version == 1)
+        return refusal;
+    return limits_refusal(order + 2 * h.n, &h, p);
 }
 
 int file_refusal_after(const uint8_t *file, size_t len, uint32_t placings, size_t out_len, struct plant *p)

@@ -1,4 +1,4 @@
-/* Document 01's rules for a plant file, in its turn, and those of 02: which number any bytes are refused with. */
+/* Document 01's rules for a plant file, in its turn, and those of 02, for both versions: the number that any bytes give. */
 #ifndef FILE_RULES_H
 #define FILE_RULES_H
 

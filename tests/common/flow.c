@@ -3,7 +3,7 @@
 #include "placing.h"
 
 /*
- * Each gateway v is split into v1 and v2. Arcs: from the source to each v1, with room for T; from u1 to
+ * Each gateway v is split into v1 and v2. Arcs: from the source to each v1, with room for v's limit; from u1 to
  * v2 and from v1 to u2 for each link u-v; from v2 to the sink, with room for one. A unit of flow along
  * u1-v2 is 000's arc from u to v. Only the first k of the order have their arc to the sink, so that the
  * value counts no other gateway; by 000's Theorem 3 it is the most of them that a packing can cover.
@@ -67,7 +67,7 @@ static void build(struct network *g, const struct plant *p, int k)
     for (int x = 0; x < g->nodes; x++)
         g->first[x] = NO_ARC;
     for (int v = 0; v < p->n; v++)
-        add_arc(g, SOURCE, giving(v), p->limit);
+        add_arc(g, SOURCE, giving(v), p->limits[v]);
     for (int i = 0; i < p->m; i++) {
         int a = p->ends[i][0], b = p->ends[i][1];
         add_arc(g, giving(a), taking(b), UNBOUNDED);

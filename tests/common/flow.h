@@ -7,7 +7,7 @@
 
 #include "plant.h"
 
-/* The most of the first k of the order that a T-star packing can cover. */
+/* The most of the first k of the order that a packing can cover, within each one's own limit. */
 int flow_most(const struct plant *p, int k);
 
 /* The holders of a flow that covers the most of all gateways: holder[v] is who holds v, or NOBODY. Returns the most. */

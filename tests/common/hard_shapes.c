@@ -16,19 +16,31 @@ void link_crowd(struct plant *p, struct rng *r)
     rng_shuffle(r, p->order, p->n);
 }
 
+/* Which of the hubs holds that leaf, where hub 0 holds the first leaves, as many as it can, and so on. */
+static int hub_of(const struct plant *p, int leaf)
+{
+    int hub = 0;
+    for (; leaf >= p->limits[hub]; hub++)
+        leaf -= p->limits[hub];
+    return hub;
+}
+
 /*
  * Hubs are filled one after the other, and each leaf is also linked to the hub after its own; the last
  * hub keeps a few places. A leaf more at hub 0 can then only be held if leaves move all the way up.
  */
 void link_stairs(struct plant *p, struct rng *r)
 {
-    int hubs = 1 + p->n / (p->limit + 2);
-    int more = p->limit * hubs - rng_between(r, 1, p->limit); /* leaves from here on are too many */
+    int hubs = 1, places = p->limits[0];
+    for (int rest = p->n; rest >= p->limits[hubs - 1] + 2; places += p->limits[hubs++])
+        rest -= p->limits[hubs - 1] + 2;
+    int more = places - rng_between(r, 1, p->limit); /* leaves from here on are too many */
     for (int v = hubs; v < p->n; v++) {
         int leaf = v - hubs;
-        plant_link(p, v, leaf < more ? leaf / p->limit : 0);
+        int hub = leaf < more ? hub_of(p, leaf) : 0;
+        plant_link(p, v, hub);
         if (leaf < more)
-            plant_link(p, v, (leaf / p->limit + 1) % hubs);
+            plant_link(p, v, (hub + 1) % hubs);
     }
     for (int i = 0; i < p->n; i++)
         p->order[i] = (i + hubs) % p->n;
@@ -36,8 +48,8 @@ void link_stairs(struct plant *p, struct rng *r)
 
 /*
  * The gateways from 0 to before ring come to hold each other round the ring, 0 holding 1 and so on. So
- * that 1 does not take 0, it is made full by then: by limit - 1 helpers, each of which holds another and
- * so leads it, and by gateway 2. Gateway 0 is placed last of the ring.
+ * that 1 does not take 0, it is made full by then: by helpers, one fewer than its limit, each of which
+ * holds another and so leads it, and by gateway 2. Gateway 0 is placed last of the ring.
  */
 static void link_cycle(struct plant *p, int ring, int helpers)
 {
@@ -57,7 +69,7 @@ static void link_cycle(struct plant *p, int ring, int helpers)
 
 void link_bare_cycle(struct plant *p, struct rng *r)
 {
-    int helpers = p->limit - 1;
+    int helpers = p->limits[1] - 1;
     int ring = p->n - 2 * helpers;
     if (ring < 3)
         link_dense(p, r);
@@ -68,7 +80,7 @@ void link_bare_cycle(struct plant *p, struct rng *r)
 /* The cycle with trees hanging from it, so that some on it lead. */
 void link_hung_cycle(struct plant *p, struct rng *r)
 {
-    int helpers = p->limit - 1;
+    int helpers = p->limits[1] - 1;
     int most = p->n - 2 * helpers;
     if (most < 3) {
         link_dense(p, r);

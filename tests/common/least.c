@@ -4,10 +4,10 @@
 
 /*
  * What is left of the network where the holders are its flow: arcs from the source to each gateway that gives and holds
- * fewer than T, from each that gives to each neighbour that it could take, and back from each that is held to its holder.
- * A way from the source to v brings in one unit more. To take a gateway costs 1, as it has another holder then; to let it
- * go costs nothing, as another takes it. The flow that is there has cost nothing, so that it is a cheapest of its size,
- * and on a cheapest flow a cheapest way leads to a cheapest flow of one unit more.
+ * fewer than its limit, from each that gives to each neighbour that it could take, and back from each that is held to its
+ * holder. A way from the source to v brings in one unit more. To take a gateway costs 1, as it has another holder then; to
+ * let it go costs nothing, as another takes it. The flow that is there has cost nothing, so that it is a cheapest of its
+ * size, and on a cheapest flow a cheapest way leads to a cheapest flow of one unit more.
  */
 
 enum { SOURCE = 0, MAX_NODES = 1 + 2 * MAX_GATEWAYS, MAX_ARCS = 2 * MAX_GATEWAYS + 2 * MAX_LINKS, FAR = 1 << 20 };
@@ -54,7 +54,7 @@ static void build(struct rest *g, const struct plant *p, const int *holder)
         add_arc(g, taking(w), giving(holder[w]), 0);
     }
     for (int u = 0; u < p->n; u++)
-        if (holds[u] < p->limit)
+        if (holds[u] < p->limits[u])
             add_arc(g, SOURCE, giving(u), 0);
     for (int i = 0; i < p->m; i++) {
         add_take(g, holder, p->ends[i][0], p->ends[i][1]);

@@ -7,7 +7,7 @@
 
 #include "plant.h"
 
-/* For holders along links and within T that leave v without one: the fewest, v included; 0 where v can't be held too. */
+/* For holders along links and within limits that leave v without one: the fewest, v included; 0 where v can't be held. */
 int least_moved(const struct plant *p, const int *holder, int v);
 
 #endif

@@ -41,7 +41,7 @@ static void join(const struct plant *p, struct rng *r, int a, int b, int *leader
     if (leader[a] != a)
         leave(p, a, leader);
     leader[a] = leader[b] = a;
-    if (count_members(p, leader, a) > p->limit)
+    if (count_members(p, leader, a) > p->limits[a])
         leader[other_member(p, r, leader, a, b)] = ALONE;
 }
 

@@ -5,7 +5,7 @@ static bool leads_itself(const struct plant *p, const int *leader, int v)
     int members = 0;
     for (int w = 0; w < p->n; w++)
         members += w != v && leader[w] == v;
-    return 1 <= members && members <= p->limit;
+    return 1 <= members && members <= p->limits[v];
 }
 
 static bool entry_is_good(const struct plant *p, const int *leader, int v)
@@ -40,7 +40,7 @@ int packing_difference(const struct plant *p, const int *choke)
     }
     for (int v = 0; v < p->n; v++) {
         if (choke[v])
-            difference -= p->limit;
+            difference -= p->limits[v];
         else if (!linked[v])
             difference += 1;
     }

@@ -4,10 +4,10 @@
 
 #include "answer.h"
 
-/* Whether a leader list is a T-star packing (document 000, Definition 1, written as a list). */
+/* Whether a leader list is a packing (document 000, Definition 1, written as a list), within each leader's own limit. */
 bool packing_is(const struct plant *p, const int *leader);
 
-/* The gateways that have no link once the set is taken away, less T times the set's size. */
+/* The gateways that have no link once the set is taken away, less the sum of the set's limits. */
 int packing_difference(const struct plant *p, const int *choke);
 
 /* How many of the n entries are ALONE. */

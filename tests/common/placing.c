@@ -10,15 +10,17 @@ struct search {
     const int *holder;
     int queue[MAX_GATEWAYS];
     int head, tail;
+    bool takes; /* whether the search ends where a neighbour has a place free */
     int seen_from[MAX_GATEWAYS]; /* NOBODY where not yet seen */
 };
 
-static void begin(struct search *s, const struct plant *p, const struct neighbours *near, const int *holder)
+static void begin(struct search *s, const struct plant *p, const struct neighbours *near, const int *holder, bool takes)
 {
     s->plant = p;
     s->near = near;
     s->holder = holder;
     s->head = s->tail = 0;
+    s->takes = takes;
     for (int v = 0; v < p->n; v++)
         s->seen_from[v] = NOBODY;
 }
@@ -31,8 +33,13 @@ static void join(struct search *s, int u)
             s->queue[s->tail++] = v;
 }
 
-/* Goes on until a neighbour that holds fewer than limit is seen, and returns it; NOBODY where the queue runs out. */
-static int search(struct search *s, int limit)
+static bool has_place(const struct search *s, int u)
+{
+    return holders_count(s->plant->n, s->holder, u) < s->plant->limits[u];
+}
+
+/* Goes on until a neighbour that can take one more is seen, and returns it; NOBODY where the queue runs out. */
+static int search(struct search *s)
 {
     while (s->head < s->tail) {
         int x = s->queue[s->head++];
@@ -41,7 +48,7 @@ static int search(struct search *s, int limit)
             if (s->seen_from[u] != NOBODY)
                 continue;
             s->seen_from[u] = x;
-            if (holders_count(s->plant->n, s->holder, u) < limit)
+            if (s->takes && has_place(s, u))
                 return u;
             join(s, u);
         }
@@ -66,9 +73,9 @@ static int place(const struct plant *p, const struct neighbours *near, int v, in
     static struct search s;
     int before[MAX_GATEWAYS];
     memcpy(before, holder, (size_t)p->n * sizeof before[0]);
-    begin(&s, p, near, holder);
+    begin(&s, p, near, holder, true);
     s.queue[s.tail++] = v;
-    int u = search(&s, p->limit);
+    int u = search(&s);
     if (u != NOBODY)
         take(&s, u, v, holder);
     return holders_changed(p->n, before, holder);
@@ -107,10 +114,10 @@ int placing_one(const struct plant *p, int v, int *holder)
     return place(p, &near, v, holder);
 }
 
-/* Walks on from what stands in the queue; nobody holds fewer than 0, so that nothing is taken. */
+/* Walks on from what stands in the queue until it runs out. */
 static void walk(struct search *s, int *seen)
 {
-    search(s, 0);
+    search(s);
     for (int u = 0; u < s->plant->n; u++)
         seen[u] = s->seen_from[u] != NOBODY;
 }
@@ -120,7 +127,7 @@ void placing_choke(const struct plant *p, const int *holder, int *choke)
     static struct neighbours near;
     static struct search s;
     neighbours_gather(p, &near);
-    begin(&s, p, &near, holder);
+    begin(&s, p, &near, holder, false);
     join(&s, NOBODY);
     walk(&s, choke);
 }
@@ -130,7 +137,7 @@ void placing_walk(const struct plant *p, const int *holder, int v, int *queued, 
     static struct neighbours near;
     static struct search s;
     neighbours_gather(p, &near);
-    begin(&s, p, &near, holder);
+    begin(&s, p, &near, holder, false);
     s.queue[s.tail++] = v;
     walk(&s, seen);
     for (int x = 0; x < p->n; x++)

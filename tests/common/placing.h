@@ -1,4 +1,4 @@
-/* Document 01's "Placing" and the choke set's walk, as their paragraphs say. The plain reference. */
+/* Document 01's "Placing" and the choke set's walk, as their paragraphs say, by own limits. The plain reference. */
 #ifndef PLACING_H
 #define PLACING_H
 

@@ -3,6 +3,8 @@
 #include <stdio.h>
 #include <string.h>
 
+#include "own_limit.h"
+
 void put_number(uint8_t *at, int number)
 {
     at[0] = (uint8_t)(number % 256);
@@ -21,6 +23,24 @@ void plant_open(struct plant *p, int n, int limit)
     p->m = 0;
     for (int v = 0; v < n; v++)
         p->order[v] = v;
+    plant_forget_own(p);
+}
+
+void plant_forget_own(struct plant *p)
+{
+    p->version = 1;
+    for (int v = 0; v < MAX_GATEWAYS; v++) { /* past n too, where shapes look that have too few gateways */
+        p->limits[v] = p->limit;
+        p->kinds[v] = p->limit_bytes[v] = 0;
+    }
+}
+
+void plant_set_own(struct plant *p, int v, int kind, int limit_byte)
+{
+    p->version = 2;
+    p->kinds[v] = (uint8_t)kind;
+    p->limit_bytes[v] = (uint8_t)limit_byte;
+    p->limits[v] = own_limit(p->limit, kind, limit_byte);
 }
 
 bool plant_has_link(const struct plant *p, int a, int b)
@@ -51,11 +71,16 @@ void plant_fill(struct plant *p, int n, int limit, int m, const int (*ends)[2], 
         p->order[i] = order[i];
 }
 
+size_t plant_file_size(int version, int n, int m)
+{
+    return (size_t)HEADER + 4 * (size_t)m + (version == 2 ? 4 : 2) * (size_t)n;
+}
+
 size_t plant_write(const struct plant *p, uint8_t *file)
 {
     uint8_t *at = file;
     memcpy(at, "PLT", 3);
-    put_number(at + 3, 1);
+    put_number(at + 3, p->version);
     put_number(at + 5, p->n);
     at[7] = (uint8_t)p->limit;
     put_number(at + 8, p->m);
@@ -66,6 +91,10 @@ size_t plant_write(const struct plant *p, uint8_t *file)
     }
     for (int i = 0; i < p->n; i++, at += 2)
         put_number(at, p->order[i]);
+    for (int v = 0; v < p->n && p->version == 2; v++) {
+        *at++ = p->kinds[v];
+        *at++ = p->limit_bytes[v];
+    }
     return (size_t)(at - file);
 }
 
@@ -79,6 +108,10 @@ void plant_print(const struct plant *p)
         printf(", order");
         for (int i = 0; i < p->n; i++)
             printf(" %d", p->order[i]);
+        if (p->version == 2)
+            printf(", limits");
+        for (int v = 0; v < p->n && p->version == 2; v++)
+            printf(" %d", p->limits[v]);
     }
     printf("\n");
 }

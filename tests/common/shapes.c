@@ -118,7 +118,9 @@ void link_near_tree(struct plant *p, struct rng *r)
  */
 void link_scarce(struct plant *p, struct rng *r)
 {
-    int hubs = (p->n - 1) / (p->limit + 1);
+    int hubs = 0;
+    for (int rest = p->n - 1; rest > p->limits[hubs]; hubs++)
+        rest -= p->limits[hubs] + 1;
     for (int v = hubs; v < p->n && hubs > 0; v++)
         for (int times = rng_between(r, 1, 2); times > 0; times--)
             plant_link(p, rng_below(r, hubs), v);

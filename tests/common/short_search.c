@@ -14,11 +14,11 @@ struct search {
 
 static bool find_holder(struct search *s, int v);
 
-/* Makes sure that u holds fewer than T: by now, or since one that it holds finds another holder. */
+/* Makes sure that u holds fewer than its limit: by now, or since one that it holds finds another holder. */
 static bool free_place(struct search *s, int u)
 {
     int n = s->plant->n;
-    if (holders_count(n, s->holder, u) < s->plant->limit)
+    if (holders_count(n, s->holder, u) < s->plant->limits[u])
         return true;
     for (int x = 0; x < n; x++)
         if (s->holder[x] == u && find_holder(s, x))

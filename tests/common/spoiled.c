@@ -27,6 +27,11 @@ uint8_t *order_at(int i)
     return file + HEADER + 4 * get_number(file + 8) + 2 * i;
 }
 
+uint8_t *own_at(int v)
+{
+    return order_at(get_number(file + 5)) + 2 * v;
+}
+
 void put_link(int i, int a, int b)
 {
     put_number(link_at(i), a);
@@ -90,16 +95,29 @@ void whole(int n, int limit, int m)
     put_lists(n, put_links(m));
     for (int i = 0; i < n; i++)
         put_number(order_at(i), i);
-    len = (size_t)HEADER + 4 * (size_t)m + 2 * (size_t)n;
+    len = plant_file_size(1, n, m);
     out_len = 3 * (size_t)n + 4;
     why_len = 4 * (size_t)n + 4;
     placings = (uint32_t)n;
     gateway = n > 0 ? (uint32_t)n - 1 : 0;
 }
 
+void whole_2(int n, int limit, int m)
+{
+    whole(n, limit, m);
+    put_number(file + 3, 2);
+    memset(own_at(0), 0, 2 * (size_t)n);
+    len = plant_file_size(2, n, m);
+}
+
 void base(void)
 {
     whole(N, 3, LINKS);
+}
+
+void base_2(void)
+{
+    whole_2(N, 3, LINKS);
 }
 
 static void compare(const char *call, int by_rules, int number, const char *what, int which)

@@ -17,9 +17,10 @@ extern size_t why_len;    /* its out_len */
 extern uint8_t leaders[2 * MORE], choke[MORE];
 extern size_t leaders_len, choke_len;
 
-/* Where a link's or the order's numbers stand in the file. */
+/* Where a link's or the order's numbers stand in the file, and in one of version 2 a gateway's kind and limit byte. */
 uint8_t *link_at(int i);
 uint8_t *order_at(int i);
+uint8_t *own_at(int v);
 
 void put_link(int i, int a, int b);
 
@@ -32,8 +33,12 @@ void put_leader(int v, int number);
  */
 void whole(int n, int limit, int m);
 
-/* The accepted file that most examples spoil. */
+/* The same in version 2, where all kinds and limit bytes are zero. */
+void whole_2(int n, int limit, int m);
+
+/* The accepted file that most examples spoil, and the same in version 2. */
 void base(void);
+void base_2(void);
 
 /* Two tests, at either side of the lent areas: plan_groups_after and the rules both give the number. */
 void expect_after(int number, const char *what, int which);

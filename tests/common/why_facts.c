@@ -55,6 +55,14 @@ static bool are_the_linked(const struct plant *p, const bool *in_first, const bo
     return true;
 }
 
+static int limits_together(const struct plant *p, const int *set, int count)
+{
+    int sum = 0;
+    for (int i = 0; i < count; i++)
+        sum += p->limits[set[i]];
+    return sum;
+}
+
 const char *why_fault(const struct plant *p, const int *leader, int gateway, const struct why *w)
 {
     bool in_first[MAX_GATEWAYS] = {false}, in_second[MAX_GATEWAYS] = {false};
@@ -72,8 +80,8 @@ const char *why_fault(const struct plant *p, const int *leader, int gateway, con
         return "two of the first set are linked";
     if (!are_the_linked(p, in_first, in_second))
         return "the second set is not exactly those linked to the first";
-    if (w->a != p->limit * w->b + 1)
-        return "the first set's size is not T times the second's and one more";
+    if (w->a != limits_together(p, w->second, w->b) + 1)
+        return "the first set's size is not the sum of the second's limits and one more";
     return NULL;
 }
 

@@ -9,8 +9,9 @@ const char *why_fault(const struct plant *p, const int *leader, int gateway, con
 
 /*
  * For sets without a fault: whether nothing can be left out of them. All of the first but one are covered, and only those of
- * the second can lead so many: each leads T of them and nobody else. So from the gateway to all that are linked to it, from
- * these to all whom they lead, and so on, one never leaves the sets, and must come to all that is in them.
+ * the second can lead so many: each leads as many of them as it can and nobody else. So from the gateway to all that are
+ * linked to it, from these to all whom they lead, and so on, one never leaves the sets, and must come to all that is in
+ * them.
  */
 bool why_is_smallest(const struct plant *p, const int *leader, int gateway, const struct why *w);
 

@@ -9,7 +9,7 @@ use lib.ListN.{length, take, length-take}
 use lib.Seq.{getD-take}
 use borrow.Author.Tests.{ltb-true, ltb-false, lt-ltb, le-ltb}
 use Rattle.packing.specs.Count.{any}
-use Rattle.packing.specs.Plant.{at, common, linked}
+use Rattle.packing.specs.Plant.{at, linked}
 use Rattle.packing.specs.Grouping.{isGrouping}
 use Rattle.packing.specs.Choke.{isDifference}
 use Rattle.packing.specs.Refusals.{firstOf}
@@ -17,7 +17,7 @@ use Rattle.packing.proofs.Tests.{by-bool, any-ext}
 use Rattle.packing.proofs.Turns.{says-iff}
 use Rattle.packing.proofs.Checks.{says-grouping, says-difference, alone-below}
 use Rattle.packing.proofs.Below.{grouping-limits, difference-limits, grouping-below, difference-below}
-use Rattle.plant_file.specs.PlantFile.{fileN, fileT, fileLinks, fileRefusal}
+use Rattle.plant_file.specs.PlantFile.{fileN, fileLinks, fileLimit, fileRefusal}
 use Rattle.checker.specs.Check.{inSet, aloneCount, leadersOff, chokeOff, listsRefusal, checkRefusal}
 use Rattle.checker.specs.Claim.{FirstOnly}
 
@@ -73,4 +73,4 @@ module _ (n : ℕ) (leaders choke : List ℕ) where
 
 pub first-only : FirstOnly
 unfolding FirstOnly checkRefusal
-first-only file leaders choke = ap (firstOf (fileRefusal file)) (lists-first (fileN file) leaders choke (common (fileT file)) (linked (fileLinks file)))
+first-only file leaders choke = ap (firstOf (fileRefusal file)) (lists-first (fileN file) leaders choke (fileLimit file) (linked (fileLinks file)))

@@ -9,7 +9,7 @@ use lib.Dec.{eqb, ltb}
 use lib.ListN.{length}
 use borrow.Author.Tests.{eqb-true, eqb-false, ltb-false, le-ltb, not-false}
 use Rattle.packing.specs.Count.{any}
-use Rattle.packing.specs.Plant.{at, common, linked}
+use Rattle.packing.specs.Plant.{at, linked}
 use Rattle.packing.specs.Grouping.{isGrouping}
 use Rattle.packing.proofs.Tests.{by-bool, not-test, or-false-l, or-false-r, any-none, any-fails}
 use Rattle.packing.proofs.Refusals.{refuse-none, first-none}
@@ -18,9 +18,10 @@ use Rattle.packing.proofs.Links.{linked-sym}
 use Rattle.packing.proofs.Groupings.{Sym, Loopless}
 use Rattle.packing.proofs.Checks.{says-grouping, says-difference, difference-most, covered-alone, alone-below}
 use Rattle.packing.proofs.Below.{grouping-below}
-use Rattle.plant_file.specs.PlantFile.{fileN, fileT, fileLinks, fileRefusal}
+use Rattle.plant_file.specs.PlantFile.{fileN, fileLinks, fileLimit, fileRefusal}
 use Rattle.plant_file.specs.FilePlant.{GroupingOf}
-use Rattle.plant_file.proofs.Accepted.{file-allowed, file-ends}
+use Rattle.plant_file.proofs.Accepted.{file-ends}
+use Rattle.plant_file.proofs.GatewayLimits.{file-limits-range}
 use Rattle.checker.specs.Check.{inSet, aloneCount, leadersOff, chokeOff, listsRefusal, checkRefusal}
 use Rattle.checker.specs.Claim.{Accepted, AcceptsExactly, CoversMost, AcceptedCoversMost, Best, OneChokeList}
 
@@ -28,8 +29,8 @@ pub bit-cases : (x : ℕ) → x ≤ 1 → (x ≡ 0) ⊎ (x ≡ 1)
 bit-cases x l = by-bool (eqb x 0) (λ e. inl (eqb-true x 0 e)) (λ e. let some : x ≡ 0 → ⊥ = eqb-false x 0 e in inr (omega arith))
 
 module _ (file leaders choke : List ℕ) where
-  groups : Says (isGrouping (fileN file) (common (fileT file)) (linked (fileLinks file)) (at leaders)) (GroupingOf file (at leaders))
-  groups = says-grouping (fileN file) (common (fileT file)) (linked (fileLinks file)) (at leaders)
+  groups : Says (isGrouping (fileN file) (fileLimit file) (linked (fileLinks file)) (at leaders)) (GroupingOf file (at leaders))
+  groups = says-grouping (fileN file) (fileLimit file) (linked (fileLinks file)) (at leaders)
 
   abbrev above : ℕ → Bool
   above v = ltb 1 (at choke v)
@@ -49,7 +50,7 @@ module _ (file leaders choke : List ℕ) where
         grouping = groups .holds (not-false _ (or-false-r (ltb (length leaders) (fileN file)) _ packs));
         bytes = ltb-false (length choke) (fileN file) (or-false-l _ _ bytes);
         zero-or-one = λ v l. bit-cases (at choke v) (ltb-false 1 (at choke v) (any-fails (fileN file) above (or-false-r (ltb (length choke) (fileN file)) _ bytes) v l));
-        difference = says-difference (fileN file) (common (fileT file)) (linked (fileLinks file)) (inSet choke) (aloneCount (fileN file) (at leaders)) .holds (not-false _ (or-false-r (ltb (length choke) (fileN file) || any (fileN file) above) _ chokes));
+        difference = says-difference (fileN file) (fileLimit file) (linked (fileLinks file)) (inSet choke) (aloneCount (fileN file) (at leaders)) .holds (not-false _ (or-false-r (ltb (length choke) (fileN file) || any (fileN file) above) _ chokes));
       }
 
   pub of-accepted : Accepted file (length leaders) (at leaders) choke → checkRefusal file leaders choke ≡ 0
@@ -61,7 +62,7 @@ module _ (file leaders choke : List ℕ) where
         says-true groups (a .grouping),
         le-ltb (length choke) (fileN file) (a .bytes),
         any-none (fileN file) above (λ v l. le-ltb 1 (at choke v) (⊎-elim (λ q. omega arith) (λ q. omega arith) (a .zero-or-one v l))),
-        says-true (says-difference (fileN file) (common (fileT file)) (linked (fileLinks file)) (inSet choke) (aloneCount (fileN file) (at leaders))) (a .difference),
+        says-true (says-difference (fileN file) (fileLimit file) (linked (fileLinks file)) (inSet choke) (aloneCount (fileN file) (at leaders))) (a .difference),
       )
 
 pub accepts-exactly : AcceptsExactly
@@ -76,15 +77,14 @@ module _ (file : List ℕ) (z : fileRefusal file ≡ 0) where
   file-loopless : Loopless (fileN file) (linked (fileLinks file))
   file-loopless x l = not-test (linked (fileLinks file) x x) (λ e. file-ends file z x x e .2 refl)
 
-  file-limits : (u : ℕ) → u < fileN file → 1 ≤ common (fileT file) u
-  unfolding common
-  file-limits u l = omega (arith, file-allowed file z .least)
+  file-limits : (u : ℕ) → u < fileN file → 1 ≤ fileLimit file u
+  file-limits u l = omega (arith, file-limits-range file z u l .0)
 
 pub accepted-covers-most : AcceptedCoversMost
 unfolding AcceptedCoversMost aloneCount
 accepted-covers-most file leaders choke z other group =
     let a = accepted-of file leaders choke z in
-    difference-most (fileN file) (common (fileT file)) (linked (fileLinks file)) (file-symmetric file (a .of-file)) (file-loopless file (a .of-file)) (file-limits file (a .of-file)) (at leaders) (inSet choke) (a .difference) other group
+    difference-most (fileN file) (fileLimit file) (linked (fileLinks file)) (file-symmetric file (a .of-file)) (file-loopless file (a .of-file)) (file-limits file (a .of-file)) (at leaders) (inSet choke) (a .difference) other group
 
 pub one-choke-list : OneChokeList
 unfolding OneChokeList AcceptedCoversMost aloneCount
@@ -112,7 +112,7 @@ accepted-below file choke {g = g} {h = h} same a =
     record {
       of-file = a .of-file;
       enough = a .enough;
-      grouping = grouping-below (fileN file) (common (fileT file)) (linked (fileLinks file)) g h alike (a .grouping);
+      grouping = grouping-below (fileN file) (fileLimit file) (linked (fileLinks file)) g h alike (a .grouping);
       bytes = a .bytes;
       zero-or-one = a .zero-or-one;
       difference = rw (← alone-below (fileN file) g h alike) (a .difference);

@@ -8,8 +8,8 @@ use Rattle.packing.specs.Orders.{repeatsOrOutside}
 use Rattle.packing.specs.Plant.{NONE, common, linked}
 use Rattle.packing.specs.Grouping.{memberCount, isGrouping}
 use Rattle.packing.specs.Choke.{stranded, isDifference}
-use Rattle.plant_file.specs.PlantFile.{number, fileN, fileT, fileM, fileLinks, fileOrder, beginsPLT, endsRefusal, linksRefusal, fileRefusal}
-use Rattle.plant_file.specs.Encode.{lowFirst, encode}
+use Rattle.plant_file.specs.PlantFile.{number, fileVersion, fileN, fileT, fileM, fileLinks, fileOrder, kindByte, limitByte, limitOfKind, effectiveLimit, fileLimit, fileLength, limitAllowed, limitsAllowed, beginsPLT, endsRefusal, linksRefusal, fileRefusal}
+use Rattle.plant_file.specs.Encode.{lowFirst, encodeAs, encode, encodeTwo}
 use Rattle.checker.specs.Check.{inSet, aloneCount, leadersOff, chokeOff, listsRefusal, checkRefusal}
 
 -- 01's example: T = 2, links 0-2, 0-3, 0-4, 1-2
@@ -50,9 +50,22 @@ ofStar =
     ∷ (0 ∷ 0 ∷ NONE ∷ NONE ∷ NONE ∷ [], centre) ∷ (0 ∷ 0 ∷ 0 ∷ NONE ∷ NONE ∷ [], nobody) ∷ (0 ∷ 0 ∷ 0 ∷ NONE ∷ NONE ∷ [], 1 ∷ 0 ∷ 2 ∷ 0 ∷ 0 ∷ [])
     ∷ (0 ∷ 0 ∷ 0 ∷ NONE ∷ NONE ∷ [], 1 ∷ 0 ∷ 0 ∷ 0 ∷ []) ∷ ([], []) ∷ (NONE ∷ NONE ∷ NONE ∷ NONE ∷ NONE ∷ [], []) ∷ []
 
+-- The star again, with T = 2, kind 32 for the centre, which takes 4, and T for the leaves: it leads all four, or three and one is alone, and no set shows that it has to be.
+-- With T = 5 and a limit of 3 for the centre four are too many; with three the difference is 4 − 3 = 1, and with two one is alone that need not be. And with T = 3 and a limit of 4: what it leads goes by its own limit.
+unfoldable starWith : ℕ → ℕ → ℕ → List ℕ
+starWith t kind limit = encodeTwo 5 t 4 (0 ∷ 1 ∷ 0 ∷ 2 ∷ 0 ∷ 3 ∷ 0 ∷ 4 ∷ []) (0 ∷ 1 ∷ 2 ∷ 3 ∷ 4 ∷ []) (kind ∷ limit ∷ 0 ∷ 0 ∷ 0 ∷ 0 ∷ 0 ∷ 0 ∷ 0 ∷ 0 ∷ [])
+
+unfoldable ofCentre : List (List ℕ × List ℕ)
+ofCentre = (0 ∷ 0 ∷ 0 ∷ 0 ∷ 0 ∷ [], nobody) ∷ (0 ∷ 0 ∷ 0 ∷ 0 ∷ NONE ∷ [], nobody) ∷ (0 ∷ 0 ∷ 0 ∷ 0 ∷ NONE ∷ [], centre) ∷ (0 ∷ 0 ∷ 0 ∷ NONE ∷ NONE ∷ [], centre) ∷ []
+
+limits : (answers (starWith 2 32 0) ofCentre ≡ 0 ∷ 32 ∷ 32 ∷ 32 ∷ []) × (answers (starWith 5 0 3) ofCentre ≡ 31 ∷ 32 ∷ 0 ∷ 32 ∷ []) × (answers (starWith 3 0 4) ofCentre ≡ 0 ∷ 32 ∷ 32 ∷ 32 ∷ [])
+    × (checkRefusal (starWith 2 32 1) [] [] ≡ 33) × (checkRefusal (starWith 2 32 17) [] [] ≡ 33)
+unfolding nobody centre answers starWith ofCentre encodeAs lowFirst sum count sumOver all any listOf repeatsOrOutside linked memberCount isGrouping stranded isDifference number fileVersion fileN fileT fileM fileLinks fileOrder kindByte limitByte limitOfKind effectiveLimit fileLimit fileLength limitAllowed limitsAllowed beginsPLT endsRefusal linksRefusal fileRefusal inSet aloneCount leadersOff chokeOff listsRefusal checkRefusal
+limits = (refl, refl, refl, refl, refl)
+
 -- .. a plant of no gateways, which needs no entries, and a file of no bytes
 examples : (answers example ofExample ≡ 0 ∷ 0 ∷ 32 ∷ 32 ∷ 31 ∷ 31 ∷ 32 ∷ [])
     × (answers star ofStar ≡ 0 ∷ 0 ∷ 31 ∷ 31 ∷ 31 ∷ 31 ∷ 32 ∷ 32 ∷ 32 ∷ 32 ∷ 31 ∷ 32 ∷ [])
     × (checkRefusal (encode 0 2 0 [] []) [] [] ≡ 0) × (checkRefusal [] [] [] ≡ 9)
-unfolding example star nobody centre answers ofExample ofStar encode lowFirst sum count sumOver all any listOf repeatsOrOutside common linked memberCount isGrouping stranded isDifference number fileN fileT fileM fileLinks fileOrder beginsPLT endsRefusal linksRefusal fileRefusal inSet aloneCount leadersOff chokeOff listsRefusal checkRefusal
+unfolding example star nobody centre answers ofExample ofStar encodeAs lowFirst sum count sumOver all any listOf repeatsOrOutside common linked memberCount isGrouping stranded isDifference number fileVersion fileN fileT fileM fileLinks fileOrder kindByte limitByte limitOfKind effectiveLimit fileLimit fileLength limitAllowed limitsAllowed beginsPLT endsRefusal linksRefusal fileRefusal inSet aloneCount leadersOff chokeOff listsRefusal checkRefusal
 examples = (refl, refl, refl, refl)

@@ -6,6 +6,7 @@ pub mod Below
 pub mod Loaded
 pub mod Turns
 pub mod Claim
+pub mod VersionOne
 pub mod Read
 pub mod ToldFile
 pub mod Examples

@@ -1,5 +1,5 @@
--- Every plant that calls tell has an accepted file that describes it: its links, in order of arrival, with the order 0, 1, ..
-use Prim.Native.Nat.{ℕ, zero, suc, _+_, _*_, _<_, _≤_}
+-- Every plant that calls tell has an accepted file that describes it, of version 2: its links, in order of arrival, with the order 0, 1, .., and each limit as it was told.
+use Prim.Native.Nat.{ℕ, _+_, _*_, _<_, _≤_}
 use mathlib.Core.Path.{_≡_, refl, sym, ap, _∙_}
 use mathlib.Core.Bool.{false}
 use mathlib.Core.List.{List, [], _∷_, _++_}
@@ -8,21 +8,23 @@ use native.Mathlib.Numerals.{add-one}
 use native.Mathlib.Omega.{arith}
 use lib.ListN.{length, length-append, List·getD-append}
 use lib.Seq.{getD-append-add}
+use Rattle.packing.specs.Lists.{listOf}
 use Rattle.packing.specs.Orders.{upTo}
 use Rattle.packing.specs.Plant.{LINKS, at, linked}
-use Rattle.packing.specs.Refusals.{byNumber}
 use Rattle.packing.specs.Turns.{SameLink, firstEnd, secondEnd}
 use Rattle.packing.proofs.Tests.{below-suc}
 use Rattle.packing.proofs.Lists.{listOf-length, listOf-at}
 use Rattle.packing.proofs.Turns.{says-linked}
-use Rattle.planner.specs.Calls.{Call, link, order, placeBy, read}
-use Rattle.planner.specs.Told.{Told, beginning, refuses, accepted, tellOne, tell}
+use Rattle.planner.specs.Tells.{ToldInRange}
+use Rattle.planner.specs.Calls.{Call, link, order, setLimit, placeBy, read}
+use Rattle.planner.specs.Told.{Told, beginning, refuses, accepted}
 use Rattle.planner.specs.Claims.{toldBy}
 use Rattle.planner.proofs.Conditions.{open-allowed, link-allowed}
-use Rattle.planner.proofs.Tells.{onward}
-use Rattle.plant_file.specs.Encode.{encode}
-use Rattle.plant_file.specs.EveryPlant.{EveryPlant}
-use Rattle.plant_file.proofs.EveryPlant.{every-plant}
+use Rattle.planner.proofs.Tells.{tell-keeps, onward}
+use Rattle.planner.proofs.LimitsTold.{told-in-range}
+use Rattle.plant_file.specs.Encode.{encodeTwo, pairsOf}
+use Rattle.plant_file.specs.EveryPlant.{EveryLimits}
+use Rattle.plant_file.proofs.EveryLimits.{every-limits}
 use Rattle.checker.specs.Claim.{ToldHasFile}
 
 -- m links of a file's ranges: each joins two gateways, and is there once
@@ -87,34 +89,26 @@ module _ {n m : ℕ} {l : List ℕ} (f : LinksFit n m l) (a b : ℕ) where
 abbrev Fits : Told → Type 0
 Fits p = LinksFit (p .n) (p .m) (p .links)
 
-by-number : (e : ℕ) (changed kept : Told) → (e ≡ 0 → Fits changed) → Fits kept → Fits (byNumber e changed kept)
-by-number zero changed kept f g = f refl
-by-number (suc e) changed kept f g = g
-
--- each call keeps it, ..
-told-fits : (p : Told) (c : Call) → Fits p → Fits (tellOne p c)
-unfolding tellOne accepted refuses
-told-fits p (link a b) f =
-    by-number (refuses p (link a b)) (accepted p (link a b)) p
-    (λ z. let (_, below-a, below-b, apart, new, room, _) = link-allowed (p .n) (p .placed) (p .m) (p .links) (p .room) a b refl z in one-link-more f a b below-a below-b apart new room) f
-told-fits p (order numbers) f = by-number (refuses p (order numbers)) (accepted p (order numbers)) p (λ _. f) f
-told-fits p (placeBy w) f = by-number (refuses p (placeBy w)) (accepted p (placeBy w)) p (λ _. f) f
-told-fits p (read leaders choke) f = by-number (refuses p (read leaders choke)) (accepted p (read leaders choke)) p (λ _. f) f
-
--- .. and so do all
-tell-fits : (p : Told) (calls : List Call) → Fits p → Fits (tell p calls)
-unfolding tell
-tell-fits p [] f = f
-tell-fits p (c ∷ calls) f = tell-fits (tellOne p c) calls (told-fits p c f)
+-- each accepted call keeps it
+accepted-fits : (p : Told) (c : Call) → refuses p c ≡ 0 → Fits p → Fits (accepted p c)
+unfolding accepted refuses
+accepted-fits p (link a b) z f =
+    let (_, below-a, below-b, apart, new, room, _) = link-allowed (p .n) (p .placed) (p .m) (p .links) (p .room) a b refl z in one-link-more f a b below-a below-b apart new room
+accepted-fits p (order numbers) z f = f
+accepted-fits p (setLimit u limit) z f = f
+accepted-fits p (placeBy w) z f = f
+accepted-fits p (read leaders choke) z f = f
 
 pub told-has-file : ToldHasFile
-unfolding ToldHasFile EveryPlant beginning upTo
-told-has-file n t ls os hs ok calls =
+unfolding ToldHasFile EveryLimits ToldInRange beginning upTo
+told-has-file n t ls os hs ts ok calls =
     let told = toldBy n t ls calls in
     let on = onward (beginning n t (length ls)) calls in
-    let open-fits = open-allowed n t os hs refl ok in
-    let fits = tell-fits (beginning n t (length ls)) calls (no-links n) in
-    let file = every-plant (told .n) (told .t) (told .m) (told .links) (upTo (told .n))
+    let open-fits = open-allowed n t os hs ts refl ok in
+    let fits = tell-keeps Fits accepted-fits (beginning n t (length ls)) calls (no-links n) in
+    let limits = told-in-range n t (length ls) calls (open-fits .1) (open-fits .2) in
+    let each = listOf-at (told .n) (told .limit) in
+    let (file, _) = every-limits (told .n) (told .t) (told .m) (told .links) (upTo (told .n)) (listOf (told .n) (told .limit))
     (record {
       gateways = rw (on .gateways) (open-fits .0);
       least = rw (on .limit) (open-fits .1);
@@ -128,5 +122,9 @@ told-has-file n t ls os hs ok calls =
       one-each = listOf-length (told .n) (λ i. i);
       order-below = λ i l. rw (listOf-at (told .n) (λ j. j) i l) l;
       order-once = λ i j p q e. let same : i ≡ j = sym (listOf-at (told .n) (λ k. k) i (omega arith)) ∙ e ∙ listOf-at (told .n) (λ k. k) j q in omega arith;
-    }) in
-    (encode (told .n) (told .t) (told .m) (told .links) (upTo (told .n)), file .accepted, record { gateways = file .says-n; limit = file .says-t; links = λ x y. rw (file .says-links) })
+    }) (listOf-length (told .n) (told .limit)) (λ u l. rw (each u l) (limits u)) in (
+      encodeTwo (told .n) (told .t) (told .m) (told .links) (upTo (told .n)) (pairsOf (listOf (told .n) (told .limit))),
+      file .accepted,
+      file .says-t ∙ on .limit,
+      record { gateways = file .says-n; limits = λ u l. let below = rw (file .says-n) at l in file .says-limits u below ∙ each u below; links = λ x y. rw (file .says-links) },
+    )

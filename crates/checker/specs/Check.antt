@@ -5,11 +5,11 @@ use mathlib.Core.List.{List}
 use lib.Dec.{eqb, ltb}
 use lib.ListN.{length}
 use Rattle.packing.specs.Count.{count, any}
-use Rattle.packing.specs.Plant.{at, common, linked}
+use Rattle.packing.specs.Plant.{at, linked}
 use Rattle.packing.specs.Grouping.{isAlone, isGrouping}
 use Rattle.packing.specs.Choke.{isDifference}
 use Rattle.packing.specs.Refusals.{refuse, firstOf}
-use Rattle.plant_file.specs.PlantFile.{fileN, fileT, fileLinks, fileRefusal}
+use Rattle.plant_file.specs.PlantFile.{fileN, fileLinks, fileLimit, fileRefusal}
 
 -- the set that a choke list says
 unfoldable pub inSet : List ℕ → ℕ → Bool
@@ -34,4 +34,4 @@ listsRefusal n limit adj leaders choke = refuse (leadersOff n limit adj leaders)
 
 -- "in that turn, after the file's own numbers"; 0 for accepted
 unfoldable pub checkRefusal : List ℕ → List ℕ → List ℕ → ℕ
-checkRefusal file leaders choke = firstOf (fileRefusal file) (listsRefusal (fileN file) (common (fileT file)) (linked (fileLinks file)) leaders choke)
+checkRefusal file leaders choke = firstOf (fileRefusal file) (listsRefusal (fileN file) (fileLimit file) (linked (fileLinks file)) leaders choke)

@@ -12,12 +12,12 @@ use Rattle.planner.specs.Refusals.{openRefusal}
 use Rattle.planner.specs.Calls.{Call, readLeaders, readChoke}
 use Rattle.planner.specs.Told.{Told}
 use Rattle.planner.specs.Claims.{toldBy, OnceRead}
-use Rattle.plant_file.specs.PlantFile.{fileN, fileT, fileLinks, fileRefusal}
+use Rattle.plant_file.specs.PlantFile.{fileN, fileT, fileLinks, fileLimit, fileRefusal}
 use Rattle.plant_file.specs.FilePlant.{GroupingOf, DifferenceOf}
 use Rattle.checker.specs.Check.{inSet, aloneCount, checkRefusal}
 
 -- "It accepts exactly if every entry is 65535, or its own number with one to T members, or a linked gateway that leads itself, and the choke difference equals the number of 65535 entries."
--- The first is what a grouping is (packing/specs/Grouping.antt). The difference is stated as a sum, so one below zero is no number.
+-- The first is what a grouping is (packing/specs/Grouping.antt), with each leader's own limit for T; the difference goes by the sum of the set's limits (02, change 8). The difference is stated as a sum, so one below zero is no number.
 -- A leader list is how many entries it has, and g, which gives each of them: so the same is said of a list of numbers and of bytes.
 pub record Accepted (file : List ℕ) (entries : ℕ) (g : ℕ → ℕ) (choke : List ℕ) : Type 0 where
   -- the file is accepted
@@ -56,10 +56,10 @@ OneChokeList =
     (file leaders choke others : List ℕ) → checkRefusal file leaders choke ≡ 0
     → (checkRefusal file others choke ≡ 0) ↔ Best file (length others) (at others)
 
--- a file describes the plant told: it has its n, its T and its links. In which order the links came, and which end of a link is named first, does not matter, and neither does the file's order.
+-- a file describes the plant told: it has its n, the limit of each gateway, and its links. In which order the links came, and which end of a link is named first, does not matter, and neither does the file's order.
 pub record Describes (file : List ℕ) (told : Told) : Type 0 where
   pub gateways : fileN file ≡ told .n
-  pub limit : fileT file ≡ told .t
+  pub limits : (u : ℕ) → u < fileN file → fileLimit file u ≡ told .limit u
   pub links : (x y : ℕ) → linked (fileLinks file) x y ≡ linked (told .links) x y
 
 -- "Read's answer for a fully placed record made by accepted calls is always accepted": with every accepted file that describes the plant told.
@@ -70,8 +70,8 @@ ReadAcceptedOf n told made leaders choke =
 unfoldable pub ReadAccepted : Type 0
 ReadAccepted = OnceRead ReadAcceptedOf
 
--- There is such a file for every plant told: after an accepted open and any list of calls.
+-- There is such a file for every plant told, with the T that open was handed: after an accepted open and any list of calls.
 unfoldable pub ToldHasFile : Type 0
 ToldHasFile =
-    (n t : ℕ) (ls os hs : List ℕ) → openRefusal n t os hs ≡ 0 → (calls : List Call)
-    → (file : List ℕ) × (fileRefusal file ≡ 0) × Describes file (toldBy n t ls calls)
+    (n t : ℕ) (ls os hs ts : List ℕ) → openRefusal n t os hs ts ≡ 0 → (calls : List Call)
+    → (file : List ℕ) × (fileRefusal file ≡ 0) × (fileT file ≡ t) × Describes file (toldBy n t ls calls)

@@ -2,4 +2,5 @@
 pub mod Check
 pub mod Turns
 pub mod Claim
+pub mod VersionOne
 pub mod Pre

@@ -36,11 +36,11 @@ pub fn check_lists(file: &[u8], leaders: &[u16], choke: &[u8]) -> u32
 {
     let mut links = lists::marks::ends();
     let mut order = lists::marks::zeros();
-    let refused = plant_file::load(file, &mut links, &mut order);
+    let mut limits = lists::marks::bytes(0);
+    let refused = plant_file::load(file, &mut links, &mut order, &mut limits);
     if refused != 0 {
         return refused;
     }
-    let limits = lists::marks::bytes(plant_file::limit(file));
     let end = 2 * (plant_file::link_count(file) as usize);
     of_lists(
         plant_file::gateways(file),

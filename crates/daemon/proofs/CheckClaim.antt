@@ -9,14 +9,14 @@ use lib.Dec.{eqb, ltb}
 use lib.ListN.{length, drop, length-drop}
 use lib.Seq.{getD-take, getD-drop, length-take-le}
 use borrow.Author.Tests.{ltb-true, ltb-false}
-use Rattle.packing.specs.Plant.{at, common, linked}
+use Rattle.packing.specs.Plant.{at, linked}
 use Rattle.packing.specs.Turns.{done}
 use Rattle.packing.proofs.Tests.{by-bool}
 use Rattle.packing.proofs.Lists.{listOf-length, listOf-at}
 use Rattle.packing.proofs.Below.{grouping-below, difference-below}
 use Rattle.packing.proofs.Checks.{alone-uncovered, alone-below, covered-below}
 use Rattle.packing.proofs.Turns.{Says, turn-done, turn-named, says-as}
-use Rattle.plant_file.specs.PlantFile.{number, fileN, fileT, fileLinks, fileRefusal}
+use Rattle.plant_file.specs.PlantFile.{number, fileN, fileLinks, fileLimit, fileRefusal}
 use Rattle.plant_file.proofs.Turns.{file-then}
 use Rattle.plan.specs.Claim.{PlanOf}
 use Rattle.checker.specs.Check.{inSet, aloneCount, leadersOff, chokeOff, listsRefusal, checkRefusal}
@@ -78,10 +78,10 @@ module _
         record {
           of-file = fine;
           enough = omega (arith, length-take-le (2 * fileN file) answer (omega arith));
-          grouping = grouping-below (fileN file) (common (fileT file)) (linked (fileLinks file)) _ _ leader-kept grouping;
+          grouping = grouping-below (fileN file) (fileLimit file) (linked (fileLinks file)) _ _ leader-kept grouping;
           bytes = omega (arith, length-drop (2 * fileN file) answer, length-take-le (fileN file) (drop (2 * fileN file) answer) (omega (arith, length-drop (2 * fileN file) answer)));
           zero-or-one = λ v l. bit-cases _ (rw (choke-kept v l) at (bits v l));
-          difference = difference-below (fileN file) (common (fileT file)) (linked (fileLinks file)) _ _ _ _ (λ v l. ap (λ (x : ℕ). eqb x 1) (choke-kept v l)) (sym (alone-uncovered (fileN file) (leaderAt answer)) ∙ alone-below (fileN file) _ _ leader-kept) difference;
+          difference = difference-below (fileN file) (fileLimit file) (linked (fileLinks file)) _ _ _ _ (λ v l. ap (λ (x : ℕ). eqb x 1) (choke-kept v l)) (sym (alone-uncovered (fileN file) (leaderAt answer)) ∙ alone-below (fileN file) _ _ leader-kept) difference;
         }
 
     answer-accepted : groupsCheck file (leaderBytes (fileN file) answer) (chokeBytes (fileN file) answer) ≡ 0
@@ -113,19 +113,19 @@ own-choke-bytes file out leaders z = (to, from)
     from (enough, grouping, most) =
         one .1 (
           rw (entries-long leaders) enough,
-          grouping-below (fileN file) (common (fileT file)) (linked (fileLinks file)) _ _ (λ v l. sym (entry-is leaders enough v l)) grouping,
+          grouping-below (fileN file) (fileLimit file) (linked (fileLinks file)) _ _ (λ v l. sym (entry-is leaders enough v l)) grouping,
           λ other group. rw (covered-below (fileN file) (at (entriesIn leaders)) (leaderAt leaders) (entry-is leaders enough)) (most other group),
         )
 
 -- the refusals in words
 module _ (file leaders : List ℕ) where
-  no-packing-bytes : Says (leadersOff (fileN file) (common (fileT file)) (linked (fileLinks file)) (entriesIn leaders)) (NoPacking file (length leaders / 2) (leaderAt leaders))
+  no-packing-bytes : Says (leadersOff (fileN file) (fileLimit file) (linked (fileLinks file)) (entriesIn leaders)) (NoPacking file (length leaders / 2) (leaderAt leaders))
   no-packing-bytes =
       says-as (no-packing-below file (entry-is leaders)) (no-packing-below file (λ enough v l. sym (entry-is leaders enough v l)))
       (rw (entries-long leaders) at (says-leaders file (entriesIn leaders)))
 
   choke-off-bytes : (choke : List ℕ) → fileN file ≤ length leaders / 2
-      → Says (chokeOff (fileN file) (common (fileT file)) (linked (fileLinks file)) (entriesIn leaders) choke) (ChokeOff file (leaderAt leaders) choke)
+      → Says (chokeOff (fileN file) (fileLimit file) (linked (fileLinks file)) (entriesIn leaders) choke) (ChokeOff file (leaderAt leaders) choke)
   unfolding aloneCount
   choke-off-bytes choke enough = rw (alone-below (fileN file) (at (entriesIn leaders)) (leaderAt leaders) (entry-is leaders enough)) at (says-choke file (entriesIn leaders) choke)
 
@@ -134,6 +134,6 @@ unfolding GroupsCheckExactly groupsCheck checkRefusal listsRefusal
 groups-check-exactly file leaders choke =
     file-then file _ _ (turn-named _ 31 _ _ (no-packing-bytes file leaders) (λ e. turn-named _ 32 0 done (choke-off-bytes file leaders choke (enough e)) (λ _. turn-done)))
   where
-    enough : leadersOff (fileN file) (common (fileT file)) (linked (fileLinks file)) (entriesIn leaders) ≡ false → fileN file ≤ length leaders / 2
+    enough : leadersOff (fileN file) (fileLimit file) (linked (fileLinks file)) (entriesIn leaders) ≡ false → fileN file ≤ length leaders / 2
     enough e =
         by-bool (ltb (length leaders / 2) (fileN file)) (λ q. absurd (no-packing-bytes file leaders .fails e (inl (ltb-true (length leaders / 2) (fileN file) q)))) (ltb-false (length leaders / 2) (fileN file))

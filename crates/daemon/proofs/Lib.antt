@@ -7,3 +7,4 @@ pub mod Claim
 pub mod WhyClaim
 pub mod Checking
 pub mod CheckClaim
+pub mod VersionOne

@@ -90,7 +90,11 @@ module _ (file : List ℕ) (v : ℕ) (out : List ℕ) (z : aloneRefusal file v (
   unfolding aloneOut
   past = rw z (written-past (length (setBytes (fileFirst file v) (fileSecond file v))) (setBytes (fileFirst file v) (fileSecond file v)) out refl)
 
-  answered : fileWhyRefusal file v (fileN file) (fileN file) ≡ 0
+  -- the counts that the bytes say
+  pub counts-are : (firstCountAt (aloneOut file v out) ≡ length (fileFirst file v)) × (secondCountAt (aloneOut file v out) ≡ length (fileSecond file v))
+  counts-are = rw out-is (first-count (fileFirst file v) (fileSecond file v) rest, second-count (fileFirst file v) (fileSecond file v) rest)
+
+  pub answered : fileWhyRefusal file v (fileN file) (fileN file) ≡ 0
   unfolding aloneRefusal
   answered = first-none (fileWhyRefusal file v (fileN file) (fileN file)) _ z .0
 

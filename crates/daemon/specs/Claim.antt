@@ -1,4 +1,4 @@
--- 00, demands 2 and 3, and 02, changes 1, 2, 4, 5, 6 and 7, of the bytes that the calls from C write or are handed. proofs/Claim.antt, proofs/WhyClaim.antt and proofs/CheckClaim.antt prove it.
+-- 00, demands 2 and 3, and 02, changes 1, 2, 4, 5, 6, 7 and 8, of the bytes that the calls from C write or are handed, for files of either version. proofs/Claim.antt, proofs/WhyClaim.antt and proofs/CheckClaim.antt prove it.
 use Prim.Native.Nat.{ℕ, _+_, _*_, _/_, _<_, _≤_}
 use mathlib.Core.Path.{_≡_}
 use mathlib.Core.Logic.{_↔_}

@@ -4,4 +4,5 @@ pub mod Why
 pub mod Check
 pub mod Turns
 pub mod Claim
+pub mod VersionOne
 pub mod Pre

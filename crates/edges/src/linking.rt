@@ -9,6 +9,7 @@ pub(crate) fn case(label: &[u8], a: &[u16]) {
     let mut links = came;
     let order = [0u16, 1, 2, 3, 9];
     let holders = [lists::NONE, lists::NONE, lists::NONE, lists::NONE, 9];
+    let limits = [2u8; 5];
     let s = Small {
         n: lists::entry(a, 2),
         t: 2,
@@ -19,6 +20,7 @@ pub(crate) fn case(label: &[u8], a: &[u16]) {
         parts::front_mut(&mut links, parts::place(a, 5)),
         &order,
         &holders,
+        &limits,
         lists::entry(a, 6),
         lists::entry(a, 7),
     );

@@ -2,7 +2,9 @@
 // They stand in the file stdin, a line a case: a label, a bar, a number that says what is called, and the call's own numbers (script.rt, and the comment before each case).
 // Each line printed: the label, the refusal number, the small part as n T m k, and the lists after the call; `kept` says whether they are as they came.
 mod asking;
+mod each_call;
 mod full;
+mod limiting;
 mod lines;
 mod linking;
 mod membering;
@@ -14,8 +16,9 @@ mod placing;
 mod reading;
 mod script;
 mod soundness;
+mod star;
 
-// Room for a script more than twice as long.
+// Room for a script half as long again.
 fn room() -> [u8; 16384] {
     [0u8; 16384]
 }

@@ -9,6 +9,7 @@ pub(crate) fn case(label: &[u8], a: &[u16]) {
     let mut order = came;
     let links = [7u16; 2];
     let holders = [lists::NONE; 4];
+    let limits = [2u8; 4];
     let s = Small {
         n: lists::entry(a, 2),
         t: 2,
@@ -19,6 +20,7 @@ pub(crate) fn case(label: &[u8], a: &[u16]) {
         &links,
         &mut order,
         &holders,
+        &limits,
         parts::front(parts::rest(a, 5), parts::place(a, 4)),
     );
     lines::answer(label, r);

@@ -41,6 +41,26 @@ pub(crate) fn byte(a: &[u16], i: u16) -> u8 {
     (lists::entry(a, i) % 256) as u8
 }
 
+// The first five numbers, each as 8 bits: limits told by a case.
+pub(crate) fn five(list: &[u16]) -> [u8; 5] {
+    [
+        byte(list, 0),
+        byte(list, 1),
+        byte(list, 2),
+        byte(list, 3),
+        byte(list, 4),
+    ]
+}
+
+// Bytes as numbers, 0 past their end.
+pub(crate) fn widen(bytes: &[u8], numbers: &mut [u16]) {
+    let mut i: usize = 0;
+    while i < numbers.len() {
+        numbers[i] = lists::byte(bytes, i) as u16;
+        i += 1;
+    }
+}
+
 // The first len entries, or the whole list where it has fewer.
 pub(crate) fn front(list: &[u16], len: usize) -> &[u16] {
     if len <= list.len() {
@@ -50,6 +70,21 @@ pub(crate) fn front(list: &[u16], len: usize) -> &[u16] {
 }
 
 pub(crate) fn front_mut(list: &mut [u16], len: usize) -> &mut [u16] {
+    if len <= list.len() {
+        return &mut list[0..len];
+    }
+    list
+}
+
+// The same of a list of bytes.
+pub(crate) fn front_bytes(list: &[u8], len: usize) -> &[u8] {
+    if len <= list.len() {
+        return &list[0..len];
+    }
+    list
+}
+
+pub(crate) fn front_bytes_mut(list: &mut [u8], len: usize) -> &mut [u8] {
     if len <= list.len() {
         return &mut list[0..len];
     }
@@ -66,6 +101,10 @@ pub(crate) fn rest(list: &[u16], start: usize) -> &[u16] {
 
 // Large lists, each entry x.
 pub(crate) fn large(x: u16) -> [u16; 1100] {
+    [x; 1100]
+}
+
+pub(crate) fn large_bytes(x: u8) -> [u8; 1100] {
     [x; 1100]
 }
 

@@ -4,19 +4,20 @@ use crate::parts;
 use planner::Small;
 use planner::Way;
 
-// n, T and k of 01's listing, which is fully placed but for k
+// n, T and k of 01's listing, which is fully placed but for k; each limit 2
 pub(crate) fn case(label: &[u8], way: Way, a: &[u16]) {
     let links = [0u16, 2, 0, 3, 0, 4, 1, 2];
     let order = [2u16, 3, 4, 0, 1];
     let came = [2u16, 2, 1, 0, 0, 9, 9, 9];
     let mut holders = came;
+    let limits = [2u8; 5];
     let s = Small {
         n: lists::entry(a, 2),
         t: parts::byte(a, 3),
         m: 4,
         k: lists::entry(a, 4),
     };
-    let r = s.place_by(way, &links, &order, &mut holders);
+    let r = s.place_by(way, &links, &order, &mut holders, &limits);
     lines::placed(label, r);
     lines::after(&holders, &came);
 }
@@ -30,7 +31,7 @@ fn in_turn(i: u16, one: Way, other: Way) -> Way {
 }
 
 // One placing after the other, on 8 places of holders.
-fn place_each(
+pub(crate) fn place_each(
     label: &[u8],
     one: Way,
     other: Way,
@@ -38,11 +39,12 @@ fn place_each(
     links: &[u16],
     order: &[u16],
     holders: &mut [u16],
+    limits: &[u8],
 ) {
     let mut s = first;
     let mut i: u16 = 0;
     while i < 8 {
-        let r = s.place_by(in_turn(i, one, other), links, order, holders);
+        let r = s.place_by(in_turn(i, one, other), links, order, holders, limits);
         s = r.small;
         lines::placed(label, r);
         lines::list(holders);
@@ -54,6 +56,7 @@ fn place_each(
 // n, m, eight places of order and seven links
 pub(crate) fn steps(label: &[u8], one: Way, other: Way, a: &[u16]) {
     let mut holders = [lists::NONE; 8];
+    let limits = [2u8; 8];
     let s = Small {
         n: lists::entry(a, 2),
         t: 2,
@@ -68,5 +71,6 @@ pub(crate) fn steps(label: &[u8], one: Way, other: Way, a: &[u16]) {
         parts::rest(a, 12),
         parts::rest(a, 4),
         &mut holders,
+        &limits,
     );
 }

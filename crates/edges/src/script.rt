@@ -1,6 +1,8 @@
 // The script of cases: gone through line by line, its numbers read, each call made.
 use crate::asking;
+use crate::each_call;
 use crate::full;
+use crate::limiting;
 use crate::linking;
 use crate::membering;
 use crate::membering_large;
@@ -9,6 +11,7 @@ use crate::ordering;
 use crate::placing;
 use crate::reading;
 use crate::soundness;
+use crate::star;
 use planner::Way;
 ghost use Prim.Native.Nat.{_<_, _≤_};
 ghost use lib.ListN.{length};
@@ -86,6 +89,12 @@ fn call(label: &[u8], a: &[u16]) {
         19 => placing::steps(label, Way::Recursive, Way::Recursive, a),
         20 => placing::steps(label, Way::Queued, Way::Recursive, a),
         21 => placing::steps(label, Way::Recursive, Way::Queued, a),
+        22 => limiting::case(label, a),
+        23 => each_call::case(label, a),
+        24 => star::placings(label, Way::Queued, a),
+        25 => star::placings(label, Way::Recursive, a),
+        26 => star::reads(label, a),
+        27 => star::asks(label, a),
         _ => full::run(),
     }
 }

@@ -1,5 +1,5 @@
 -- The text for a file: each way to it, and how long it can be.
-use Prim.Native.Nat.{ℕ, zero, suc, _+_, _*_, _≤_}
+use Prim.Native.Nat.{ℕ, zero, suc, _≤_}
 use mathlib.Core.Path.{_≡_, refl, sym, ap, _∙_}
 use mathlib.Core.Bool.{Bool, true, false, not, _||_}
 use mathlib.Core.List.{List, [], _∷_, _++_}
@@ -10,7 +10,7 @@ use lib.Seq.{sets, length-sets, length-take-le}
 use Rattle.packing.specs.Plant.{GATEWAYS, LINKS, LOWEST, HIGHEST, linked}
 use Rattle.packing.specs.Orders.{repeatsOrOutside}
 use Rattle.packing.specs.Refusals.{refuse, firstOf}
-use Rattle.plant_file.specs.PlantFile.{number, fileN, fileT, fileM, fileLinks, fileOrder, beginsPLT, endsRefusal, linksRefusal, fileRefusal, fileThenShort}
+use Rattle.plant_file.specs.PlantFile.{fileVersion, fileN, fileT, fileM, fileLinks, fileOrder, fileLength, limitsAllowed, beginsPLT, endsRefusal, linksRefusal, fileRefusal, fileThenShort}
 use Rattle.plant_file.proofs.Accepted.{file-allowed}
 use Rattle.plan.specs.Plan.{planRefusal, planLeaders, planChoke}
 use Rattle.plan.proofs.FilePlan.{plan-accepts}
@@ -19,15 +19,15 @@ use Rattle.report.proofs.Lengths.{listing-short, refused-length}
 use Rattle.listing.specs.Listed.{textBy, fileText}
 
 -- refusal numbers are small
-refuse-small : (b : Bool) {e later : ℕ} → e ≤ 20 → later ≤ 20 → refuse b e later ≤ 20
+refuse-small : (b : Bool) {e later : ℕ} → e ≤ 33 → later ≤ 33 → refuse b e later ≤ 33
 refuse-small true p q = p
 refuse-small false p q = q
 
-first-small : (e : ℕ) {later : ℕ} → e ≤ 20 → later ≤ 20 → firstOf e later ≤ 20
+first-small : (e : ℕ) {later : ℕ} → e ≤ 33 → later ≤ 33 → firstOf e later ≤ 33
 first-small zero p q = q
 first-small (suc e) p q = p
 
-links-small : (n : ℕ) (earlier l : List ℕ) → linksRefusal n earlier l ≤ 20
+links-small : (n : ℕ) (earlier l : List ℕ) → linksRefusal n earlier l ≤ 33
 unfolding linksRefusal endsRefusal
 links-small n earlier [] = omega arith
 links-small n earlier (a ∷ []) = omega arith
@@ -35,20 +35,21 @@ links-small n earlier (a ∷ b ∷ rest) =
     first-small (endsRefusal n earlier a b) (refuse-small (leb n a || leb n b) (omega arith) (refuse-small (eqb a b) (omega arith) (refuse-small (linked earlier a b) (omega arith) (omega arith))))
     (links-small n (earlier ++ (a ∷ b ∷ [])) rest)
 
-file-small : (file : List ℕ) → fileRefusal file ≤ 20
+file-small : (file : List ℕ) → fileRefusal file ≤ 33
 unfolding fileRefusal
 file-small file =
     refuse-small (ltb (length file) 10) (omega arith)
     (refuse-small (not (beginsPLT file)) (omega arith)
-    (refuse-small (not (eqb (number file 3) 1)) (omega arith)
+    (refuse-small (not (eqb (fileVersion file) 1 || eqb (fileVersion file) 2)) (omega arith)
     (refuse-small (ltb GATEWAYS (fileN file)) (omega arith)
     (refuse-small (ltb (fileT file) LOWEST || ltb HIGHEST (fileT file)) (omega arith)
     (refuse-small (ltb LINKS (fileM file)) (omega arith)
-    (refuse-small (not (eqb (length file) (10 + 4 * fileM file + 2 * fileN file))) (omega arith)
+    (refuse-small (not (eqb (length file) (fileLength file))) (omega arith)
     (first-small (linksRefusal (fileN file) [] (fileLinks file)) (links-small (fileN file) [] (fileLinks file))
-    (refuse-small (repeatsOrOutside (fileN file) (fileOrder file)) (omega arith) (omega arith)))))))))
+    (refuse-small (repeatsOrOutside (fileN file) (fileOrder file)) (omega arith)
+    (refuse-small (not (limitsAllowed file)) (omega arith) (omega arith))))))))))
 
-pub plan-small : (file : List ℕ) (ls cs : ℕ) {e : ℕ} → e ≡ planRefusal file ls cs → e ≤ 20
+pub plan-small : (file : List ℕ) (ls cs : ℕ) {e : ℕ} → e ≡ planRefusal file ls cs → e ≤ 33
 unfolding planRefusal fileThenShort
 plan-small file ls cs g = rw g (first-small (fileRefusal file) (file-small file) (refuse-small (ltb ls (fileN file) || ltb cs (fileN file)) (omega arith) (omega arith)))
 

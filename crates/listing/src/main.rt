@@ -9,10 +9,10 @@ ghost use Rattle.plant_file.specs.PlantFile.{LONGEST};
 ghost use Rattle.listing.specs.Reading.{NoneIfNotOpened};
 
 // One byte more than the longest plant file, so that a longer one is refused for its length.
-fn room() -> [u8; 34827]
+fn room() -> [u8; 36875]
     ensures { λ r. ⌜ length r ≡ LONGEST + 1 ⌝ }
 {
-    [0u8; 34827]
+    [0u8; 36875]
 }
 
 // Reads the file of a descriptor up to the room there is, and returns how many bytes. A negative descriptor is of a file that can't be opened, which counts as one of 0 bytes.

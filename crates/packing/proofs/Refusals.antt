@@ -11,6 +11,11 @@ refuse-none true e later p q = absurd (omega arith)
 refuse-none false e later p q = (refl, q)
 
 module _ {A : Type 0} (changed kept : A) where
+  -- what holds of what an accepted call gives, and of what was there, holds after the call
+  pub by-number : (P : A → Type 0) (e : ℕ) → (e ≡ 0 → P changed) → P kept → P (byNumber e changed kept)
+  by-number P zero f g = f refl
+  by-number P (suc e) f g = g
+
   by-refused : (e : ℕ) → (e ≡ 0 → ⊥) → kept ≡ byNumber e changed kept
   by-refused zero h = absurd (h refl)
   by-refused (suc e) h = refl

@@ -87,6 +87,13 @@ unfolding all
 all-intro zero p h = refl
 all-intro (suc n) p h = and-i (all n p) (p n) (all-intro n p (λ i l. h i (omega arith))) (h n (omega arith))
 
+-- some number below n fails a test that not all pass
+pub all-fails : (n : ℕ) (p : ℕ → Bool) → all n p ≡ false → (i : ℕ) × (i < n) × (p i ≡ false)
+unfolding all
+all-fails zero p e = absurd (true≢false e)
+all-fails (suc n) p e =
+    by-bool (all n p) (λ t. (n, omega arith, rw t at e)) (λ f. let r = all-fails n p f in (r .0, omega (arith, r .1), r .2))
+
 pub all-ext : (n : ℕ) (p q : ℕ → Bool) → ((i : ℕ) → i < n → p i ≡ q i) → all n p ≡ all n q
 unfolding all
 all-ext zero p q h = refl

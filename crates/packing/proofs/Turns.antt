@@ -9,13 +9,13 @@ use native.Mathlib.Omega.{arith}
 use lib.Dec.{eqb, ltb, leb}
 use lib.ListN.{length, take}
 use lib.Seq.{getD-take, length-take-le}
-use borrow.Author.Tests.{eqb-true, eqb-false, eq-eqb, ltb-true, ltb-false, le-ltb, leb-true, leb-false, not-true}
-use Rattle.packing.specs.Count.{any}
+use borrow.Author.Tests.{eqb-true, eqb-false, eq-eqb, ltb-true, ltb-false, le-ltb, leb-true, leb-false, not-true, not-false}
+use Rattle.packing.specs.Count.{all, any}
 use Rattle.packing.specs.Plant.{at, firstLinks, joins, linked}
 use Rattle.packing.specs.Orders.{repeatsOrOutside}
 use Rattle.packing.specs.Refusals.{refuse}
 use Rattle.packing.specs.Turns.{Turn, done, named, FirstNamed, SameLink, LinkThere, firstEnd, secondEnd, RepeatsOrOutside}
-use Rattle.packing.proofs.Tests.{by-bool, clash, iff-test, not-i, or-l, or-r, or-cases, or-false-l, or-false-r, any-elim, any-intro}
+use Rattle.packing.proofs.Tests.{by-bool, clash, iff-test, not-i, not-i-false, all-elim, all-fails, or-l, or-r, or-cases, or-false-l, or-false-r, any-elim, any-intro}
 
 -- a test says just what a condition in words says
 pub record Says (b : Bool) (Condition : Type 0) : Type 0 where
@@ -38,10 +38,22 @@ pub turn-passed : (d : ℕ) {Condition : Type 0} (later : Turn) (e : ℕ) → (C
 unfolding FirstNamed
 turn-passed d later e fails f = inr (fails, f)
 
--- a condition may be said in other words
-pub turn-as : (d : ℕ) {A B : Type 0} (later : Turn) (e : ℕ) → (A → B) → (B → A) → FirstNamed (named d A later) e → FirstNamed (named d B later) e
+-- .. and may be left out
+pub turn-without : (d : ℕ) {Condition : Type 0} (later : Turn) (e : ℕ) → (Condition → ⊥) → FirstNamed (named d Condition later) e → FirstNamed later e
 unfolding FirstNamed
-turn-as d later e to from f = ⊎-elim (λ p. inl (to (p .0), p .1)) (λ p. inr ((λ b. p .0 (from b)), p .1)) f
+turn-without d later e fails f = ⊎-elim (λ p. absurd (fails (p .0))) (λ p. p .1) f
+
+-- a condition may be said in other words, and the turn go on in other words
+pub turn-changed : (d : ℕ) {A B : Type 0} (x y : Turn) (e : ℕ) → (A → B) → (B → A) → (FirstNamed x e → FirstNamed y e) → FirstNamed (named d A x) e → FirstNamed (named d B y) e
+unfolding FirstNamed
+turn-changed d x y e to from on f = ⊎-elim (λ p. inl (to (p .0), p .1)) (λ p. inr ((λ b. p .0 (from b)), on (p .1))) f
+
+-- .. one of the two
+pub turn-as : (d : ℕ) {A B : Type 0} (later : Turn) (e : ℕ) → (A → B) → (B → A) → FirstNamed (named d A later) e → FirstNamed (named d B later) e
+turn-as d later e to from f = turn-changed d later later e to from (λ g. g) f
+
+pub turn-later : (d : ℕ) (A : Type 0) (x y : Turn) (e : ℕ) → (FirstNamed x e → FirstNamed y e) → FirstNamed (named d A x) e → FirstNamed (named d A y) e
+turn-later d A x y e on f = turn-changed d x y e (λ a. a) (λ a. a) on f
 
 -- a turn names one number
 pub named-once : (turn : Turn) (d e : ℕ) → FirstNamed turn d → FirstNamed turn e → d ≡ e
@@ -80,6 +92,14 @@ says-both false b s t = record { holds = λ e. absurd (false≢true e); fails = 
 pub says-not : (b : Bool) {A : Type 0} → Says b A → Says (not b) (A → ⊥)
 says-not true s = record { holds = λ e. absurd (false≢true e); fails = λ e p. p (s .holds refl) }
 says-not false s = record { holds = λ e. s .fails refl; fails = λ e p. true≢false e }
+
+-- where not all below n pass a test, the condition that it fails by holds of one
+pub says-all : (n : ℕ) (p : ℕ → Bool) {Condition : ℕ → Type 0} → ((i : ℕ) → Says (not (p i)) (Condition i)) → Says (not (all n p)) ((i : ℕ) × (i < n) × Condition i)
+says-all n p s =
+    record {
+      holds = λ e. let r = all-fails n p (not-true (all n p) e) in (r .0, r .1, s (r .0) .holds (not-i (p (r .0)) (r .2)));
+      fails = λ e r. s (r .0) .fails (not-i-false (p (r .0)) (all-elim n p (not-false (all n p) e) (r .0) (r .1))) (r .2);
+    }
 
 -- a condition in other words
 pub says-as : {b : Bool} {A B : Type 0} → (A → B) → (B → A) → Says b A → Says b B

@@ -6,7 +6,7 @@ use lib.Dec.{eqb}
 use Rattle.packing.specs.Count.{count}
 use Rattle.packing.specs.Holders.{held, Feasible}
 
--- h' "holds exactly the kept ones and the new one, along links and within T"
+-- h' "holds exactly the kept ones and the new one, along links and within T", with each gateway's own limit for T
 pub record Kept (n : ℕ) (limit : ℕ → ℕ) (adj : ℕ → ℕ → Bool) (h h' : ℕ → ℕ) (v : ℕ) : Type 0 where
   pub feasible : Feasible n limit adj h'
   pub holding : (w : ℕ) → w < n → held n h' w ≡ (held n h w || eqb w v)

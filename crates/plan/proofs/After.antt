@@ -25,9 +25,9 @@ use Rattle.plant_file.proofs.Accepted.{file-allowed}
 use Rattle.plant_file.proofs.Refusing.{then-alone}
 use Rattle.plan.specs.Plan.{callsBy, stateBy}
 use Rattle.plan.specs.After.{afterRefusal, planAfterRefusal, planLeadersBy, planChokeBy, fileLeadersBy, fileChokeBy}
-use Rattle.plan.specs.Claim.{PlanSoFar, FileSoFar, FilePairs}
+use Rattle.plan.specs.Claim.{FileTellsLimits, PlanSoFar, FileSoFar, FilePairs}
 use Rattle.plan.proofs.Refusing.{after-file, after-within, plan-alone, plan-places}
-use Rattle.plan.proofs.ToldByFile.{placedTold, open-accepted, read-accepted, file-tells}
+use Rattle.plan.proofs.ToldByFile.{placedTold, told-limits, open-accepted, read-accepted, file-tells}
 
 -- the lists that the planner's calls are made with
 abbrev pub ownLinks : List ℕ
@@ -40,8 +40,8 @@ own-long : GATEWAYS ≤ length own
 own-long = rw length-replicate (omega arith)
 
 module _ (file : List ℕ) (z : fileRefusal file ≡ 0) where
-  pub file-open : openRefusal (fileN file) (fileT file) own own ≡ 0
-  file-open = open-accepted file z own own own-long own-long
+  pub file-open : openRefusal (fileN file) (fileT file) own own own ≡ 0
+  file-open = open-accepted file z own own own own-long own-long own-long
 
   pub own-room : {l : List ℕ} → l ≡ own → fileN file ≤ length l
   own-room e = rw (e, length-replicate) (file-allowed file z .few)
@@ -60,7 +60,7 @@ module _ (file : List ℕ) (z : fileRefusal file ≡ 0) where
 
     pub file-agrees : Agrees (placedTold file (length ownLinks) k) (stateBy w file k)
     unfolding stateBy
-    file-agrees = rw file-told at (run-agrees (open-agrees (fileN file) (fileT file) ownLinks own own file-open) (callsBy w file k))
+    file-agrees = rw file-told at (run-agrees (open-agrees (fileN file) (fileT file) ownLinks own own own file-open) (callsBy w file k))
 
     module _ (leaders choke : List ℕ) (room : fileN file ≤ length leaders) (room₂ : fileN file ≤ length choke) where
       file-read : refuses (placedTold file (length ownLinks) k) (read leaders choke) ≡ 0
@@ -143,17 +143,22 @@ module _ (file : List ℕ) (k : ℕ) (leaders choke : List ℕ) (passes : planAf
   pub reads-told : (w : Way) → refuses (toldBy (fileN file) (fileT file) ownLinks (callsBy w file k)) (read leaders choke) ≡ 0
   reads-told w = rw (told w) (file-read file (passed .0) w k (passed .1) leaders choke (passed .2) (passed .3))
 
+-- the limits told are the file's
+pub file-tells-limits : FileTellsLimits
+unfolding FileTellsLimits
+file-tells-limits w file k z within v l = rw (file-told file z w k within) (told-limits file v l)
+
 pub file-so-far : FileSoFar
 unfolding FileSoFar ReadAnyTime stateBy planLeadersBy
 file-so-far w file k leaders choke passes =
     let (fine, within, room, room₂) = passed file k leaders choke passes in
-    let so-far = read-any-time (fileN file) (fileT file) ownLinks own own (file-open file fine) (callsBy w file k) leaders choke (reads-told file k leaders choke passes w) in
-    (rw passes (rw (told file k leaders choke passes w) at so-far), λ v l. ap (λ (c : List ℕ). at c v) (choke-written file fine w k within leaders choke room room₂) ∙ listed-at (fileN file) _ choke v l)
+    let so-far = read-any-time (fileN file) (fileT file) ownLinks own own own (file-open file fine) (callsBy w file k) leaders choke (reads-told file k leaders choke passes w) in
+    (rw passes (so-far-below within (file-allowed file fine .order .below) (told-limits file) (λ i l. refl) (λ v l. refl) (rw (told file k leaders choke passes w) at so-far)), λ v l. ap (λ (c : List ℕ). at c v) (choke-written file fine w k within leaders choke room room₂) ∙ listed-at (fileN file) _ choke v l)
 
 pub file-pairs : FilePairs
 unfolding FilePairs EarlierLeadsPairs stateBy planLeadersBy
 file-pairs w file k leaders choke passes =
-    let pairs = earlier-leads-pairs (fileN file) (fileT file) ownLinks own own (file-open file (passed file k leaders choke passes .0)) (callsBy w file k) leaders choke (reads-told file k leaders choke passes w) in
+    let pairs = earlier-leads-pairs (fileN file) (fileT file) ownLinks own own own (file-open file (passed file k leaders choke passes .0)) (callsBy w file k) leaders choke (reads-told file k leaders choke passes w) in
     rw passes (rw (told file k leaders choke passes w) at pairs)
 
 -- The claim goes by the entries below n, ..

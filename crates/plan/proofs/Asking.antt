@@ -35,7 +35,7 @@ module _ (file : List ℕ) (z : fileRefusal file ≡ 0) where
 
   pub state-sound : soundState (fileState file) ≡ true
   unfolding soundState fileState
-  state-sound = means-sound _ _ _ _ _ _ _ (file-agrees file z Queued (fileN file) (omega arith) .made .sound)
+  state-sound = means-sound _ _ _ _ _ _ _ _ (file-agrees file z Queued (fileN file) (omega arith) .made .sound)
 
 -- the file's number, and 30 for a number that is no gateway
 module _ (file : List ℕ) (v a b : ℕ) {e : ℕ} (of : e ≡ fileRefusal file) where

@@ -1,12 +1,13 @@
 -- The calls that a file stands for, one after the other: the loops, and the whole.
-use Prim.Native.Nat.{ℕ, _+_, _*_, _<_, _≤_}
+use Prim.Native.Nat.{ℕ, suc, _+_, _*_, _<_, _≤_}
 use mathlib.Core.Path.{_≡_, refl, sym, ap, _∙_}
 use mathlib.Core.List.{List, []}
 use native.Mathlib.Numerals.{add-one}
 use native.Mathlib.Omega.{arith}
 use lib.ListN.{length, take, drop, replicate, length-replicate, drop-of-length-le}
+use lib.Seq.{drop-cons}
 use borrow.Author.Tests.{le-leb}
-use Rattle.packing.specs.Plant.{GATEWAYS, ENDS}
+use Rattle.packing.specs.Plant.{GATEWAYS, ENDS, at}
 use Rattle.packing.specs.Lists.{written}
 use Rattle.packing.proofs.Flat.{pair-at}
 use Rattle.packing.proofs.Lists.{written-room, written-front}
@@ -15,32 +16,35 @@ use Rattle.planner.specs.declared.Answer.{Answer}
 use Rattle.planner.specs.declared.PlaceAnswer.{PlaceAnswer}
 use Rattle.planner.specs.declared.Way.{Way}
 use Rattle.planner.specs.State.{State, stateOf}
-use Rattle.planner.specs.Calls.{answerOf, openCall, link, order, placeBy, call, callMoves, placeAnswerOf, readLeaders, readChoke}
-use Rattle.planner.specs.Run.{afterOpen, run, runMoves, linkCalls, placeCallsBy}
+use Rattle.planner.specs.Calls.{answerOf, openCall, link, order, setLimit, placeBy, call, callMoves, placeAnswerOf, readLeaders, readChoke}
+use Rattle.planner.specs.Run.{afterOpen, run, runMoves, linkCalls, limitCalls, placeCallsBy}
 use Rattle.planner.specs.Claims.{madeBy, movesBy}
 use Rattle.planner.proofs.MovedSums.{moves-last, moves-fit}
 use Rattle.planner.proofs.Filled.{filled, plant-run, plant-moves, place-last}
-use Rattle.planner.proofs.Outcomes.{open-links, link-state, order-state, place-state}
+use Rattle.planner.proofs.Outcomes.{open-links, link-state, order-state, limit-state, place-state}
 use Rattle.violator.specs.declared.WhyAnswer.{WhyAnswer}
 use Rattle.violator.specs.WhyAlone.{whyAnswer, whyFirst, whySecond}
 use Rattle.plant_file.specs.declared.reader.Step.{Step}
 use Rattle.plant_file.specs.declared.reader.Step.the-variants.{Link, End}
-use Rattle.plant_file.specs.PlantFile.{fileN, fileT, fileM, fileLinks, fileOrder, fileRefusal}
+use Rattle.plant_file.specs.PlantFile.{fileVersion, fileN, fileT, fileM, fileLinks, fileOrder, fileLimit, fileLimits, fileRefusal}
 use Rattle.plant_file.specs.Reader.{linkAt}
 use Rattle.plant_file.specs.Load.{orderWritten}
 use Rattle.plant_file.proofs.LinksByIndex.{links-long, order-long, step-at}
+use Rattle.plant_file.proofs.Versions.{read-two, read-other}
+use Rattle.plant_file.proofs.GatewayLimits.{limits-long, limits-at}
 use Rattle.plant_file.proofs.Accepted.{file-allowed}
-use Rattle.plan.specs.Plan.{callsBy, stateBy, fileMovesBy}
+use Rattle.plan.specs.Plan.{limitsToSet, callsBy, stateBy, fileMovesBy}
 use Rattle.plan.specs.Pre.{linkStep}
+use Rattle.plan.proofs.ToldByFile.{twice, set-each, set-none}
 
 -- one link
-module _ (s : Small) (ls os hs : List ℕ) where
-  pub link-none : (x : Step) → x ≡ End → stateOf s ls os hs ≡ linkStep x (stateOf s ls os hs)
+module _ (s : Small) (ls os hs ts : List ℕ) where
+  pub link-none : (x : Step) → x ≡ End → stateOf s ls os hs ts ≡ linkStep x (stateOf s ls os hs ts)
   link-none x e = rw e
 
-  pub link-made : {x : Step} {a b : ℕ} {r : Answer} {ls' : List ℕ} → x ≡ Link a b → r ≡ answerOf (call (stateOf s ls os hs) (link a b)) → ls' ≡ call (stateOf s ls os hs) (link a b) .state .links
-      → stateOf (r .small) ls' os hs ≡ linkStep x (stateOf s ls os hs)
-  link-made {a = a} {b = b} e f g = rw (e, f, g) (link-state (stateOf s ls os hs) a b)
+  pub link-made : {x : Step} {a b : ℕ} {r : Answer} {ls' : List ℕ} → x ≡ Link a b → r ≡ answerOf (call (stateOf s ls os hs ts) (link a b)) → ls' ≡ call (stateOf s ls os hs ts) (link a b) .state .links
+      → stateOf (r .small) ls' os hs ts ≡ linkStep x (stateOf s ls os hs ts)
+  link-made {a = a} {b = b} e f g = rw (e, f, g) (link-state (stateOf s ls os hs ts) a b)
 
 -- the first i links are called: what the rest makes of the record
 pub record Linking (file : List ℕ) (first now : State) (i : ℕ) : Type 0 where
@@ -54,10 +58,7 @@ module _ (file : List ℕ) {first : State} where
   pub linking-turn : {now next : State} {i : ℕ} → Linking file first now i → i < fileM file → next ≡ linkStep (linkAt file i) now → Linking file first next (i + 1)
   unfolding linkCalls run
   linking-turn {now} {next} {i} k l e =
-      record { upto = omega arith; rest = rw (e, step-at file i l, twice) (rw (pair-at (fileLinks file) (2 * i) (omega (arith, links-long file))) at (k .rest)) }
-    where
-      twice : 2 * (i + 1) ≡ 2 * i + 2
-      twice = omega arith
+      record { upto = omega arith; rest = rw (e, step-at file i l, twice i) (rw (pair-at (fileLinks file) (2 * i) (omega (arith, links-long file))) at (k .rest)) }
 
   pub linking-end : {now : State} {i : ℕ} → Linking file first now i → fileM file ≤ i → now ≡ run first (linkCalls (fileLinks file))
   unfolding linkCalls run
@@ -83,10 +84,47 @@ module _ (file : List ℕ) (z : fileRefusal file ≡ 0) {n : ℕ} (is : n ≡ fi
   pub order-front : n ≡ length (take n l)
   order-front = sym (ap length front-is ∙ order-long file ∙ sym is)
 
-  pub ordered : (s : Small) (ls os hs : List ℕ) {os' : List ℕ} {r : Answer}
-      → r ≡ answerOf (call (stateOf s ls os hs) (order (take n l))) → os' ≡ call (stateOf s ls os hs) (order (take n l)) .state .order
-      → stateOf (r .small) ls os' hs ≡ call (stateOf s ls os hs) (order (fileOrder file)) .state
-  ordered s ls os hs g h = rw (g, h, front-is) (order-state (stateOf s ls os hs) (fileOrder file))
+  pub ordered : (s : Small) (ls os hs ts : List ℕ) {os' : List ℕ} {r : Answer}
+      → r ≡ answerOf (call (stateOf s ls os hs ts) (order (take n l))) → os' ≡ call (stateOf s ls os hs ts) (order (take n l)) .state .order
+      → stateOf (r .small) ls os' hs ts ≡ call (stateOf s ls os hs ts) (order (fileOrder file)) .state
+  ordered s ls os hs ts g h = rw (g, h, front-is) (order-state (stateOf s ls os hs ts) (fileOrder file))
+
+-- the limits of the first v gateways are set: what the rest makes of the record
+pub record Limiting (file : List ℕ) (first now : State) (v : ℕ) : Type 0 where
+  pub upto : v ≤ fileN file
+  pub rest : run now (limitCalls v (drop v (fileLimits file))) ≡ run first (limitCalls 0 (fileLimits file))
+
+module _ (file : List ℕ) {first : State} where
+  pub limiting-start : Limiting file first first 0
+  limiting-start = record { upto = omega arith; rest = refl }
+
+  pub limiting-turn : {s : Small} {ls os hs ts ts' : List ℕ} {v limit : ℕ} {r : Answer} → Limiting file first (stateOf s ls os hs ts) v → v < fileN file → limit ≡ fileLimit file v
+      → r ≡ answerOf (call (stateOf s ls os hs ts) (setLimit v limit)) → ts' ≡ call (stateOf s ls os hs ts) (setLimit v limit) .state .limits
+      → Limiting file first (stateOf (r .small) ls os hs ts') (v + 1)
+  unfolding limitCalls run
+  limiting-turn {s} {ls} {os} {hs} {ts} {ts'} {v} {limit} {r} k l is e f = record { upto = omega arith; rest = rw (next, add-one v) later }
+    where
+      next : stateOf (r .small) ls os hs ts' ≡ call (stateOf s ls os hs ts) (setLimit v (at (fileLimits file) v)) .state
+      next = rw (e, f, is, ← limits-at file v l) (limit-state (stateOf s ls os hs ts) v (at (fileLimits file) v))
+
+      later : run (call (stateOf s ls os hs ts) (setLimit v (at (fileLimits file) v)) .state) (limitCalls (suc v) (drop (suc v) (fileLimits file))) ≡ run first (limitCalls 0 (fileLimits file))
+      later = rw (drop-cons (fileLimits file) v 0 (rw (limits-long file) l)) at (k .rest)
+
+  pub limiting-end : {now : State} {v : ℕ} → Limiting file first now v → fileN file ≤ v → now ≡ run first (limitCalls 0 (fileLimits file))
+  unfolding limitCalls run
+  limiting-end {now} {v} k l = rw (none (omega (arith, limits-long file))) at (k .rest)
+    where
+      none : length (fileLimits file) ≤ v → drop v (fileLimits file) ≡ []
+      none h = drop-of-length-le (fileLimits file) h
+
+-- .. by the version
+module _ (file : List ℕ) (first : State) {version : ℕ} (is : version ≡ fileVersion file) where
+  pub limits-none : (version ≡ 2 → ⊥) → first ≡ run first (limitCalls 0 (limitsToSet file))
+  unfolding limitCalls run
+  limits-none h = rw (set-none file (read-other file is h))
+
+  pub limits-all : {now : State} → version ≡ 2 → now ≡ run first (limitCalls 0 (fileLimits file)) → now ≡ run first (limitCalls 0 (limitsToSet file))
+  limits-all h e = rw (set-each file (read-two file is h)) e
 
 -- i placings are made, and moved is how many gateways they moved
 pub record Places (w : Way) (n : ℕ) (first now : State) (moved i : ℕ) : Type 0 where
@@ -100,20 +138,20 @@ module _ (w : Way) (n : ℕ) {first : State} where
   places-start = record { upto = omega arith; is = refl; moves = refl }
 
   module _
-      {s : Small} {ls os hs : List ℕ} {moved i : ℕ} {r : PlaceAnswer} (k : Places w n first (stateOf s ls os hs) moved i) (l : i < n) (e : r ≡ placeAnswerOf (stateOf s ls os hs) (placeBy w))
+      {s : Small} {ls os hs ts : List ℕ} {moved i : ℕ} {r : PlaceAnswer} (k : Places w n first (stateOf s ls os hs ts) moved i) (l : i < n) (e : r ≡ placeAnswerOf (stateOf s ls os hs ts) (placeBy w))
     where
       moves-next : moved + r .moved ≡ runMoves first (placeCallsBy w (i + 1))
-      moves-next = rw (e, add-one i) (ap (λ (x : ℕ). x + callMoves (stateOf s ls os hs) (placeBy w)) (k .moves) ∙ ap (λ (x : State). runMoves first (placeCallsBy w i) + callMoves x (placeBy w)) (k .is) ∙ sym (moves-last first w i))
+      moves-next = rw (e, add-one i) (ap (λ (x : ℕ). x + callMoves (stateOf s ls os hs ts) (placeBy w)) (k .moves) ∙ ap (λ (x : State). runMoves first (placeCallsBy w i) + callMoves x (placeBy w)) (k .is) ∙ sym (moves-last first w i))
 
       -- the sum has 32 bits
       pub places-fit : moved + r .moved ≤ GATEWAYS * GATEWAYS
       places-fit = rw moves-next (moves-fit first w (i + 1))
 
-      pub places-turn : {hs' : List ℕ} → hs' ≡ call (stateOf s ls os hs) (placeBy w) .state .holders → Places w n first (stateOf (r .small) ls os hs') (moved + r .moved) (i + 1)
+      pub places-turn : {hs' : List ℕ} → hs' ≡ call (stateOf s ls os hs ts) (placeBy w) .state .holders → Places w n first (stateOf (r .small) ls os hs' ts) (moved + r .moved) (i + 1)
       places-turn f =
           record {
             upto = omega arith;
-            is = rw (e, f, add-one i) (place-state (stateOf s ls os hs) w ∙ ap (λ (x : State). call x (placeBy w) .state) (k .is) ∙ sym (place-last first w i));
+            is = rw (e, f, add-one i) (place-state (stateOf s ls os hs ts) w ∙ ap (λ (x : State). call x (placeBy w) .state) (k .is) ∙ sym (place-last first w i));
             moves = moves-next;
           }
 
@@ -125,43 +163,49 @@ module _ (w : Way) (n : ℕ) {first : State} where
 
 -- open, and all the calls
 module _
-    (w : Way) (file : List ℕ) (k : ℕ) (ls os hs : List ℕ) {n t : ℕ} {ls₂ os₁ os₃ hs₁ : List ℕ} {r : Answer} {s₂ s₃ : Small} (en : n ≡ fileN file) (et : t ≡ fileT file)
-    (er : r ≡ answerOf (openCall n t ls os hs)) (eo : os₁ ≡ openCall n t ls os hs .state .order) (eh : hs₁ ≡ openCall n t ls os hs .state .holders)
-    (links : stateOf s₂ ls₂ os₁ hs₁ ≡ run (stateOf (r .small) ls os₁ hs₁) (linkCalls (fileLinks file)))
-    (orders : stateOf s₃ ls₂ os₃ hs₁ ≡ call (stateOf s₂ ls₂ os₁ hs₁) (order (fileOrder file)) .state)
+    (w : Way) (file : List ℕ) (k : ℕ) (ls os hs ts : List ℕ) {n t : ℕ} {ls₂ os₁ os₃ hs₁ ts₁ ts₄ : List ℕ} {r : Answer} {s₂ s₃ s₄ : Small} (en : n ≡ fileN file) (et : t ≡ fileT file)
+    (er : r ≡ answerOf (openCall n t ls os hs ts)) (eo : os₁ ≡ openCall n t ls os hs ts .state .order) (eh : hs₁ ≡ openCall n t ls os hs ts .state .holders) (el : ts₁ ≡ openCall n t ls os hs ts .state .limits)
+    (links : stateOf s₂ ls₂ os₁ hs₁ ts₁ ≡ run (stateOf (r .small) ls os₁ hs₁ ts₁) (linkCalls (fileLinks file)))
+    (orders : stateOf s₃ ls₂ os₃ hs₁ ts₁ ≡ call (stateOf s₂ ls₂ os₁ hs₁ ts₁) (order (fileOrder file)) .state)
+    (limits : stateOf s₄ ls₂ os₃ hs₁ ts₄ ≡ run (stateOf s₃ ls₂ os₃ hs₁ ts₁) (limitCalls 0 (limitsToSet file)))
   where
-    begun : stateOf (r .small) ls os₁ hs₁ ≡ afterOpen (fileN file) (fileT file) ls os hs
-    begun = let opened : stateOf (r .small) ls os₁ hs₁ ≡ afterOpen n t ls os hs = rw (er, eo, eh) (open-links n t ls os hs) in rw (en, et) at opened
+    begun : stateOf (r .small) ls os₁ hs₁ ts₁ ≡ afterOpen (fileN file) (fileT file) ls os hs ts
+    begun = let opened : stateOf (r .small) ls os₁ hs₁ ts₁ ≡ afterOpen n t ls os hs ts = rw (er, eo, eh, el) (open-links n t ls os hs ts) in rw (en, et) at opened
 
-    full : stateOf s₃ ls₂ os₃ hs₁ ≡ filled (afterOpen (fileN file) (fileT file) ls os hs) (fileLinks file) (fileOrder file)
-    full = orders ∙ ap (λ (x : State). call x (order (fileOrder file)) .state) (links ∙ ap (λ (x : State). run x (linkCalls (fileLinks file))) begun)
+    full : stateOf s₄ ls₂ os₃ hs₁ ts₄ ≡ filled (afterOpen (fileN file) (fileT file) ls os hs ts) (fileLinks file) (fileOrder file) (limitsToSet file)
+    full =
+        limits
+        ∙ ap (λ (x : State). run x (limitCalls 0 (limitsToSet file))) (orders ∙ ap (λ (x : State). call x (order (fileOrder file)) .state) (links ∙ ap (λ (x : State). run x (linkCalls (fileLinks file))) begun))
 
-    pub all-made : {hs₄ : List ℕ} {s₄ : Small} → stateOf s₄ ls₂ os₃ hs₄ ≡ run (stateOf s₃ ls₂ os₃ hs₁) (placeCallsBy w k) → stateOf s₄ ls₂ os₃ hs₄ ≡ madeBy (fileN file) (fileT file) ls os hs (callsBy w file k)
+    pub all-made : {hs₅ : List ℕ} {s₅ : Small} → stateOf s₅ ls₂ os₃ hs₅ ts₄ ≡ run (stateOf s₄ ls₂ os₃ hs₁ ts₄) (placeCallsBy w k)
+        → stateOf s₅ ls₂ os₃ hs₅ ts₄ ≡ madeBy (fileN file) (fileT file) ls os hs ts (callsBy w file k)
     unfolding callsBy
-    all-made places = places ∙ ap (λ (x : State). run x (placeCallsBy w k)) full ∙ sym (plant-run (afterOpen (fileN file) (fileT file) ls os hs) w (fileLinks file) (fileOrder file) k)
+    all-made places =
+        places ∙ ap (λ (x : State). run x (placeCallsBy w k)) full ∙ sym (plant-run (afterOpen (fileN file) (fileT file) ls os hs ts) w (fileLinks file) (fileOrder file) (limitsToSet file) k)
 
-    pub all-moves : {m : ℕ} → m ≡ runMoves (stateOf s₃ ls₂ os₃ hs₁) (placeCallsBy w k) → m ≡ movesBy (fileN file) (fileT file) ls os hs (callsBy w file k)
+    pub all-moves : {m : ℕ} → m ≡ runMoves (stateOf s₄ ls₂ os₃ hs₁ ts₄) (placeCallsBy w k) → m ≡ movesBy (fileN file) (fileT file) ls os hs ts (callsBy w file k)
     unfolding callsBy
-    all-moves places = places ∙ ap (λ (x : State). runMoves x (placeCallsBy w k)) full ∙ sym (plant-moves (afterOpen (fileN file) (fileT file) ls os hs) w (fileLinks file) (fileOrder file) k)
+    all-moves places =
+        places ∙ ap (λ (x : State). runMoves x (placeCallsBy w k)) full ∙ sym (plant-moves (afterOpen (fileN file) (fileT file) ls os hs ts) w (fileLinks file) (fileOrder file) (limitsToSet file) k)
 
 -- the record made with lists of 0 is the file's after k placings, and so is what a read of it writes
-module _ (w : Way) (file : List ℕ) (k : ℕ) {ls os hs : List ℕ} (els : ls ≡ replicate ENDS 0) (eos : os ≡ replicate GATEWAYS 0) (ehs : hs ≡ replicate GATEWAYS 0) where
-  file-made : {s : State} → s ≡ madeBy (fileN file) (fileT file) ls os hs (callsBy w file k) → s ≡ stateBy w file k
+module _ (w : Way) (file : List ℕ) (k : ℕ) {ls os hs ts : List ℕ} (els : ls ≡ replicate ENDS 0) (eos : os ≡ replicate GATEWAYS 0) (ehs : hs ≡ replicate GATEWAYS 0) (ets : ts ≡ replicate GATEWAYS 0) where
+  file-made : {s : State} → s ≡ madeBy (fileN file) (fileT file) ls os hs ts (callsBy w file k) → s ≡ stateBy w file k
   unfolding stateBy
-  file-made made = made ∙ rw (els, eos, ehs)
+  file-made made = made ∙ rw (els, eos, ehs, ets)
 
-  file-moves : {m : ℕ} → m ≡ movesBy (fileN file) (fileT file) ls os hs (callsBy w file k) → m ≡ fileMovesBy w file k
+  file-moves : {m : ℕ} → m ≡ movesBy (fileN file) (fileT file) ls os hs ts (callsBy w file k) → m ≡ fileMovesBy w file k
   unfolding fileMovesBy
-  file-moves moves = moves ∙ rw (els, eos, ehs)
+  file-moves moves = moves ∙ rw (els, eos, ehs, ets)
 
   -- .. and what it answers when it is asked why a gateway is alone
-  pub all-looked : (s : Small) (ls' os' hs' leaders choke : List ℕ) (v : ℕ) (first second : List ℕ) {m : ℕ} {leaders' choke' : List ℕ} {a : WhyAnswer} {first' second' : List ℕ}
-      → stateOf s ls' os' hs' ≡ madeBy (fileN file) (fileT file) ls os hs (callsBy w file k) → m ≡ movesBy (fileN file) (fileT file) ls os hs (callsBy w file k)
-      → (leaders' ≡ readLeaders (stateOf s ls' os' hs') leaders choke) × (choke' ≡ readChoke (stateOf s ls' os' hs') leaders choke)
-      → (a ≡ whyAnswer (stateOf s ls' os' hs') v (length first) (length second)) × ((first' ≡ whyFirst (stateOf s ls' os' hs') v first second) × (second' ≡ whySecond (stateOf s ls' os' hs') v first second))
+  pub all-looked : (s : Small) (ls' os' hs' ts' leaders choke : List ℕ) (v : ℕ) (first second : List ℕ) {m : ℕ} {leaders' choke' : List ℕ} {a : WhyAnswer} {first' second' : List ℕ}
+      → stateOf s ls' os' hs' ts' ≡ madeBy (fileN file) (fileT file) ls os hs ts (callsBy w file k) → m ≡ movesBy (fileN file) (fileT file) ls os hs ts (callsBy w file k)
+      → (leaders' ≡ readLeaders (stateOf s ls' os' hs' ts') leaders choke) × (choke' ≡ readChoke (stateOf s ls' os' hs' ts') leaders choke)
+      → (a ≡ whyAnswer (stateOf s ls' os' hs' ts') v (length first) (length second)) × ((first' ≡ whyFirst (stateOf s ls' os' hs' ts') v first second) × (second' ≡ whySecond (stateOf s ls' os' hs' ts') v first second))
       → (leaders' ≡ readLeaders (stateBy w file k) leaders choke) × ((choke' ≡ readChoke (stateBy w file k) leaders choke) × ((m ≡ fileMovesBy w file k)
       × ((a ≡ whyAnswer (stateBy w file k) v (length first) (length second)) × ((first' ≡ whyFirst (stateBy w file k) v first second) × (second' ≡ whySecond (stateBy w file k) v first second)))))
-  all-looked s ls' os' hs' leaders choke v first second made moves (e, f) (g, (h, i)) =
+  all-looked s ls' os' hs' ts' leaders choke v first second made moves (e, f) (g, (h, i)) =
       let same = file-made made in (
         e ∙ ap (λ (x : State). readLeaders x leaders choke) same,
         (

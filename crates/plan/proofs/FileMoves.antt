@@ -7,11 +7,9 @@ use native.Mathlib.Numerals.{add-one}
 use native.Mathlib.Omega.{arith}
 use lib.ListN.{length}
 use Rattle.packing.specs.Count.{sum}
-use Rattle.packing.specs.Plant.{at, common, linked}
+use Rattle.packing.specs.Plant.{at, linked}
 use Rattle.packing.specs.Moved.{Fewest}
-use Rattle.sound.specs.Facts.{SoundMeans}
-use Rattle.sound.proofs.Facts.{sound-means-facts}
-use Rattle.sound.proofs.Meaning.{means-sound}
+use Rattle.packing.proofs.Below.{fewest-limits}
 use Rattle.planner.specs.declared.Small.{Small}
 use Rattle.planner.specs.declared.Way.{Way}
 use Rattle.planner.specs.declared.Way.the-variants.{Queued}
@@ -25,29 +23,30 @@ use Rattle.planner.proofs.Moved.{nobody-moved, new-one-moved}
 use Rattle.planner.proofs.MovedTold.{fewest-told}
 use Rattle.planner.proofs.MovedSums.{moves-last, moves-fit}
 use Rattle.planner.proofs.Filled.{filled, plant-run, plant-moves, place-last}
-use Rattle.plant_file.specs.PlantFile.{fileN, fileT, fileLinks, fileOrder, fileRefusal}
-use Rattle.plan.specs.Plan.{callsBy, stateBy, fileMovesBy, callsAfter, stateAfter, movesAfter}
+use Rattle.planner.proofs.Next.{sound-says}
+use Rattle.plant_file.specs.PlantFile.{fileN, fileT, fileLinks, fileOrder, fileLimit, fileRefusal}
+use Rattle.plan.specs.Plan.{limitsToSet, callsBy, stateBy, fileMovesBy, callsAfter, stateAfter, movesAfter}
 use Rattle.plan.specs.After.{planMovesBy}
 use Rattle.plan.specs.Claim.{placingMoves, placingKeeps, SumOfMoves, SumOfFewest, FileMoves, MovesFit}
 use Rattle.plan.proofs.Refusing.{plan-places}
-use Rattle.plan.proofs.ToldByFile.{placedTold}
+use Rattle.plan.proofs.ToldByFile.{placedTold, toldLimit, told-limits}
 use Rattle.plan.proofs.After.{ownLinks, own, file-open, file-told, file-agrees}
 
--- the record that the file's links and order make, and what its placings make of it
+-- the record that the file's links, order and limits make, and what its placings make of it
 full : List ℕ → State
-full file = filled (afterOpen (fileN file) (fileT file) ownLinks own own) (fileLinks file) (fileOrder file)
+full file = filled (afterOpen (fileN file) (fileT file) ownLinks own own own) (fileLinks file) (fileOrder file) (limitsToSet file)
 
 module _ (w : Way) (file : List ℕ) where
   state-is : (k : ℕ) → stateBy w file k ≡ run (full file) (placeCallsBy w k)
   unfolding stateBy callsBy full
-  state-is k = plant-run (afterOpen (fileN file) (fileT file) ownLinks own own) w (fileLinks file) (fileOrder file) k
+  state-is k = plant-run (afterOpen (fileN file) (fileT file) ownLinks own own own) w (fileLinks file) (fileOrder file) (limitsToSet file) k
 
   moves-are : (k : ℕ) → fileMovesBy w file k ≡ runMoves (full file) (placeCallsBy w k)
   unfolding fileMovesBy callsBy full
-  moves-are k = plant-moves (afterOpen (fileN file) (fileT file) ownLinks own own) w (fileLinks file) (fileOrder file) k
+  moves-are k = plant-moves (afterOpen (fileN file) (fileT file) ownLinks own own own) w (fileLinks file) (fileOrder file) (limitsToSet file) k
 
   -- one placing more
-  state-next : (k : ℕ) → stateBy w file (k + 1) ≡ call (stateBy w file k) (placeBy w) .state
+  pub state-next : (k : ℕ) → stateBy w file (k + 1) ≡ call (stateBy w file k) (placeBy w) .state
   state-next k = state-is (k + 1) ∙ rw (add-one k) (place-last (full file) w k) ∙ ap (λ (s : State). call s (placeBy w) .state) (sym (state-is k))
 
 -- the sum has 32 bits, whatever the file
@@ -94,11 +93,11 @@ module _ (file : List ℕ) (z : fileRefusal file ≡ 0) (w : Way) where
     left-none e = sym (placing-is j (omega arith)) ∙ nobody-moved (stateBy w file j) .left w (next-held false e)
 
     kept-some : placingKeeps w file j ≡ true → 1 ≤ placingMoves w file j
-    unfolding NewOneMoved SoundMeans
+    unfolding NewOneMoved
     kept-some e =
         let sound = file-agrees file z w j (omega arith) .made .sound in
         rw (placing-is j (omega arith)) at
-        (new-one-moved (stateBy w file j) w (sound-means-facts _ _ _ _ _ _ _ .0 (means-sound _ _ _ _ _ _ _ sound)) (omega (arith, placed j (omega arith), few j (omega arith))) (next-held true e) .1)
+        (new-one-moved (stateBy w file j) w (sound-says (stateBy w file j) sound) (omega (arith, placed j (omega arith), few j (omega arith))) (next-held true e) .1)
 
   pub moves-sum : (k : ℕ) → k ≤ fileN file → SumOfMoves w file k (fileMovesBy w file k)
   moves-sum k l = record { sums = sums-to k l; left = λ j i. left-none j (omega arith); kept = λ j i. kept-some j (omega arith) }
@@ -110,11 +109,13 @@ module _ (file : List ℕ) (z : fileRefusal file ≡ 0) where
     unfolding FewestMovedTold stateBy
     by-calls =
         let tells = file-told file z Queued j (omega arith) in
-        rw tells at (fewest-told (fileN file) (fileT file) ownLinks own own (file-open file z) (callsAfter file j) (rw tells l))
+        rw tells at (fewest-told (fileN file) (fileT file) ownLinks own own own (file-open file z) (callsAfter file j) (rw tells l))
 
     kept-fewest : placingKeeps Queued file j ≡ true
-        → Fewest (fileN file) (common (fileT file)) (linked (fileLinks file)) (at (stateAfter file j .holders)) (at (stateAfter file (j + 1) .holders)) (at (fileOrder file) j) (placingMoves Queued file j)
-    kept-fewest e = rw (← state-next Queued file j, placing-is file z Queued j (omega arith)) at (by-calls (rw (← state-next Queued file j) e))
+        → Fewest (fileN file) (fileLimit file) (linked (fileLinks file)) (at (stateAfter file j .holders)) (at (stateAfter file (j + 1) .holders)) (at (fileOrder file) j) (placingMoves Queued file j)
+    kept-fewest e =
+        fewest-limits (fileN file) (toldLimit file) (fileLimit file) (linked (fileLinks file)) (told-limits file)
+        (rw (← state-next Queued file j, placing-is file z Queued j (omega arith)) at (by-calls (rw (← state-next Queued file j) e)))
 
   pub moves-least : (k : ℕ) → k ≤ fileN file → SumOfFewest file k (movesAfter file k)
   moves-least k l = record { moves = moves-sum file z Queued k l; fewest = λ j i. kept-fewest j (omega arith) }

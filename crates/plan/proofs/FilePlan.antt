@@ -7,23 +7,25 @@ use native.Mathlib.Omega.{arith}
 use lib.Dec.{eqb}
 use lib.ListN.{length, replicate}
 use Rattle.packing.specs.Count.{count}
-use Rattle.packing.specs.Plant.{NONE, at, common, linked}
-use Rattle.packing.specs.Grouping.{covered}
+use Rattle.packing.specs.Plant.{NONE, at, linked}
+use Rattle.packing.specs.Grouping.{Grouping, covered}
 use Rattle.packing.proofs.Sums.{count-ext}
 use Rattle.packing.proofs.SoFar.{first-same}
-use Rattle.packing.proofs.Below.{grouping-below, difference-below}
+use Rattle.packing.proofs.Below.{grouping-below, grouping-limits, difference-below, difference-limits}
 use Rattle.planner.specs.declared.Way.{Way}
 use Rattle.planner.specs.declared.Way.the-variants.{Queued}
 use Rattle.planner.specs.Told.{Told}
 use Rattle.planner.specs.Claims.{DemandTwo, DemandThree}
 use Rattle.planner.proofs.Demands.{demand-two, demand-three}
-use Rattle.plant_file.specs.PlantFile.{fileN, fileT, fileLinks, fileRefusal}
+use Rattle.plant_file.specs.PlantFile.{fileN, fileT, fileLinks, fileLimit, fileRefusal}
+use Rattle.plant_file.specs.FilePlant.{GroupingOf}
 use Rattle.plant_file.proofs.Accepted.{file-allowed}
 use Rattle.plant_file.proofs.Refusing.{then-alone}
 use Rattle.plan.specs.Plan.{callsBy, stateBy, planRefusal, planLeaders, planChoke, fileLeaders, fileChoke}
 use Rattle.plan.specs.After.{planLeadersBy, planChokeBy, fileLeadersBy, fileLeadersAfter, fileChokeBy, fileChokeAfter}
 use Rattle.plan.specs.Claim.{PlanOf, FilePlan, FilePlanBy, AfterAll}
 use Rattle.plan.proofs.Refusing.{after-within, number-all, after-all, plan-places}
+use Rattle.plan.proofs.ToldByFile.{toldLimit, told-limits}
 use Rattle.plan.proofs.After as after
 use Rattle.plan.proofs.After.{ownLinks, own, Front, file-open, told, reads-told, zeros, after-passes, after-own}
 
@@ -54,6 +56,13 @@ module _ (file : List ℕ) (z : fileRefusal file ≡ 0) {n : ℕ} (is : n ≡ fi
   unfolding AfterAll
   choke-front e = rw choke-all at (after.choke-front file z Queued (fileN file) (omega arith) is ea eb (e ∙ sym (after-all file a b .2)))
 
+-- groupings by the limits told and by the file's
+of-told : (file : List ℕ) (g : ℕ → ℕ) → Grouping (fileN file) (toldLimit file) (linked (fileLinks file)) g → GroupingOf file g
+of-told file = grouping-limits (fileN file) (toldLimit file) (fileLimit file) (linked (fileLinks file)) (told-limits file)
+
+to-told : (file : List ℕ) (g : ℕ → ℕ) → GroupingOf file g → Grouping (fileN file) (toldLimit file) (linked (fileLinks file)) g
+to-told file = grouping-limits (fileN file) (fileLimit file) (toldLimit file) (linked (fileLinks file)) (λ u l. sym (told-limits file u l))
+
 pub file-plan-by : FilePlanBy
 unfolding FilePlanBy DemandTwo DemandThree stateBy planLeadersBy planChokeBy
 file-plan-by w file leaders choke passes =
@@ -62,9 +71,13 @@ file-plan-by w file leaders choke passes =
     let reads = reads-told file (fileN file) leaders choke all w in
     let opens = file-open file (plan-accepts file (length leaders) (length choke) passes .0) in
     let placed = ap (λ (p : Told). p .placed) tells in
-    let three = demand-three (fileN file) (fileT file) ownLinks own own opens (callsBy w file (fileN file)) placed leaders choke reads in
-    let two = demand-two (fileN file) (fileT file) ownLinks own own opens (callsBy w file (fileN file)) placed leaders choke reads in
-    rw all (rw tells at (three .0), rw tells at (three .1), rw tells at (two .2))
+    let three = demand-three (fileN file) (fileT file) ownLinks own own own opens (callsBy w file (fileN file)) placed leaders choke reads in
+    let two = demand-two (fileN file) (fileT file) ownLinks own own own opens (callsBy w file (fileN file)) placed leaders choke reads in
+    rw all (
+      of-told file _ (rw tells at (three .0)),
+      λ other group. (rw tells at (three .1)) other (to-told file other group),
+      difference-limits (fileN file) (toldLimit file) (fileLimit file) (linked (fileLinks file)) (told-limits file) _ _ (rw tells at (two .2)),
+    )
 
 pub file-plan : FilePlan
 unfolding FilePlan FilePlanBy AfterAll
@@ -77,9 +90,9 @@ pub plan-below : (file : List ℕ) → fileRefusal file ≡ 0 → (g h : ℕ →
     → PlanOf file g s → PlanOf file h r
 plan-below file z g h s r same alike (group, most, difference) =
     let left : count (fileN file) (λ v. not (covered g v)) ≡ count (fileN file) (λ v. not (covered h v)) = count-ext (fileN file) _ _ (λ v l. ap (λ (x : ℕ). not (not (eqb x NONE))) (same v l)) in (
-      grouping-below (fileN file) (common (fileT file)) (linked (fileLinks file)) g h same group,
+      grouping-below (fileN file) (fileLimit file) (linked (fileLinks file)) g h same group,
       λ other ok k l. rw (first-same (omega arith) (file-allowed file z .order .below) (λ i q. refl) (covered g) (covered h) (λ v q. ap (λ (x : ℕ). not (eqb x NONE)) (same v q)) k l) at (most other ok k l),
-      difference-below (fileN file) (common (fileT file)) (linked (fileLinks file)) s r _ _ alike left difference,
+      difference-below (fileN file) (fileLimit file) (linked (fileLinks file)) s r _ _ alike left difference,
     )
 
 -- .. and so holds of the n leaders and the n choke bytes alone.

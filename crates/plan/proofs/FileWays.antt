@@ -29,11 +29,11 @@ unfolding FileWays SameKept SameRead stateBy planLeadersBy planChokeBy
 file-ways w w' file k leaders choke leaders' choke' passes passes' =
     let opens = file-open file (plan-places file k (length leaders) (length choke) refl passes .0) in
     let same = same-told w w' file k leaders choke passes in (
-      same-kept (fileN file) (fileT file) (fileT file) ownLinks own own ownLinks own own opens opens (callsBy w file k) (callsBy w' file k) same,
+      same-kept (fileN file) (fileT file) (fileT file) ownLinks own own own ownLinks own own own opens opens (callsBy w file k) (callsBy w' file k) same,
       λ full.
           let placed : toldBy (fileN file) (fileT file) ownLinks (callsBy w file k) .placed ≡ fileN file = ap (λ (p : Told). p .placed) (told file k leaders choke passes w) ∙ full in
           rw (passes, passes')
-          (same-read (fileN file) (fileT file) (fileT file) ownLinks own own ownLinks own own opens opens (callsBy w file k) (callsBy w' file k) same placed leaders choke leaders' choke'
+          (same-read (fileN file) (fileT file) (fileT file) ownLinks own own own ownLinks own own own opens opens (callsBy w file k) (callsBy w' file k) same placed leaders choke leaders' choke'
           (reads-told file k leaders choke passes w) (reads-told file k leaders' choke' passes' w')),
     )
 

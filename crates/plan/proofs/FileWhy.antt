@@ -1,7 +1,7 @@
 -- Why a gateway is alone in the plan of an accepted file: the claim of specs/Claim.antt, and the refusals in words.
-use Prim.Native.Nat.{ℕ, zero, suc, _+_, _<_}
+use Prim.Native.Nat.{ℕ, zero, suc, _<_}
 use mathlib.Core.Path.{_≡_, refl, sym, ap, _∙_}
-use mathlib.Core.Logic.{_⊎_, inl, inr, ⊎-elim}
+use mathlib.Core.Logic.{inl, inr, ⊎-elim}
 use mathlib.Core.Bool.{Bool, not, _||_}
 use mathlib.Core.List.{List}
 use native.Mathlib.Omega.{arith}
@@ -18,7 +18,7 @@ use Rattle.packing.proofs.Tests.{by-bool}
 use Rattle.packing.proofs.Prefixes.{order-place}
 use Rattle.packing.proofs.Refusals.{first-none}
 use Rattle.packing.proofs.Turns.{turn-done, turn-named, turn-as, named-once, says-less, says-most, says-same, says-either, says-not}
-use Rattle.packing.proofs.Violator.{sumOf-common, violator-below, smallest-below}
+use Rattle.packing.proofs.Violator.{violator-below, smallest-below}
 use Rattle.planner.specs.declared.Way.the-variants.{Queued}
 use Rattle.planner.specs.Calls.{read, readLeaders}
 use Rattle.planner.specs.Told.{Told, refuses}
@@ -38,7 +38,7 @@ use Rattle.plan.specs.Why.{fileWhyRefusal, fileFirst, fileSecond}
 use Rattle.plan.specs.Claim.{WhyOf, FileWhy}
 use Rattle.plan.specs.Turns.{NotAlone, FileWhyExactly}
 use Rattle.plan.proofs.Refusing.{number-all}
-use Rattle.plan.proofs.ToldByFile.{placedTold}
+use Rattle.plan.proofs.ToldByFile.{placedTold, told-limits}
 use Rattle.plan.proofs.After.{ownLinks, own, file-open, told, reads-told, zeros, after-passes}
 use Rattle.plan.proofs.Asking.{state-gateways}
 
@@ -66,7 +66,7 @@ module _ (file : List ℕ) (z : fileRefusal file ≡ 0) where
   covers-kept : (x : ℕ) → x < fileN file → held (fileN file) (at (fileState file .holders)) x ≡ covered (at (fileLeaders file)) x
   unfolding DemandTwo fileState stateBy
   covers-kept x l =
-      sym (rw leaders-read (demand-two (fileN file) (fileT file) ownLinks own own (file-open file z) (callsAfter file (fileN file)) (ap (λ (p : Told). p .placed) tells) lent lent reads .1 x l))
+      sym (rw leaders-read (demand-two (fileN file) (fileT file) ownLinks own own own (file-open file z) (callsAfter file (fileN file)) (ap (λ (p : Told). p .placed) tells) lent lent reads .1 x l))
 
   module _ (v : ℕ) where
     -- one that is placed and alone in the read is one that the plan leaves alone
@@ -83,12 +83,12 @@ module _ (file : List ℕ) (z : fileRefusal file ≡ 0) where
     unfolding WhyAsked fileState stateBy
     asked-exactly a b =
         turn-as 30 (shortTurn (fileN file) a b) (whyRefusal (fileState file) v a b) alone-in-plan plan-alone
-        (rw tells at (why-asked (fileN file) (fileT file) ownLinks own own (file-open file z) (callsAfter file (fileN file)) lent lent reads v a b))
+        (rw tells at (why-asked (fileN file) (fileT file) ownLinks own own own (file-open file z) (callsAfter file (fileN file)) lent lent reads v a b))
 
     module _ (first second : List ℕ) (asked : whyRefusal (fileState file) v (length first) (length second) ≡ 0) where
-      by-calls : WhyAloneOf (fileN file) (fileT file) (placedTold file (length ownLinks) (fileN file)) (fileState file) v first second
+      by-calls : WhyAloneOf (fileN file) (placedTold file (length ownLinks) (fileN file)) (fileState file) v first second
       unfolding WhyAlone fileState stateBy
-      by-calls = rw tells at (why-alone (fileN file) (fileT file) ownLinks own own (file-open file z) (callsAfter file (fileN file)) v first second asked)
+      by-calls = rw tells at (why-alone (fileN file) (fileT file) ownLinks own own own (file-open file z) (callsAfter file (fileN file)) v first second asked)
 
       first-set : firstSet (fileState file) v first second ≡ fileFirst file v
       unfolding fileFirst
@@ -100,8 +100,10 @@ module _ (file : List ℕ) (z : fileRefusal file ≡ 0) where
 
       pub sets-why : WhyOf file (at (fileLeaders file)) v (fileFirst file v) (fileSecond file v)
       sets-why =
-          let w = violator-below (λ u l. refl) (λ i l. refl) covers-kept (rw (first-set, second-set) at (by-calls .violator)) in
-          record { violator = w; smallest = smallest-below (λ u l. refl) covers-kept (rw (first-set, second-set) at (by-calls .smallest)); counts = w .size ∙ ap (λ (k : ℕ). k + 1) (sumOf-common (fileT file) (fileSecond file v)) }
+          record {
+            violator = violator-below (told-limits file) (λ i l. refl) covers-kept (rw (first-set, second-set) at (by-calls .violator));
+            smallest = smallest-below (told-limits file) covers-kept (rw (first-set, second-set) at (by-calls .smallest));
+          }
 
 pub file-why : FileWhy
 unfolding FileWhy fileWhyRefusal
@@ -113,7 +115,7 @@ file-why file v a b passes =
 pub why-below : (file : List ℕ) (g h : ℕ → ℕ) (v : ℕ) (first second : List ℕ) → ((x : ℕ) → x < fileN file → g x ≡ h x) → WhyOf file g v first second → WhyOf file h v first second
 why-below file g h v first second same w =
     let cover : (x : ℕ) → x < fileN file → covered g x ≡ covered h x = λ x l. ap (λ (y : ℕ). not (eqb y NONE)) (same x l) in
-    record { violator = violator-below (λ u l. refl) (λ i l. refl) cover (w .violator); smallest = smallest-below (λ u l. refl) cover (w .smallest); counts = w .counts }
+    record { violator = violator-below (λ u l. refl) (λ i l. refl) cover (w .violator); smallest = smallest-below (λ u l. refl) cover (w .smallest) }
 
 -- The number by tests: the file's; 30, where v is no gateway or the plan does not leave it alone; 10.
 module _ (file : List ℕ) (v : ℕ) where

@@ -9,3 +9,4 @@ pub mod Asking
 pub mod FilePlan
 pub mod FileWays
 pub mod FileWhy
+pub mod VersionOne

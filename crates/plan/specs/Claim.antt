@@ -1,12 +1,12 @@
--- 00, demands 2 and 3, and 02, changes 1, 2, 4, 5 and 7, for a plan made from a file.
-use Prim.Native.Nat.{ℕ, _+_, _*_, _<_, _≤_}
+-- 00, demands 2 and 3, and 02, changes 1, 2, 4, 5, 7 and 8, for a plan made from a file of either version.
+use Prim.Native.Nat.{ℕ, _+_, _<_, _≤_}
 use mathlib.Core.Path.{_≡_}
 use mathlib.Core.Bool.{Bool, true, false, not}
 use mathlib.Core.List.{List}
 use lib.Dec.{eqb}
-use lib.ListN.{length}
+use lib.ListN.{length, replicate}
 use Rattle.packing.specs.Count.{sum, count}
-use Rattle.packing.specs.Plant.{at, common, linked}
+use Rattle.packing.specs.Plant.{ENDS, at, linked}
 use Rattle.packing.specs.Grouping.{covered, coveredFirst}
 use Rattle.packing.specs.Pairs.{EarlierLeads}
 use Rattle.packing.specs.Holders.{held}
@@ -16,11 +16,18 @@ use Rattle.packing.specs.Violator.{Violator, Smallest}
 use Rattle.search.specs.ChokeSet.{chokeByte}
 use Rattle.planner.specs.declared.Way.{Way}
 use Rattle.planner.specs.declared.Way.the-variants.{Queued}
-use Rattle.plant_file.specs.PlantFile.{fileN, fileT, fileLinks, fileOrder}
+use Rattle.planner.specs.Claims.{toldBy}
+use Rattle.plant_file.specs.PlantFile.{fileN, fileT, fileLinks, fileOrder, fileLimit, fileRefusal}
 use Rattle.plant_file.specs.FilePlant.{GroupingOf, DifferenceOf}
-use Rattle.plan.specs.Plan.{stateBy, stateAfter, fileMovesBy, planRefusal, planLeaders, planChoke, fileLeaders}
+use Rattle.plan.specs.Plan.{callsBy, stateBy, stateAfter, fileMovesBy, planRefusal, planLeaders, planChoke, fileLeaders}
 use Rattle.plan.specs.After.{planAfterRefusal, planMovesBy, planMovesAfter, planLeadersBy, planLeadersAfter, planChokeBy, planChokeAfter}
 use Rattle.plan.specs.Why.{fileWhyRefusal, fileFirst, fileSecond}
+
+-- 02, change 8: what the file's calls tell of the limits is what the file says, in either version.
+unfoldable pub FileTellsLimits : Type 0
+FileTellsLimits =
+    (w : Way) (file : List ℕ) (k : ℕ) → fileRefusal file ≡ 0 → k ≤ fileN file
+    → (v : ℕ) → v < fileN file → toldBy (fileN file) (fileT file) (replicate ENDS 0) (callsBy w file k) .limit v ≡ fileLimit file v
 
 -- What is claimed of leaders g and a choke set s for that plant: g is a grouping, no grouping covers more of the first k in the file's order for any k up to n,
 -- and the choke set's difference is the number not covered.
@@ -45,7 +52,7 @@ FilePlanBy =
 
 -- After k placings in one way: what is claimed of leaders g for that plant. The holders are those of the record that the file's calls make.
 abbrev pub PlanSoFar : Way → List ℕ → ℕ → (ℕ → ℕ) → Type 0
-PlanSoFar w file k g = SoFar (fileN file) (common (fileT file)) (linked (fileLinks file)) (at (fileOrder file)) k (at (stateBy w file k .holders)) g
+PlanSoFar w file k g = SoFar (fileN file) (fileLimit file) (linked (fileLinks file)) (at (fileOrder file)) k (at (stateBy w file k .holders)) g
 
 -- It holds of what is written for every accepted file and number of placings, and the choke bytes are those of the same holders.
 unfoldable pub FileSoFar : Type 0
@@ -74,11 +81,11 @@ pub record SumOfMoves (w : Way) (file : List ℕ) (k total : ℕ) : Type 0 where
   pub left : (j : ℕ) → j < k → placingKeeps w file j ≡ false → placingMoves w file j ≡ 0
   pub kept : (j : ℕ) → j < k → placingKeeps w file j ≡ true → 1 ≤ placingMoves w file j
 
--- By 01's search it is the fewest that holders of it and of all kept before it could, along the file's links and within its T.
+-- By 01's search it is the fewest that holders of it and of all kept before it could, along the file's links and within each gateway's limit.
 pub record SumOfFewest (file : List ℕ) (k total : ℕ) : Type 0 where
   pub moves : SumOfMoves Queued file k total
   pub fewest : (j : ℕ) → j < k → placingKeeps Queued file j ≡ true
-      → Fewest (fileN file) (common (fileT file)) (linked (fileLinks file)) (at (stateAfter file j .holders)) (at (stateAfter file (j + 1) .holders)) (at (fileOrder file) j) (placingMoves Queued file j)
+      → Fewest (fileN file) (fileLimit file) (linked (fileLinks file)) (at (stateAfter file j .holders)) (at (stateAfter file (j + 1) .holders)) (at (fileOrder file) j) (placingMoves Queued file j)
 
 -- It holds of what is given for every accepted file and number of placings.
 unfoldable pub FileMoves : Type 0
@@ -102,11 +109,9 @@ FileWays =
 
 -- 02, change 5: why v is alone. What is claimed of two lists of gateways for that plant; kept are those that leaders g cover.
 pub record WhyOf (file : List ℕ) (g : ℕ → ℕ) (v : ℕ) (first second : List ℕ) : Type 0 where
-  pub violator : Violator (fileN file) (common (fileT file)) (linked (fileLinks file)) (at (fileOrder file)) (covered g) v first second
+  pub violator : Violator (fileN file) (fileLimit file) (linked (fileLinks file)) (at (fileOrder file)) (covered g) v first second
   -- no smaller sets say it
-  pub smallest : Smallest (fileN file) (common (fileT file)) (linked (fileLinks file)) (covered g) v first second
-  -- "The first has T times the size of the second, plus one."
-  pub counts : length first ≡ fileT file * length second + 1
+  pub smallest : Smallest (fileN file) (fileLimit file) (linked (fileLinks file)) (covered g) v first second
 
 -- It holds of the two sets for every accepted file and gateway that is answered, by the leaders of the file's plan.
 unfoldable pub FileWhy : Type 0

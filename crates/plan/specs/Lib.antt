@@ -5,3 +5,4 @@ pub mod Why
 pub mod Turns
 pub mod Pre
 pub mod Claim
+pub mod VersionOne

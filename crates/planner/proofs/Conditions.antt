@@ -12,7 +12,9 @@ use Rattle.packing.specs.Plant.{GATEWAYS, LINKS, LOWEST, HIGHEST, linked}
 use Rattle.packing.specs.Refusals.{refuse}
 use Rattle.packing.proofs.Refusals.{refuse-none}
 use Rattle.packing.proofs.Tests.{or-false-l, or-false-r}
-use Rattle.planner.specs.Refusals.{openRefusal, linkConditions, orderConditions, placeConditions, readConditions}
+use Rattle.sound.specs.Sound.{isLimit}
+use Rattle.sound.proofs.Meaning.{limit-means}
+use Rattle.planner.specs.Refusals.{openRefusal, linkConditions, orderConditions, limitConditions, placeConditions, readConditions}
 
 -- 26 is named first: an unsound record gives it, a sound one what the conditions give
 pub unsound-number : {v b : Bool} (rest : ℕ) → v ≡ b → v ≡ false → 26 ≡ refuse (not b) 26 rest
@@ -22,13 +24,20 @@ pub sound-number : {v b : Bool} {e rest : ℕ} → v ≡ b → v ≡ true → e 
 sound-number e f g = rw (sym e ∙ f) g
 
 -- what no refusal of open says
-pub open-allowed : (n t : ℕ) (os hs : List ℕ) {e : ℕ} → e ≡ openRefusal n t os hs → e ≡ 0 → (n ≤ GATEWAYS) × (LOWEST ≤ t) × (t ≤ HIGHEST) × (n ≤ length os) × (n ≤ length hs)
+pub open-allowed : (n t : ℕ) (os hs ts : List ℕ) {e : ℕ} → e ≡ openRefusal n t os hs ts → e ≡ 0 → (n ≤ GATEWAYS) × (LOWEST ≤ t) × (t ≤ HIGHEST) × (n ≤ length os) × (n ≤ length hs) × (n ≤ length ts)
 unfolding openRefusal
-open-allowed n t os hs g z =
+open-allowed n t os hs ts g z =
     let a = refuse-none (ltb GATEWAYS n) 1 _ (omega arith) (sym g ∙ z) in
     let b = refuse-none (ltb t LOWEST || ltb HIGHEST t) 2 _ (omega arith) (a .1) in
-    let c = refuse-none (ltb (length os) n || ltb (length hs) n) 10 0 (omega arith) (b .1) in
-    (ltb-false GATEWAYS n (a .0), ltb-false t LOWEST (or-false-l _ _ (b .0)), ltb-false HIGHEST t (or-false-r (ltb t LOWEST) _ (b .0)), ltb-false _ n (or-false-l _ _ (c .0)), ltb-false _ n (or-false-r (ltb (length os) n) _ (c .0)))
+    let c = refuse-none (ltb (length os) n || (ltb (length hs) n || ltb (length ts) n)) 10 0 (omega arith) (b .1) in
+    let later = or-false-r (ltb (length os) n) (ltb (length hs) n || ltb (length ts) n) (c .0) in (
+      ltb-false GATEWAYS n (a .0),
+      ltb-false t LOWEST (or-false-l _ _ (b .0)),
+      ltb-false HIGHEST t (or-false-r (ltb t LOWEST) _ (b .0)),
+      ltb-false _ n (or-false-l _ _ (c .0)),
+      ltb-false _ n (or-false-l _ _ later),
+      ltb-false _ n (or-false-r (ltb (length hs) n) _ later),
+    )
 
 -- .. of link
 pub link-allowed : (n k m : ℕ) (l : List ℕ) (room a b : ℕ) {e : ℕ} → e ≡ linkConditions n k m l room a b → e ≡ 0
@@ -57,6 +66,16 @@ order-allowed n k numbers g z =
     let f5 = refuse-none (not (eqb (length numbers) n)) 5 _ (omega arith) (f22 .1) in
     let f6 = refuse-none (repeatsOrOutside n numbers) 6 0 (omega arith) (f5 .1) in
     (omega (arith, ltb-false 0 k (f22 .0)), eqb-true (length numbers) n (not-false (eqb (length numbers) n) (f5 .0)), f6 .0)
+
+-- .. of the call for one limit
+pub limit-allowed : (n k u limit : ℕ) {e : ℕ} → e ≡ limitConditions n k u limit → e ≡ 0 → (k ≡ 0) × (u < n) × (LOWEST ≤ limit) × (limit ≤ HIGHEST)
+unfolding limitConditions
+limit-allowed n k u limit g z =
+    let f22 = refuse-none (ltb 0 k) 22 _ (omega arith) (sym g ∙ z) in
+    let f30 = refuse-none (leb n u) 30 _ (omega arith) (f22 .1) in
+    let f33 = refuse-none (not (isLimit limit)) 33 0 (omega arith) (f30 .1) in
+    let (low, high) = limit-means limit (not-false (isLimit limit) (f33 .0)) in
+    (omega (arith, ltb-false 0 k (f22 .0)), leb-false n u (f30 .0), low, high)
 
 -- .. of place, and what gives its numbers
 pub place-allowed : (n k : ℕ) → placeConditions n k ≡ 0 → k ≡ n → ⊥

@@ -7,7 +7,7 @@ use native.Mathlib.Omega.{arith}
 use lib.Dec.{eqb}
 use lib.ListN.{length}
 use Rattle.packing.specs.Count.{count}
-use Rattle.packing.specs.Plant.{at, common, linked}
+use Rattle.packing.specs.Plant.{at, linked}
 use Rattle.packing.specs.Grouping.{covered}
 use Rattle.packing.specs.Holders.{held}
 use Rattle.packing.specs.Choke.{ChokeDifference}
@@ -33,19 +33,15 @@ use Rattle.planner.proofs.Optimal.{made-so-far, choke-unheld}
 
 pub same-numbers-told : SameNumbers
 unfolding SameNumbers
-same-numbers-told n t ls os hs z calls = same-numbers (open-agrees n t ls os hs z) calls
+same-numbers-told n t ls os hs ts z calls = same-numbers (open-agrees n t ls os hs ts z) calls
 
--- n stays as open was handed it, and each gateway has the limit T: no call sets another
+-- n stays as open was handed it
 pub tells-n : (n t : ℕ) (ls : List ℕ) (calls : List Call) → toldBy n t ls calls .n ≡ n
 unfolding beginning
 tells-n n t ls calls = onward (beginning n t (length ls)) calls .gateways
 
-pub tells-limit : (n t : ℕ) (ls : List ℕ) (calls : List Call) → toldBy n t ls calls .limit ≡ common t
-unfolding beginning
-tells-limit n t ls calls = onward (beginning n t (length ls)) calls .limits
-
 -- the order told holds each gateway once, as the record's does
-order-told : {p : Told} {ls os hs : List ℕ} → Agrees p (stateTold p ls os hs) → IsOrder (p .n) (at (p .order))
+order-told : {p : Told} {ls os hs ts : List ℕ} → Agrees p (stateTold p ls os hs ts) → IsOrder (p .n) (at (p .order))
 order-told a =
     record {
       below = λ i l. rw (← a .order i l) (a .made .sound .order .below i l);
@@ -53,69 +49,69 @@ order-told a =
     }
 
 -- what a record with the small part told says of an accepted read
-module _ (p : Told) (ls os hs : List ℕ) (a : Agrees p (stateTold p ls os hs)) (leaders choke : List ℕ) (z : refuses p (read leaders choke) ≡ 0) where
-  pub accepts : callRefusal (stateTold p ls os hs) (read leaders choke) ≡ 0
+module _ (p : Told) (ls os hs ts : List ℕ) (a : Agrees p (stateTold p ls os hs ts)) (leaders choke : List ℕ) (z : refuses p (read leaders choke) ≡ 0) where
+  pub accepts : callRefusal (stateTold p ls os hs ts) (read leaders choke) ≡ 0
   unfolding call
   accepts = same-number a (read leaders choke) ∙ z
 
-  leaders-are : (v : ℕ) → v < p .n → leaderList (p .n) os hs v ≡ leadersRead (stateTold p ls os hs) leaders choke v
+  leaders-are : (v : ℕ) → v < p .n → leaderList (p .n) os hs v ≡ leadersRead (stateTold p ls os hs ts) leaders choke v
   unfolding readLeaders
   leaders-are v l = sym (rw accepts (listed-at (p .n) (leaderList (p .n) os hs) leaders v l))
 
-  pub choke-at : (v : ℕ) → v < p .n → at (readChoke (stateTold p ls os hs) leaders choke) v ≡ chokeByte (p .n) (p .links) hs v
+  pub choke-at : (v : ℕ) → v < p .n → at (readChoke (stateTold p ls os hs ts) leaders choke) v ≡ chokeByte (p .n) (p .links) hs v
   unfolding readChoke
   choke-at v l = rw (accepts, a .links) (listed-at (p .n) (chokeByte (p .n) (p .links) hs) choke v l)
 
-  choke-is : (v : ℕ) → v < p .n → inChoke (p .n) (p .links) hs v ≡ chokeRead (stateTold p ls os hs) leaders choke v
+  choke-is : (v : ℕ) → v < p .n → inChoke (p .n) (p .links) hs v ≡ chokeRead (stateTold p ls os hs ts) leaders choke v
   unfolding chokeByte
   choke-is v l = sym (pick-test (inChoke (p .n) (p .links) hs v)) ∙ ap (λ (x : ℕ). eqb x 1) (sym (choke-at v l))
 
-  pub read-so-far : SoFarRead (p .n) p (stateTold p ls os hs) leaders choke
+  pub read-so-far : SoFarRead (p .n) p (stateTold p ls os hs ts) leaders choke
   read-so-far = so-far-below (a .made .sound .placed) (a .made .sound .order .below) (a .limits) (a .order) leaders-are (rw (a .links) at (made-so-far (a .made)))
 
-  pub read-earlier : EarlierLeadsRead (p .n) p (stateTold p ls os hs) leaders choke
+  pub read-earlier : EarlierLeadsRead (p .n) p (stateTold p ls os hs ts) leaders choke
   unfolding ReadEarlierLeads call
   read-earlier =
-      leads-below (p .n) (at os) (at (p .order)) (leadersRead (stateTold p ls os hs) leaders choke) (leadersRead (stateTold p ls os hs) leaders choke) (a .order) (λ v l. refl)
-      (read-earlier-leads (stateTold p ls os hs) leaders choke accepts)
+      leads-below (p .n) (at os) (at (p .order)) (leadersRead (stateTold p ls os hs ts) leaders choke) (leadersRead (stateTold p ls os hs ts) leaders choke) (a .order) (λ v l. refl)
+      (read-earlier-leads (stateTold p ls os hs ts) leaders choke accepts)
 
   module _ (full : p .placed ≡ p .n) where
-    read-all : SoFar (p .n) (p .limit) (linked (p .links)) (at (p .order)) (p .n) (at hs) (leadersRead (stateTold p ls os hs) leaders choke)
-    read-all = subst (λ (k : ℕ). SoFar (p .n) (p .limit) (linked (p .links)) (at (p .order)) k (at hs) (leadersRead (stateTold p ls os hs) leaders choke)) full read-so-far
+    read-all : SoFar (p .n) (p .limit) (linked (p .links)) (at (p .order)) (p .n) (at hs) (leadersRead (stateTold p ls os hs ts) leaders choke)
+    read-all = subst (λ (k : ℕ). SoFar (p .n) (p .limit) (linked (p .links)) (at (p .order)) k (at hs) (leadersRead (stateTold p ls os hs ts) leaders choke)) full read-so-far
 
-    read-most : (g : ℕ → ℕ) → GroupingTold (p .n) p g → count (p .n) (covered g) ≤ count (p .n) (covered (leadersRead (stateTold p ls os hs) leaders choke))
+    read-most : (g : ℕ → ℕ) → GroupingTold (p .n) p g → count (p .n) (covered g) ≤ count (p .n) (covered (leadersRead (stateTold p ls os hs ts) leaders choke))
     read-most g group =
-        omega (arith, read-all .most g group (p .n) (omega arith), order-whole (order-told a) (covered g), order-whole (order-told a) (covered (leadersRead (stateTold p ls os hs) leaders choke)))
+        omega (arith, read-all .most g group (p .n) (omega arith), order-whole (order-told a) (covered g), order-whole (order-told a) (covered (leadersRead (stateTold p ls os hs ts) leaders choke)))
 
-    read-held : (v : ℕ) → v < p .n → covered (leadersRead (stateTold p ls os hs) leaders choke) v ≡ held (p .n) (at hs) v
+    read-held : (v : ℕ) → v < p .n → covered (leadersRead (stateTold p ls os hs ts) leaders choke) v ≡ held (p .n) (at hs) v
     read-held = all-placed (order-told a) read-all
 
-    read-difference : ChokeDifference (p .n) (p .limit) (linked (p .links)) (chokeRead (stateTold p ls os hs) leaders choke) (count (p .n) (λ v. not (covered (leadersRead (stateTold p ls os hs) leaders choke) v)))
+    read-difference : ChokeDifference (p .n) (p .limit) (linked (p .links)) (chokeRead (stateTold p ls os hs ts) leaders choke) (count (p .n) (λ v. not (covered (leadersRead (stateTold p ls os hs ts) leaders choke) v)))
     read-difference =
-        difference-below (p .n) (p .limit) (linked (p .links)) (inChoke (p .n) (p .links) hs) (chokeRead (stateTold p ls os hs) leaders choke) _ _ choke-is
-        (count-ext (p .n) (λ v. not (held (p .n) (at hs) v)) (λ v. not (covered (leadersRead (stateTold p ls os hs) leaders choke) v)) (λ v l. ap not (sym (read-held v l))))
-        (difference-limits (p .n) (limitOf (stateTold p ls os hs)) (p .limit) (linked (p .links)) (a .limits) (inChoke (p .n) (p .links) hs) _ (rw (a .links) at (choke-unheld (a .made) full)))
+        difference-below (p .n) (p .limit) (linked (p .links)) (inChoke (p .n) (p .links) hs) (chokeRead (stateTold p ls os hs ts) leaders choke) _ _ choke-is
+        (count-ext (p .n) (λ v. not (held (p .n) (at hs) v)) (λ v. not (covered (leadersRead (stateTold p ls os hs ts) leaders choke) v)) (λ v l. ap not (sym (read-held v l))))
+        (difference-limits (p .n) (limitOf (stateTold p ls os hs ts)) (p .limit) (linked (p .links)) (a .limits) (inChoke (p .n) (p .links) hs) _ (rw (a .links) at (choke-unheld (a .made) full)))
 
 -- A claim about what was told and a record of its small part, with n for the n told, is one about any list of calls after an accepted open.
-pub after-calls : (claim : (n : ℕ) (told : Told) (made : State) → Type 0) → ((p : Told) (ls os hs : List ℕ) → Agrees p (stateTold p ls os hs) → claim (p .n) p (stateTold p ls os hs))
-    → (n t : ℕ) (ls os hs : List ℕ) → openRefusal n t os hs ≡ 0 → (calls : List Call) → claim n (toldBy n t ls calls) (madeBy n t ls os hs calls)
-after-calls claim proved n t ls os hs ok calls =
-    subst (λ (i : ℕ). claim i (toldBy n t ls calls) (madeBy n t ls os hs calls)) (tells-n n t ls calls)
-    (by-told (claim (toldBy n t ls calls .n) (toldBy n t ls calls)) (run-agrees (open-agrees n t ls os hs ok) calls) (proved (toldBy n t ls calls)))
+pub after-calls : (claim : (n : ℕ) (told : Told) (made : State) → Type 0) → ((p : Told) (ls os hs ts : List ℕ) → Agrees p (stateTold p ls os hs ts) → claim (p .n) p (stateTold p ls os hs ts))
+    → (n t : ℕ) (ls os hs ts : List ℕ) → openRefusal n t os hs ts ≡ 0 → (calls : List Call) → claim n (toldBy n t ls calls) (madeBy n t ls os hs ts calls)
+after-calls claim proved n t ls os hs ts ok calls =
+    subst (λ (i : ℕ). claim i (toldBy n t ls calls) (madeBy n t ls os hs ts calls)) (tells-n n t ls calls)
+    (by-told (claim (toldBy n t ls calls .n) (toldBy n t ls calls)) (run-agrees (open-agrees n t ls os hs ts ok) calls) (proved (toldBy n t ls calls)))
 
 -- .. with a read accepted after it
 pub any-read : (claim : (n : ℕ) (told : Told) (made : State) (leaders choke : List ℕ) → Type 0)
-    → ((p : Told) (ls os hs : List ℕ) → Agrees p (stateTold p ls os hs) → (leaders choke : List ℕ) → refuses p (read leaders choke) ≡ 0 → claim (p .n) p (stateTold p ls os hs) leaders choke)
+    → ((p : Told) (ls os hs ts : List ℕ) → Agrees p (stateTold p ls os hs ts) → (leaders choke : List ℕ) → refuses p (read leaders choke) ≡ 0 → claim (p .n) p (stateTold p ls os hs ts) leaders choke)
     → AnyRead claim
 any-read claim = after-calls (λ n told made. (leaders choke : List ℕ) → refuses told (read leaders choke) ≡ 0 → claim n told made leaders choke)
 
 -- .. once all are placed
 once-read : (claim : (n : ℕ) (told : Told) (made : State) (leaders choke : List ℕ) → Type 0)
-    → ((p : Told) (ls os hs : List ℕ) → Agrees p (stateTold p ls os hs) → (leaders choke : List ℕ) → refuses p (read leaders choke) ≡ 0 → p .placed ≡ p .n
-    → claim (p .n) p (stateTold p ls os hs) leaders choke)
+    → ((p : Told) (ls os hs ts : List ℕ) → Agrees p (stateTold p ls os hs ts) → (leaders choke : List ℕ) → refuses p (read leaders choke) ≡ 0 → p .placed ≡ p .n
+    → claim (p .n) p (stateTold p ls os hs ts) leaders choke)
     → OnceRead claim
-once-read claim proved n t ls os hs ok calls placed leaders choke z =
-    any-read (λ n told made leaders choke. told .placed ≡ n → claim n told made leaders choke) proved n t ls os hs ok calls leaders choke z placed
+once-read claim proved n t ls os hs ts ok calls placed leaders choke z =
+    any-read (λ n told made leaders choke. told .placed ≡ n → claim n told made leaders choke) proved n t ls os hs ts ok calls leaders choke z placed
 
 pub read-any-time : ReadAnyTime
 unfolding ReadAnyTime
@@ -129,7 +125,7 @@ pub demand-three : DemandThree
 unfolding DemandThree
 demand-three =
     once-read DemandThreeOf
-    (λ p ls os hs a leaders choke z full. let read = read-all p ls os hs a leaders choke z full in (read .grouping, read .most))
+    (λ p ls os hs ts a leaders choke z full. let read = read-all p ls os hs ts a leaders choke z full in (read .grouping, read .most))
 
 pub most-covered-told : MostCovered
 unfolding MostCovered
@@ -139,5 +135,5 @@ pub demand-two : DemandTwo
 unfolding DemandTwo
 demand-two =
     once-read DemandTwoOf
-    (λ p ls os hs a leaders choke z full.
-    (read-so-far p ls os hs a leaders choke z .grouping, read-held p ls os hs a leaders choke z full, read-difference p ls os hs a leaders choke z full))
+    (λ p ls os hs ts a leaders choke z full.
+    (read-so-far p ls os hs ts a leaders choke z .grouping, read-held p ls os hs ts a leaders choke z full, read-difference p ls os hs ts a leaders choke z full))

@@ -23,7 +23,7 @@ use Rattle.planner.proofs.Table.{early-case}
 starTold : Told
 starTold = record { n = 5; t = 3; limit = common 3; room = 8; links = star .links; m = 4; order = 0 ∷ 1 ∷ 2 ∷ 3 ∷ 4 ∷ []; placed = 1 }
 
-star-told : toldBy 5 3 (replicate 8 0) (linkCalls (star .links) ++ star .ordering ++ placeCalls 1) ≡ starTold
+star-told : toldBy 5 3 (replicate 8 0) (linkCalls (star .links) ++ star .further ++ placeCalls 1) ≡ starTold
 unfolding starTold star linkCalls placeCallsBy beginning tell tellOne refuses accepted linkConditions placeConditions linked upTo listOf
 star-told = refl
 
@@ -35,7 +35,7 @@ read-fine = refl
 module _ (claim : (n : ℕ) (told : Told) (made : State) (leaders choke : List ℕ) → Type 0) (holds : AnyRead claim) where
   first-read : claim 5 starTold (after star 1) (replicate 5 0) (replicate 5 0)
   unfolding after star openRefusal
-  first-read = rw star-told at (holds 5 3 (replicate 8 0) (replicate 5 0) (replicate 5 0) refl (linkCalls (star .links) ++ star .ordering ++ placeCalls 1) (replicate 5 0) (replicate 5 0) (rw star-told read-fine))
+  first-read = rw star-told at (holds 5 3 (replicate 8 0) (replicate 5 0) (replicate 5 0) (replicate 5 0) refl (linkCalls (star .links) ++ star .further ++ placeCalls 1) (replicate 5 0) (replicate 5 0) (rw star-told read-fine))
 
 -- what it wrote
 leaders-are : readLeaders (after star 1) (replicate 5 0) (replicate 5 0) ≡ 0 ∷ 0 ∷ NONE ∷ NONE ∷ NONE ∷ []

@@ -2,9 +2,11 @@
 pub mod Conditions
 pub mod Turns
 pub mod Tells
+pub mod LimitsTold
 pub mod Outcomes
 pub mod Ways
 pub mod Next
+pub mod Stays
 pub mod Made
 pub mod Agree
 pub mod Optimal
@@ -17,6 +19,7 @@ pub mod MovedSums
 pub mod Filled
 pub mod LeftNext
 pub mod MovedTold
+pub mod CommonLimit
 pub mod Table
 pub mod Early
 pub mod MembersLaws

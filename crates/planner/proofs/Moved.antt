@@ -16,21 +16,20 @@ use Rattle.search.specs.Pre.{Placeable}
 use Rattle.search.specs.Moved.{movedBy, LeastPlaced}
 use Rattle.search.proofs.Tested.{placeable-holds, holders-placed}
 use Rattle.search.proofs.Moved.{least-placed}
-use Rattle.sound.specs.Facts.{SoundMeans}
-use Rattle.sound.proofs.Facts.{sound-means-facts}
-use Rattle.planner.specs.State.{State, linksOf, limitOf, soundState}
+use Rattle.packing.proofs.Turns.{says-true}
+use Rattle.planner.specs.State.{State, linksOf, limitOf}
 use Rattle.planner.specs.declared.Way.{Way}
 use Rattle.planner.specs.declared.Way.the-variants.{Queued}
 use Rattle.planner.specs.Ways.{placedBy}
-use Rattle.planner.specs.Calls.{Call, link, order, placeBy, place, read, conditions, callRefusal, changed, call, callMoves}
+use Rattle.planner.specs.Calls.{Call, link, order, setLimit, placeBy, place, read, conditions, callRefusal, changed, call, callMoves}
 use Rattle.planner.specs.Turns.{SoundFacts}
 use Rattle.planner.specs.Kept.{heldIn, OthersKeep}
 use Rattle.planner.specs.Moved.{nextOf, NobodyMoved, NewOneMoved, FewestMoved}
-use Rattle.planner.proofs.Next.{next-placeable}
+use Rattle.planner.proofs.Next.{says-sound, next-placeable}
 use Rattle.planner.specs.Records.{PlaceGives, RefusedUnchanged}
 use Rattle.planner.proofs.Conditions.{place-allowed, place-next}
-use Rattle.planner.proofs.Records.{accepted-sound, place-gives, refused-call}
-use Rattle.planner.proofs.Kept.{placing-of, others-keep}
+use Rattle.planner.proofs.Records.{accepted-sound, placing-of, place-gives, refused-call}
+use Rattle.planner.proofs.Kept.{others-keep}
 
 -- a call that leaves the holders as they are moves nobody
 same-holders : (s : State) (c : Call) → call s c .state .holders ≡ s .holders → callMoves s c ≡ 0
@@ -63,20 +62,21 @@ left-zero s w e =
 pub nobody-moved : NobodyMoved
 unfolding NobodyMoved OthersKeep RefusedUnchanged
 nobody-moved s =
-    let (links, orders, reads) = others-keep s in
+    let (links, orders, limits, reads) = others-keep s in
     record {
       refused = λ c h. same-holders s c (ap (λ (x : State). x .holders) (refused-call s c h));
       left = left-zero s;
       linked = λ a b. same-holders s (link a b) (links a b);
       ordered = λ numbers. same-holders s (order numbers) (orders numbers);
+      limited = λ u limit. same-holders s (setLimit u limit) (limits u limit);
       looked = λ leaders choke. same-holders s (read leaders choke) (reads leaders choke);
     }
 
 -- a sound record that is not fully placed takes a placing
 accepts : (s : State) (w : Way) → SoundFacts s → s .small .k < s .small .n → callRefusal s (placeBy w) ≡ 0
-unfolding callRefusal soundState conditions SoundMeans
+unfolding callRefusal conditions
 accepts s w f more =
-    rw (sound-means-facts (s .small .n) (s .small .t) (s .small .m) (s .small .k) (s .links) (s .order) (s .holders) .1 f) (sym (place-next (s .small .n) (s .small .k) (λ e. omega arith)))
+    rw (says-true (says-sound s) f) (sym (place-next (s .small .n) (s .small .k) (λ e. omega arith)))
 
 pub new-one-moved : NewOneMoved
 unfolding NewOneMoved callMoves

@@ -11,8 +11,8 @@ use Rattle.packing.proofs.Tests.{by-bool}
 use Rattle.packing.proofs.Moved.{moved-bound}
 use Rattle.planner.specs.State.{State}
 use Rattle.planner.specs.declared.Way.{Way}
-use Rattle.planner.specs.Calls.{Call, link, placeBy, conditions, callRefusal, call, callMoves}
-use Rattle.planner.specs.Run.{run, runMoves, linkCalls, placeCallsBy}
+use Rattle.planner.specs.Calls.{Call, link, setLimit, placeBy, conditions, callRefusal, call, callMoves}
+use Rattle.planner.specs.Run.{run, runMoves, linkCalls, limitCalls, placeCallsBy}
 use Rattle.planner.specs.Moved.{NobodyMoved}
 use Rattle.planner.specs.Records.{PlaceGives, RefusedUnchanged}
 use Rattle.planner.proofs.Conditions.{place-allowed}
@@ -31,6 +31,12 @@ unfolding runMoves linkCalls NobodyMoved
 links-move s [] = refl
 links-move s (a ∷ []) = refl
 links-move s (a ∷ b ∷ rest) = omega (arith, nobody-moved s .linked a b, links-move (call s (link a b) .state) rest)
+
+-- limits move nobody
+pub limits-move : (s : State) (u : ℕ) (l : List ℕ) → runMoves s (limitCalls u l) ≡ 0
+unfolding runMoves limitCalls NobodyMoved
+limits-move s u [] = refl
+limits-move s u (limit ∷ rest) = omega (arith, nobody-moved s .limited u limit, limits-move (call s (setLimit u limit) .state) (suc u) rest)
 
 -- one placing more
 pub moves-last : (s : State) (w : Way) (i : ℕ) → runMoves s (placeCallsBy w (suc i)) ≡ runMoves s (placeCallsBy w i) + callMoves (run s (placeCallsBy w i)) (placeBy w)

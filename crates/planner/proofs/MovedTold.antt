@@ -14,10 +14,10 @@ use Rattle.planner.proofs.Agree.{Agrees, stateTold, same-number}
 use Rattle.planner.proofs.LeftNext.{before-placing}
 use Rattle.planner.proofs.Moved.{accepted-fewest}
 
-fewest-of : (p : Told) (ls os hs : List ℕ) → Agrees p (stateTold p ls os hs) → p .placed < p .n → FewestMovedOf (p .n) p (stateTold p ls os hs)
+fewest-of : (p : Told) (ls os hs ts : List ℕ) → Agrees p (stateTold p ls os hs ts) → p .placed < p .n → FewestMovedOf (p .n) p (stateTold p ls os hs ts)
 unfolding refuses call
-fewest-of p ls os hs a more kept =
-    let s = stateTold p ls os hs in
+fewest-of p ls os hs ts a more kept =
+    let s = stateTold p ls os hs ts in
     let z = same-number a place ∙ sym (place-next (p .n) (p .placed) (λ e. omega arith)) in
     fewest-limits (p .n) (limitOf s) (p .limit) (linked (p .links)) (a .limits) (rw (a .links, a .order (p .placed) more) at (accepted-fewest s z (rw (a .order (p .placed) more) kept)))
 

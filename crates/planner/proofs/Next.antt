@@ -1,36 +1,55 @@
 -- What a sound record has for the calls that place its next gateway and read it.
 use Prim.Native.Nat.{ℕ, _≤_}
 use mathlib.Core.Path.{_≡_, refl, sym, ap, _∙_}
-use mathlib.Core.Bool.{Bool, false, not}
+use mathlib.Core.Bool.{Bool, true, false, not}
 use mathlib.Core.List.{List}
 use native.Mathlib.Omega.{arith}
-use lib.ListN.{length, replicate}
+use lib.ListN.{length}
 use borrow.Author.Tests.{le-ltb, not-false}
 use Rattle.packing.specs.Lists.{listOf, written}
 use Rattle.packing.specs.Plant.{GATEWAYS, NONE, at}
 use Rattle.packing.specs.Holders.{held}
 use Rattle.packing.specs.Moved.{moved}
+use Rattle.packing.proofs.Turns.{Says}
 use Rattle.search.specs.ChokeSet.{chokeByte, chokeWritten}
 use Rattle.search.specs.declared.Placed.{Placed}
 use Rattle.search.specs.Pre.{Placeable}
 use Rattle.search.proofs.Tested.{chokeable-holds, choke-written}
 use Rattle.sound.specs.Sound.{isSound}
-use Rattle.sound.proofs.Meaning.{Sound, sound-means}
+use Rattle.sound.proofs.Meaning.{Sound, sound-means, means-sound}
+use Rattle.sound.proofs.Facts.{sound-facts}
 use Rattle.sound.proofs.Searchable.{sound-searchable}
 use Rattle.stars.specs.Stars.{leaderList, leadersWritten}
 use Rattle.stars.proofs.Lent.{leaders-written}
-use Rattle.planner.specs.State.{State, linksOf, limitOf}
+use Rattle.planner.specs.State.{State, linksOf, limitOf, soundState}
+use Rattle.planner.specs.Turns.{SoundFacts}
 use Rattle.planner.specs.declared.Way.{Way}
 use Rattle.planner.specs.Ways.{placedBy, afterBy, answerBy}
-use Rattle.planner.proofs.Ways.{ways-common, answer-moved}
+use Rattle.planner.proofs.Ways.{ways-placed, answer-moved}
 
 -- what it is for a record to be sound
 abbrev pub SoundState : State → Type 0
-SoundState s = Sound (s .small .n) (s .small .t) (s .small .m) (s .small .k) (s .links) (s .order) (s .holders)
+SoundState s = Sound (s .small .n) (s .small .t) (s .small .m) (s .small .k) (s .links) (s .order) (s .holders) (s .limits)
+
+-- the test that 26 goes by says the facts in 01's words, and these are what the calls use
+pub says-sound : (s : State) → Says (soundState s) (SoundFacts s)
+unfolding soundState
+says-sound s = sound-facts (s .small .n) (s .small .t) (s .small .m) (s .small .k) (s .links) (s .order) (s .holders) (s .limits)
+
+pub tested-sound : (s : State) → soundState s ≡ true → SoundState s
+unfolding soundState
+tested-sound s e = sound-means (s .small .n) (s .small .t) (s .small .m) (s .small .k) (s .links) (s .order) (s .holders) (s .limits) e
+
+pub sound-tested : (s : State) → SoundState s → soundState s ≡ true
+unfolding soundState
+sound-tested s sound = means-sound (s .small .n) (s .small .t) (s .small .m) (s .small .k) (s .links) (s .order) (s .holders) (s .limits) sound
+
+pub sound-says : (s : State) → SoundState s → SoundFacts s
+sound-says s sound = says-sound s .holds (sound-tested s sound)
 
 -- a record that passed the test of soundness
-pub checked : (n t m k : ℕ) (ls os hs : List ℕ) {v : Bool} → v ≡ isSound n t m k ls os hs → not v ≡ false → Sound n t m k ls os hs
-checked n t m k ls os hs {v} e f = sound-means n t m k ls os hs (sym e ∙ not-false v f)
+pub checked : (n t m k : ℕ) (ls os hs ts : List ℕ) {v : Bool} → v ≡ isSound n t m k ls os hs ts → not v ≡ false → Sound n t m k ls os hs ts
+checked n t m k ls os hs ts {v} e f = sound-means n t m k ls os hs ts (sym e ∙ not-false v f)
 
 -- one with no holder is not held
 pub none-unheld : (n : ℕ) (hs : List ℕ) (v : ℕ) → n ≤ GATEWAYS → at hs v ≡ NONE → held n (at hs) v ≡ false
@@ -48,19 +67,16 @@ module _ (s : State) (sound : SoundState s) where
         free = none-unheld (s .small .n) (s .holders) (at (s .order) (s .small .k)) (sound .few) (sound .free (s .small .k) (omega arith) (omega (arith, sound .placed)));
       }
 
-  -- .. and so it is, with a list of T for each gateway
-  pub next-placed : (w : Way) (limits : List ℕ) {hs' : List ℕ} → (s .small .k ≡ s .small .n → ⊥) → limits ≡ replicate GATEWAYS (s .small .t)
-      → hs' ≡ afterBy w (s .small .n) (at limits) (linksOf s) (s .holders) (at (s .order) (s .small .k))
+  -- .. and so it is, by the record's limits
+  pub next-placed : (w : Way) {hs' : List ℕ} → (s .small .k ≡ s .small .n → ⊥) → hs' ≡ afterBy w (s .small .n) (limitOf s) (linksOf s) (s .holders) (at (s .order) (s .small .k))
       → hs' ≡ placedBy w (s .small .n) (limitOf s) (linksOf s) (s .holders) (at (s .order) (s .small .k))
-  unfolding limitOf
-  next-placed w limits more is e = e ∙ rw is (ways-common w (s .small .t) (linksOf s) (next-placeable more))
+  next-placed w more e = e ∙ ways-placed w (limitOf s) (linksOf s) (next-placeable more)
 
   -- .. and so many are moved
-  pub next-moved : (w : Way) (limits : List ℕ) {a : Placed} → (s .small .k ≡ s .small .n → ⊥) → limits ≡ replicate GATEWAYS (s .small .t)
-      → a ≡ answerBy w (s .small .n) (at limits) (linksOf s) (s .holders) (at (s .order) (s .small .k))
+  pub next-moved : (w : Way) {a : Placed} → (s .small .k ≡ s .small .n → ⊥) → a ≡ answerBy w (s .small .n) (limitOf s) (linksOf s) (s .holders) (at (s .order) (s .small .k))
       → a .moved ≡ moved (s .small .n) (at (s .holders)) (at (placedBy w (s .small .n) (limitOf s) (linksOf s) (s .holders) (at (s .order) (s .small .k))))
-  next-moved w limits more is e =
-      ap (λ (b : Placed). b .moved) e ∙ answer-moved w _ _ _ _ _ ∙ ap (λ (l : List ℕ). moved (s .small .n) (at (s .holders)) (at l)) (next-placed w limits more is refl)
+  next-moved w more e =
+      ap (λ (b : Placed). b .moved) e ∙ answer-moved w _ _ _ _ _ ∙ ap (λ (l : List ℕ). moved (s .small .n) (at (s .holders)) (at l)) (next-placed w more refl)
 
   -- the leader list and the choke bytes are written where there is a place for each
   pub leaders-placed : (leaders : List ℕ) {leaders' : List ℕ} → s .small .n ≤ length leaders → leaders' ≡ leadersWritten (s .small .n) (s .order) (s .holders) leaders

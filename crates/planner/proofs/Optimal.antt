@@ -4,7 +4,7 @@ use mathlib.Core.Path.{_≡_, refl, sym, _∙_}
 use mathlib.Core.Bool.{true, not}
 use native.Mathlib.Omega.{arith}
 use Rattle.packing.specs.Count.{count}
-use Rattle.packing.specs.Plant.{NONE, at, common, linked}
+use Rattle.packing.specs.Plant.{NONE, at, linked}
 use Rattle.packing.specs.Grouping.{Grouping, covered}
 use Rattle.packing.specs.Holders.{held}
 use Rattle.packing.specs.Choke.{ChokeDifference}
@@ -30,8 +30,8 @@ module _ {s : State} (sound : SoundState s) where
   links-loopless x p = not-test (linked (linksOf s) x x) (λ e. sound .ends x x e .2 refl)
 
   pub limit-two : (u : ℕ) → u < s .small .n → 2 ≤ limitOf s u
-  unfolding limitOf common
-  limit-two u p = sound .low
+  unfolding limitOf
+  limit-two u p = sound .limits u p .0
 
   pub limit-one : (u : ℕ) → u < s .small .n → 1 ≤ limitOf s u
   limit-one u p = omega (arith, limit-two u p)

@@ -1,5 +1,5 @@
 -- What a call gives by its number: a refused one its number and the record as it came, an accepted one the changed record.
-use Prim.Native.Nat.{ℕ, zero, suc}
+use Prim.Native.Nat.{ℕ}
 use mathlib.Core.Path.{_≡_, refl, sym, ap, _∙_}
 use mathlib.Core.List.{List}
 use lib.ListN.{length, replicate}
@@ -8,8 +8,7 @@ use Rattle.packing.specs.Orders.{upTo}
 use Rattle.packing.specs.Plant.{NONE, at}
 use Rattle.packing.specs.Moved.{moved}
 use Rattle.packing.proofs.Moved.{moved-none}
-use Rattle.packing.specs.Refusals.{byNumber}
-use Rattle.packing.proofs.Refusals.{refused, accepted}
+use Rattle.packing.proofs.Refusals.{by-number, refused, accepted}
 use Rattle.search.specs.ChokeSet.{chokeByte}
 use Rattle.stars.specs.Stars.{leaderList}
 use Rattle.planner.specs.declared.Answer.{Answer}
@@ -17,7 +16,7 @@ use Rattle.planner.specs.declared.PlaceAnswer.{PlaceAnswer}
 use Rattle.planner.specs.Refusals.{openRefusal}
 use Rattle.planner.specs.State.{State, stateOf, linksOf}
 use Rattle.planner.specs.declared.Way.{Way}
-use Rattle.planner.specs.Calls.{Outcome, outcome, answerOf, smallOpened, opened, openCall, Call, link, order, placeBy, read, callRefusal, changed, call, callMoves, placeAnswerOf, readLeaders, readChoke}
+use Rattle.planner.specs.Calls.{Outcome, outcome, answerOf, smallOpened, opened, openCall, Call, link, order, setLimit, placeBy, read, callRefusal, changed, call, callMoves, placeAnswerOf, readLeaders, readChoke}
 
 outcome-refused : (changed kept : State) {e r : ℕ} → e ≡ r → (e ≡ 0 → ⊥) → _≡_ {A = Outcome} (record { refusal = e; state = kept }) (outcome r changed kept)
 outcome-refused changed kept g h = λ i. record { refusal = g i; state = refused changed kept g h i }
@@ -26,37 +25,35 @@ outcome-accepted : (changed kept : State) {e r : ℕ} → e ≡ r → e ≡ 0 �
 outcome-accepted changed kept g z = rw (sym g ∙ z)
 
 -- open
-module _ (n t : ℕ) (ls os hs : List ℕ) where
-  pub open-refused : {e : ℕ} → e ≡ openRefusal n t os hs → (e ≡ 0 → ⊥)
-      → (_≡_ {A = Answer} (record { refusal = e; small = smallOpened 0 2 }) (answerOf (openCall n t ls os hs)))
-      × ((os ≡ openCall n t ls os hs .state .order) × (hs ≡ openCall n t ls os hs .state .holders))
+module _ (n t : ℕ) (ls os hs ts : List ℕ) where
+  pub open-refused : {e : ℕ} → e ≡ openRefusal n t os hs ts → (e ≡ 0 → ⊥)
+      → (_≡_ {A = Answer} (record { refusal = e; small = smallOpened 0 2 }) (answerOf (openCall n t ls os hs ts)))
+      × ((os ≡ openCall n t ls os hs ts .state .order) × ((hs ≡ openCall n t ls os hs ts .state .holders) × (ts ≡ openCall n t ls os hs ts .state .limits)))
   unfolding openCall
   open-refused g h =
-      let p = outcome-refused (opened n t ls os hs) (stateOf (smallOpened 0 2) ls os hs) g h in
-      (ap answerOf p, (ap (λ (o : Outcome). o .state .order) p, ap (λ (o : Outcome). o .state .holders) p))
+      let p = outcome-refused (opened n t ls os hs ts) (stateOf (smallOpened 0 2) ls os hs ts) g h in
+      (ap answerOf p, (ap (λ (o : Outcome). o .state .order) p, (ap (λ (o : Outcome). o .state .holders) p, ap (λ (o : Outcome). o .state .limits) p)))
 
-  pub open-accepted : {e : ℕ} {os' hs' : List ℕ} → e ≡ openRefusal n t os hs → e ≡ 0 → os' ≡ written n (upTo n) os → hs' ≡ written n (replicate n NONE) hs
-      → (_≡_ {A = Answer} (record { refusal = 0; small = smallOpened n t }) (answerOf (openCall n t ls os hs)))
-      × ((os' ≡ openCall n t ls os hs .state .order) × (hs' ≡ openCall n t ls os hs .state .holders))
+  pub open-accepted : {e : ℕ} {os' hs' ts' : List ℕ} → e ≡ openRefusal n t os hs ts → e ≡ 0 → os' ≡ written n (upTo n) os → hs' ≡ written n (replicate n NONE) hs → ts' ≡ written n (replicate n t) ts
+      → (_≡_ {A = Answer} (record { refusal = 0; small = smallOpened n t }) (answerOf (openCall n t ls os hs ts)))
+      × ((os' ≡ openCall n t ls os hs ts .state .order) × ((hs' ≡ openCall n t ls os hs ts .state .holders) × (ts' ≡ openCall n t ls os hs ts .state .limits)))
   unfolding openCall opened
-  open-accepted g z a b =
-      let p = outcome-accepted (opened n t ls os hs) (stateOf (smallOpened 0 2) ls os hs) g z in
-      (ap answerOf p, (a ∙ ap (λ (o : Outcome). o .state .order) p, b ∙ ap (λ (o : Outcome). o .state .holders) p))
+  open-accepted g z a b d =
+      let p = outcome-accepted (opened n t ls os hs ts) (stateOf (smallOpened 0 2) ls os hs ts) g z in
+      (ap answerOf p, (a ∙ ap (λ (o : Outcome). o .state .order) p, (b ∙ ap (λ (o : Outcome). o .state .holders) p, d ∙ ap (λ (o : Outcome). o .state .limits) p)))
 
   -- the links stay as they came
-  pub open-links : stateOf (openCall n t ls os hs .state .small) ls (openCall n t ls os hs .state .order) (openCall n t ls os hs .state .holders) ≡ openCall n t ls os hs .state
+  pub open-links : stateOf (openCall n t ls os hs ts .state .small) ls (openCall n t ls os hs ts .state .order) (openCall n t ls os hs ts .state .holders) (openCall n t ls os hs ts .state .limits) ≡ openCall n t ls os hs ts .state
   unfolding openCall opened
-  open-links = go (openRefusal n t os hs)
-    where
-      kept : State
-      kept = stateOf (smallOpened 0 2) ls os hs
+  open-links =
+      by-number (opened n t ls os hs ts) (stateOf (smallOpened 0 2) ls os hs ts) (λ s. stateOf (s .small) ls (s .order) (s .holders) (s .limits) ≡ s) (openRefusal n t os hs ts) (λ _. refl) refl
 
-      go : (e : ℕ) → stateOf (byNumber e (opened n t ls os hs) kept .small) ls (byNumber e (opened n t ls os hs) kept .order) (byNumber e (opened n t ls os hs) kept .holders) ≡ byNumber e (opened n t ls os hs) kept
-      go zero = refl
-      go (suc e) = refl
-
--- any other call: its answer, and one of the record's lists
+-- any other call: what holds of the changed record, and of the record as it came, holds after it; its answer, and one of the record's lists
 module _ (s : State) (c : Call) where
+  pub call-keeps : (P : State → Type 0) → (callRefusal s c ≡ 0 → P (changed s c)) → P s → P (call s c .state)
+  unfolding call
+  call-keeps P = by-number (changed s c) s P (callRefusal s c)
+
   pub call-refused : {e : ℕ} → e ≡ callRefusal s c → (e ≡ 0 → ⊥) → _≡_ {A = Outcome} (record { refusal = e; state = s }) (call s c)
   unfolding call
   call-refused g h = outcome-refused (changed s c) s g h
@@ -112,26 +109,18 @@ module _ (s : State) (leaders choke : List ℕ) where
 
 -- What a call leaves as it was, so that its answer and the list it may change make the record after it.
 module _ (s : State) where
-  pub link-state : (a b : ℕ) → stateOf (call s (link a b) .state .small) (call s (link a b) .state .links) (s .order) (s .holders) ≡ call s (link a b) .state
-  unfolding call changed
-  link-state a b = go (callRefusal s (link a b))
-    where
-      go : (e : ℕ) → stateOf (byNumber e (changed s (link a b)) s .small) (byNumber e (changed s (link a b)) s .links) (s .order) (s .holders) ≡ byNumber e (changed s (link a b)) s
-      go zero = refl
-      go (suc e) = refl
+  pub link-state : (a b : ℕ) → stateOf (call s (link a b) .state .small) (call s (link a b) .state .links) (s .order) (s .holders) (s .limits) ≡ call s (link a b) .state
+  unfolding changed
+  link-state a b = call-keeps s (link a b) (λ t. stateOf (t .small) (t .links) (s .order) (s .holders) (s .limits) ≡ t) (λ _. refl) refl
 
-  pub order-state : (numbers : List ℕ) → stateOf (call s (order numbers) .state .small) (s .links) (call s (order numbers) .state .order) (s .holders) ≡ call s (order numbers) .state
-  unfolding call changed
-  order-state numbers = go (callRefusal s (order numbers))
-    where
-      go : (e : ℕ) → stateOf (byNumber e (changed s (order numbers)) s .small) (s .links) (byNumber e (changed s (order numbers)) s .order) (s .holders) ≡ byNumber e (changed s (order numbers)) s
-      go zero = refl
-      go (suc e) = refl
+  pub order-state : (numbers : List ℕ) → stateOf (call s (order numbers) .state .small) (s .links) (call s (order numbers) .state .order) (s .holders) (s .limits) ≡ call s (order numbers) .state
+  unfolding changed
+  order-state numbers = call-keeps s (order numbers) (λ t. stateOf (t .small) (s .links) (t .order) (s .holders) (s .limits) ≡ t) (λ _. refl) refl
 
-  pub place-state : (w : Way) → stateOf (call s (placeBy w) .state .small) (s .links) (s .order) (call s (placeBy w) .state .holders) ≡ call s (placeBy w) .state
-  unfolding call changed
-  place-state w = go (callRefusal s (placeBy w))
-    where
-      go : (e : ℕ) → stateOf (byNumber e (changed s (placeBy w)) s .small) (s .links) (s .order) (byNumber e (changed s (placeBy w)) s .holders) ≡ byNumber e (changed s (placeBy w)) s
-      go zero = refl
-      go (suc e) = refl
+  pub limit-state : (u limit : ℕ) → stateOf (call s (setLimit u limit) .state .small) (s .links) (s .order) (s .holders) (call s (setLimit u limit) .state .limits) ≡ call s (setLimit u limit) .state
+  unfolding changed
+  limit-state u limit = call-keeps s (setLimit u limit) (λ t. stateOf (t .small) (s .links) (s .order) (s .holders) (t .limits) ≡ t) (λ _. refl) refl
+
+  pub place-state : (w : Way) → stateOf (call s (placeBy w) .state .small) (s .links) (s .order) (call s (placeBy w) .state .holders) (s .limits) ≡ call s (placeBy w) .state
+  unfolding changed
+  place-state w = call-keeps s (placeBy w) (λ t. stateOf (t .small) (s .links) (s .order) (t .holders) (s .limits) ≡ t) (λ _. refl) refl

@@ -9,32 +9,35 @@ use lib.Seq.{drop-set-lt, getD-set-same, getD-set-other}
 use borrow.Author.Tests.{not-false}
 use Rattle.packing.specs.Lists.{listOf, written}
 use Rattle.packing.specs.Orders.{upTo}
-use Rattle.packing.specs.Plant.{NONE, at}
+use Rattle.packing.specs.Plant.{NONE, at, linked}
 use Rattle.packing.specs.Refusals.{byNumber}
 use Rattle.packing.specs.Pairs.{SameGroups}
 use Rattle.packing.proofs.Below.{leads-below, same-itself, same-below}
 use Rattle.packing.proofs.Prefixes.{order-place}
 use Rattle.packing.proofs.Lists.{listOf-length, written-at, written-past, listed-at}
-use Rattle.packing.proofs.Refusals.{refuse-none, refused}
-use Rattle.sound.specs.Facts.{SoundMeans}
-use Rattle.sound.proofs.Facts.{sound-means-facts}
-use Rattle.sound.proofs.Meaning.{sound-means}
+use Rattle.packing.proofs.Placing.{PlacedIn}
+use Rattle.packing.proofs.Turns.{says-true}
+use Rattle.packing.proofs.Refusals.{by-number, refuse-none, refused}
+use Rattle.sound.proofs.Orders.{order-right}
 use Rattle.stars.specs.Stars.{leaderListBy, leaderList}
 use Rattle.stars.specs.Rules.{WhoeverLeads}
 use Rattle.stars.proofs.Pairs.{whoever-leads, earlier-leads}
 use Rattle.search.specs.ChokeSet.{chokeByte}
+use Rattle.planner.specs.declared.Way.{Way}
+use Rattle.planner.specs.Refusals.{openRefusal}
 use Rattle.planner.specs.State.{State, stateOf, linksOf, limitOf, soundState}
-use Rattle.planner.specs.Calls.{smallOpened, opened, openCall, Call, link, order, placeBy, read, conditions, callRefusal, changed, call, readLeaders, readChoke}
-use Rattle.planner.specs.Records.{OpenGives, OpenRefused, LinkGives, OrderGives, PlaceGives, ReadGives, RefusedUnchanged, ReadRefused, Past, PastUnchanged, ReadPast, HeldCovered, ReadWrites, ReadEarlierLeads, readLeadersBy, ReadWhoeverLeads, ReadAnyOrder}
+use Rattle.planner.specs.Calls.{smallOpened, opened, openCall, Call, link, order, setLimit, placeBy, read, conditions, callRefusal, changed, call, readLeaders, readChoke}
+use Rattle.planner.specs.Records.{OpenGives, OpenRefused, LinkGives, OrderGives, LimitGives, PlaceGives, ReadGives, RefusedUnchanged, ReadRefused, SoundStays, Past, PastUnchanged, ReadPast, HeldCovered, ReadWrites, ReadEarlierLeads, readLeadersBy, ReadWhoeverLeads, ReadAnyOrder}
 use Rattle.planner.specs.Turns.{SoundFacts}
-use Rattle.planner.proofs.Conditions.{link-allowed, order-allowed, place-allowed}
-use Rattle.planner.proofs.Ways.{ways-place}
-use Rattle.planner.proofs.Next.{SoundState, next-placeable}
+use Rattle.planner.proofs.Conditions.{open-allowed, link-allowed, order-allowed, limit-allowed, place-allowed}
+use Rattle.planner.proofs.Outcomes.{call-keeps}
+use Rattle.planner.proofs.Next.{SoundState, says-sound, tested-sound, sound-says}
+use Rattle.planner.proofs.Stays.{sound-open, sound-link, sound-order, sound-limit, next-placing, sound-place}
 use Rattle.planner.proofs.Optimal.{sound-grouping, leaders-cover}
 
 pub open-gives : OpenGives
 unfolding OpenGives openCall opened upTo
-open-gives n t ls os hs z =
+open-gives n t ls os hs ts z =
     rw z
     (record {
       gateways = refl;
@@ -46,11 +49,13 @@ open-gives n t ls os hs z =
       orderPast = written-past n (listOf n (λ j. j)) os (listOf-length n (λ j. j));
       holders = λ v l. written-at n (replicate n NONE) hs (length-replicate n NONE) v l ∙ getD-replicate n v NONE 0 l;
       holdersPast = written-past n (replicate n NONE) hs (length-replicate n NONE);
+      limits = λ v l. written-at n (replicate n t) ts (length-replicate n t) v l ∙ getD-replicate n v t 0 l;
+      limitsPast = written-past n (replicate n t) ts (length-replicate n t);
     })
 
 pub refused-open : OpenRefused
 unfolding OpenRefused openCall
-refused-open n t ls os hs h = sym (refused (opened n t ls os hs) (stateOf (smallOpened 0 2) ls os hs) refl h)
+refused-open n t ls os hs ts h = sym (refused (opened n t ls os hs ts) (stateOf (smallOpened 0 2) ls os hs ts) refl h)
 
 pub refused-call : RefusedUnchanged
 unfolding RefusedUnchanged call
@@ -62,10 +67,16 @@ refused-read s leaders choke h = (sym (refused _ leaders refl h), sym (refused _
 
 -- a record whose call was accepted is sound, and no later condition holds
 pub accepted-sound : (s : State) (c : Call) → callRefusal s c ≡ 0 → SoundState s × (conditions s c ≡ 0)
-unfolding callRefusal soundState
+unfolding callRefusal
 accepted-sound s c z =
     let first = refuse-none (not (soundState s)) 26 (conditions s c) (omega arith) z in
-    (sound-means _ _ _ _ _ _ _ (not-false (soundState s) (first .0)), first .1)
+    (tested-sound s (not-false (soundState s) (first .0)), first .1)
+
+-- an accepted placing is a way of placing the next
+pub placing-of : (s : State) (w : Way) → callRefusal s (placeBy w) ≡ 0
+    → PlacedIn (s .small .n) (limitOf s) (linked (linksOf s)) (s .holders) (changed s (placeBy w) .holders) (at (s .order) (s .small .k))
+unfolding conditions
+placing-of s w z = let (sound, next) = accepted-sound s (placeBy w) z in next-placing sound (place-allowed (s .small .n) (s .small .k) next) w
 
 pub link-gives : LinkGives
 unfolding LinkGives call changed conditions
@@ -82,29 +93,41 @@ link-gives s a b z =
       second = getD-set-same (set (s .links) (2 * s .small .m) a) (2 * s .small .m + 1) b 0 (rw length-set (omega arith));
       order = refl;
       holders = refl;
+      limits = refl;
     })
 
 pub order-gives : OrderGives
 unfolding OrderGives call changed conditions
 order-gives s numbers z =
     let (k, long, right) = order-allowed (s .small .n) (s .small .k) numbers refl (accepted-sound s (order numbers) z .1) in
-    rw z (record { small = refl; links = refl; order = λ i l. written-at (s .small .n) numbers (s .order) long i l; holders = refl })
+    rw z (record { small = refl; links = refl; order = λ i l. written-at (s .small .n) numbers (s .order) long i l; holders = refl; limits = refl })
+
+pub limit-gives : LimitGives
+unfolding LimitGives call changed conditions
+limit-gives s u limit z =
+    let (sound, may) = accepted-sound s (setLimit u limit) z in
+    let (k, below, low, high) = limit-allowed (s .small .n) (s .small .k) u limit refl may in
+    rw z
+    (record {
+      small = refl;
+      links = refl;
+      order = refl;
+      holders = refl;
+      replaced = getD-set-same (s .limits) u limit 0 (omega (arith, sound .limits-long));
+      others = λ v apart. getD-set-other (s .limits) u v limit 0 apart;
+    })
 
 pub place-gives : PlaceGives
 unfolding PlaceGives call changed
-place-gives s w z = rw z (record { gateways = refl; limit = refl; linkCount = refl; oneMore = refl; links = refl; order = refl })
+place-gives s w z = rw z (record { gateways = refl; limit = refl; linkCount = refl; oneMore = refl; links = refl; order = refl; limits = refl })
 
 pub read-gives : ReadGives
-unfolding ReadGives call changed
-read-gives s leaders choke = by (callRefusal s (read leaders choke))
-  where
-    by : (e : ℕ) → byNumber e s s ≡ s
-    by zero = refl
-    by (suc e) = refl
+unfolding ReadGives changed
+read-gives s leaders choke = call-keeps s (read leaders choke) (λ t. t ≡ s) (λ _. refl) refl
 
 -- Entries past the lengths
 same-past : (s : State) → Past s s
-same-past s = record { links = refl; order = refl; holders = refl }
+same-past s = record { links = refl; order = refl; holders = refl; limits = refl }
 
 changed-past : (s : State) (c : Call) → callRefusal s c ≡ 0 → Past s (changed s c)
 unfolding changed conditions limitOf
@@ -113,47 +136,73 @@ changed-past s (link a b) z =
       links = drop-set-lt (2 * (s .small .m + 1)) (set (s .links) (2 * s .small .m) a) (2 * s .small .m + 1) b (omega arith) ∙ drop-set-lt (2 * (s .small .m + 1)) (s .links) (2 * s .small .m) a (omega arith);
       order = refl;
       holders = refl;
+      limits = refl;
     }
 changed-past s (order numbers) z =
     let (k, long, right) = order-allowed (s .small .n) (s .small .k) numbers refl (accepted-sound s (order numbers) z .1) in
-    record { links = refl; order = written-past (s .small .n) numbers (s .order) long; holders = refl }
-changed-past s (placeBy w) z =
-    let (sound, next) = accepted-sound s (placeBy w) z in
-    record { links = refl; order = refl; holders = ways-place w (limitOf s) (linksOf s) (next-placeable s sound (place-allowed (s .small .n) (s .small .k) next)) (sound .feasible) .past }
+    record { links = refl; order = written-past (s .small .n) numbers (s .order) long; holders = refl; limits = refl }
+changed-past s (setLimit u limit) z =
+    let (k, below, low, high) = limit-allowed (s .small .n) (s .small .k) u limit refl (accepted-sound s (setLimit u limit) z .1) in
+    record { links = refl; order = refl; holders = refl; limits = drop-set-lt (s .small .n) (s .limits) u limit below }
+changed-past s (placeBy w) z = record { links = refl; order = refl; holders = placing-of s w z .past; limits = refl }
 changed-past s (read leaders choke) z = same-past s
 
 pub past-unchanged : PastUnchanged
-unfolding PastUnchanged call
-past-unchanged s c = by (callRefusal s c) refl
-  where
-    by : (e : ℕ) → callRefusal s c ≡ e → Past s (byNumber e (changed s c) s)
-    by zero z = changed-past s c z
-    by (suc e) z = same-past s
+unfolding PastUnchanged
+past-unchanged s c = call-keeps s c (Past s) (changed-past s c) (same-past s)
 
 -- a list of which the first n were written, or none
 part-past : (e n : ℕ) (front lent : List ℕ) → length front ≡ n → drop n (byNumber e (written n front lent) lent) ≡ drop n lent
-part-past zero n front lent long = written-past n front lent long
-part-past (suc e) n front lent long = refl
+part-past e n front lent long = by-number (written n front lent) lent (λ l. drop n l ≡ drop n lent) e (λ _. written-past n front lent long) refl
 
 pub read-past : ReadPast
 unfolding ReadPast readLeaders readChoke
 read-past s leaders choke =
     (part-past (callRefusal s (read leaders choke)) (s .small .n) _ leaders (listOf-length _ _), part-past (callRefusal s (read leaders choke)) (s .small .n) _ choke (listOf-length _ _))
 
--- the facts of a sound record, as its calls use them
 facts-sound : (s : State) → SoundFacts s → SoundState s
-unfolding SoundMeans
-facts-sound s f = sound-means _ _ _ _ _ _ _ (sound-means-facts (s .small .n) (s .small .t) (s .small .m) (s .small .k) (s .links) (s .order) (s .holders) .1 f)
+facts-sound s f = tested-sound s (says-true (says-sound s) f)
+
+changed-sound : (s : State) (c : Call) → callRefusal s c ≡ 0 → SoundState (changed s c)
+unfolding conditions changed
+changed-sound s (link a b) z =
+    let (sound, may) = accepted-sound s (link a b) z in
+    let (k, below-a, below-b, apart, new, more, room) = link-allowed (s .small .n) (s .small .k) (s .small .m) (linksOf s) (length (s .links)) a b refl may in
+    sound-link sound a b k below-a below-b apart more room
+changed-sound s (order numbers) z =
+    let (sound, may) = accepted-sound s (order numbers) z in
+    let (k, long, right) = order-allowed (s .small .n) (s .small .k) numbers refl may in
+    sound-order sound numbers k long (order-right (s .small .n) numbers right)
+changed-sound s (setLimit u limit) z =
+    let (sound, may) = accepted-sound s (setLimit u limit) z in
+    let (k, below, low, high) = limit-allowed (s .small .n) (s .small .k) u limit refl may in
+    sound-limit sound u limit k low high
+changed-sound s (placeBy w) z =
+    let (sound, may) = accepted-sound s (placeBy w) z in
+    sound-place sound (place-allowed (s .small .n) (s .small .k) may) w
+changed-sound s (read leaders choke) z = accepted-sound s (read leaders choke) z .0
+
+-- What a refused open returns is what open gives for n = 0 and T = 2.
+open-sound : (n t : ℕ) (ls os hs ts : List ℕ) → SoundFacts (openCall n t ls os hs ts .state)
+unfolding openCall opened upTo written listOf
+open-sound n t ls os hs ts =
+    by-number (opened n t ls os hs ts) (opened 0 2 ls os hs ts) SoundFacts (openRefusal n t os hs ts)
+    (λ z. let (few, low, high, long-order, long-holders, long-limits) = open-allowed n t os hs ts refl z in sound-says (opened n t ls os hs ts) (sound-open n t ls os hs ts few low high long-order long-holders long-limits))
+    (sound-says (opened 0 2 ls os hs ts) (sound-open 0 2 ls os hs ts (omega arith) (omega arith) (omega arith) (omega arith) (omega arith) (omega arith)))
+
+pub sound-stays : SoundStays
+unfolding SoundStays
+sound-stays = (open-sound, λ s c f. call-keeps s c SoundFacts (λ z. sound-says (changed s c) (changed-sound s c z)) f)
 
 pub held-covered : HeldCovered
 unfolding HeldCovered
 held-covered s f = let sound = facts-sound s f in (sound-grouping sound, leaders-cover sound)
 
 pub read-writes : ReadWrites
-unfolding ReadWrites SoundMeans call callRefusal soundState readLeaders readChoke
+unfolding ReadWrites call callRefusal readLeaders readChoke
 read-writes s leaders choke z =
     let sound = not-false (soundState s) (refuse-none (not (soundState s)) 26 (conditions s (read leaders choke)) (omega arith) z .0) in (
-      sound-means-facts (s .small .n) (s .small .t) (s .small .m) (s .small .k) (s .links) (s .order) (s .holders) .0 sound,
+      says-sound s .holds sound,
       λ v l. rw z (listed-at (s .small .n) (leaderList (s .small .n) (s .order) (s .holders)) leaders v l),
       λ v l. rw z (listed-at (s .small .n) (chokeByte (s .small .n) (linksOf s) (s .holders)) choke v l),
     )

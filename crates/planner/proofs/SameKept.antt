@@ -15,7 +15,7 @@ use Rattle.search.specs.ChokeSet.{inChoke, chokeByte}
 use Rattle.search.proofs.ChokeLaws.{choke-within}
 use Rattle.planner.specs.Refusals.{openRefusal}
 use Rattle.planner.specs.State.{State}
-use Rattle.planner.specs.Calls.{Call, link, order, placeBy, read, readChoke}
+use Rattle.planner.specs.Calls.{Call, link, order, setLimit, placeBy, read, readChoke}
 use Rattle.planner.specs.Told.{Told, refuses, accepted, tellOne, tell}
 use Rattle.planner.specs.Claims.{toldBy, madeBy, AnyRead, DemandTwo}
 use Rattle.planner.specs.SameKept.{SamePlant, SameKept, SameRead, inWay, AnyWayTold, BothWays}
@@ -26,8 +26,8 @@ record StandsTold (n : ℕ) (told : Told) (made : State) : Type 0 where
   few : n ≤ GATEWAYS
   stands : Standing n (told .limit) (linked (told .links)) (at (told .order)) (at (made .holders)) (told .placed)
 
-stands-told : (n t : ℕ) (ls os hs : List ℕ) → openRefusal n t os hs ≡ 0 → (calls : List Call) → StandsTold n (toldBy n t ls calls) (madeBy n t ls os hs calls)
-stands-told = after-calls StandsTold (λ p ls os hs a. record { few = a .made .sound .few; stands = standing-alike (a .limits) (λ x u l k. refl) (a .order) (rw (a .links) at (a .made .standing)) })
+stands-told : (n t : ℕ) (ls os hs ts : List ℕ) → openRefusal n t os hs ts ≡ 0 → (calls : List Call) → StandsTold n (toldBy n t ls calls) (madeBy n t ls os hs ts calls)
+stands-told = after-calls StandsTold (λ p ls os hs ts a. record { few = a .made .sound .few; stands = standing-alike (a .limits) (λ x u l k. refl) (a .order) (rw (a .links) at (a .made .standing)) })
 
 -- with the other plant's limits, links and order
 module _ {n : ℕ} {told told' : Told} (same : SamePlant n told told') {made made' : State} (here : StandsTold n told made) (other : StandsTold n told' made') where
@@ -49,7 +49,7 @@ module _ {n : ℕ} {told told' : Told} (same : SamePlant n told told') {made mad
 
 pub same-kept : SameKept
 unfolding SameKept
-same-kept n t t' ls os hs ls' os' hs' z z' calls calls' same = held-same same (stands-told n t ls os hs z calls) (stands-told n t' ls' os' hs' z' calls')
+same-kept n t t' ls os hs ts ls' os' hs' ts' z z' calls calls' same = held-same same (stands-told n t ls os hs ts z calls) (stands-told n t' ls' os' hs' ts' z' calls')
 
 -- the other way round
 same-back : {n : ℕ} {told told' : Told} → SamePlant n told told' → SamePlant n told' told
@@ -61,15 +61,15 @@ choke-read = any-read (λ n told made leaders choke. (v : ℕ) → v < n → at 
 
 pub same-read : SameRead
 unfolding SameRead DemandTwo chokeByte SameKept
-same-read n t t' ls os hs ls' os' hs' z z' calls calls' same full leaders choke leaders' choke' r r' =
-    let here = stands-told n t ls os hs z calls in
-    let other = stands-told n t' ls' os' hs' z' calls' in
+same-read n t t' ls os hs ts ls' os' hs' ts' z z' calls calls' same full leaders choke leaders' choke' r r' =
+    let here = stands-told n t ls os hs ts z calls in
+    let other = stands-told n t' ls' os' hs' ts' z' calls' in
     let full' : toldBy n t' ls' calls' .placed ≡ n = sym (same .placed) ∙ full in (
-      λ v l. demand-two n t ls os hs z calls full leaders choke r .1 v l ∙ held-same same here other v l ∙ sym (demand-two n t' ls' os' hs' z' calls' full' leaders' choke' r' .1 v l),
+      λ v l. demand-two n t ls os hs ts z calls full leaders choke r .1 v l ∙ held-same same here other v l ∙ sym (demand-two n t' ls' os' hs' ts' z' calls' full' leaders' choke' r' .1 v l),
       λ v l.
-          choke-read n t ls os hs z calls leaders choke r v l
+          choke-read n t ls os hs ts z calls leaders choke r v l
           ∙ ap (λ (b : Bool). pick b 1) (iff-test _ _ (choke-there (same-back same) other here full' v l) (choke-there same here other full v l))
-          ∙ sym (choke-read n t' ls' os' hs' z' calls' leaders' choke' r' v l),
+          ∙ sym (choke-read n t' ls' os' hs' ts' z' calls' leaders' choke' r' v l),
     )
 
 -- which way a gateway is placed tells nothing
@@ -78,12 +78,13 @@ unfolding AnyWayTold inWay tell tellOne refuses accepted
 any-way-told p w [] = refl
 any-way-told p w (link a b ∷ calls) = any-way-told (tellOne p (link a b)) w calls
 any-way-told p w (order numbers ∷ calls) = any-way-told (tellOne p (order numbers)) w calls
+any-way-told p w (setLimit u limit ∷ calls) = any-way-told (tellOne p (setLimit u limit)) w calls
 any-way-told p w (placeBy v ∷ calls) = any-way-told (tellOne p (placeBy v)) w calls
 any-way-told p w (read leaders choke ∷ calls) = any-way-told (tellOne p (read leaders choke)) w calls
 
 pub both-ways : BothWays
 unfolding BothWays SameKept SameRead AnyWayTold
-both-ways n t ls os hs z calls w =
+both-ways n t ls os hs ts z calls w =
     let same : SamePlant n (toldBy n t ls calls) (toldBy n t ls (inWay w calls)) =
     rw (any-way-told _ w calls) (record { limits = λ u l. refl; links = λ x u l k. refl; order = λ i l. refl; placed = refl }) in
-    (same-kept n t t ls os hs ls os hs z z calls (inWay w calls) same, same-read n t t ls os hs ls os hs z z calls (inWay w calls) same)
+    (same-kept n t t ls os hs ts ls os hs ts z z calls (inWay w calls) same, same-read n t t ls os hs ts ls os hs ts z z calls (inWay w calls) same)

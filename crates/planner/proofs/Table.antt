@@ -15,22 +15,22 @@ use Rattle.packing.specs.Holders.{holds as heldCount}
 use Rattle.packing.specs.Moved.{moved}
 use Rattle.packing.specs.Choke.{stranded}
 use Rattle.packing.proofs.Tests.{and-l, and-r}
-use Rattle.sound.specs.Sound.{numbersSound, listsLong, endsSound, onceEach, holdersLinked, holdersWithin, onlyPlacedHeld, isSound}
+use Rattle.sound.specs.Sound.{numbersSound, listsLong, isLimit, limitsSound, endsSound, onceEach, holdersLinked, holdersWithin, onlyPlacedHeld, isSound}
 use Rattle.search.specs.Search.{heldBy, look, visit, turn, turns, walk, shift, settled, placedHolders}
 use Rattle.stars.specs.Stars.{holder, back, onCycle, nextOnCycle, leadsIn, leadsInTrees, begins, cut, leads, leaderOf, pairLeader, partner, ruleFive, leaderListBy, placeOf, leaderList}
 use Rattle.search.specs.ChokeSet.{withoutHolder, chokeWalk, seenIn, walkSaw, inChoke, chokeByte}
 use Rattle.packing.specs.Orders.{upTo, repeatsOrOutside}
-use Rattle.planner.specs.Refusals.{openRefusal, linkConditions, orderConditions, placeConditions, readConditions}
+use Rattle.planner.specs.Refusals.{openRefusal, linkConditions, orderConditions, limitConditions, placeConditions, readConditions}
 use Rattle.planner.specs.State.{limitOf, soundState}
 use Rattle.planner.specs.Ways.{placedBy}
 use Rattle.planner.specs.Calls.{opened, openCall, conditions, callRefusal, changed, call, callMoves, readLeaders, readChoke}
 use Rattle.planner.specs.Run.{run, runMoves, linkCalls, placeCallsBy}
-use Rattle.planner.specs.Cases.{Row, stands, readsAfter, holds, gives, differsAfter, moves, movesOf, after, leadersOf, chokeOf, withoutLink, limitsOf, aloneOf, sameList, rowHolds, empty, one, two, path, star, starBack, star4, listed, ring, twoLinked, twoLinkedBack, ringBack, chain, table, early, pairs, moving, rowsHold, Means}
+use Rattle.planner.specs.Cases.{Row, stands, limited, readsAfter, holds, gives, differsAfter, moves, movesOf, after, leadersOf, chokeOf, withoutLink, limitsOf, aloneOf, sameList, rowHolds, empty, one, two, path, star, starBack, star4, starAbove, starBelow, listed, ring, twoLinked, twoLinkedBack, ringBack, chain, table, early, pairs, moving, limiting, rowsHold, Means}
 
 -- all of them, computed
-tables-hold : (rowsHold table ≡ true) × (rowsHold early ≡ true) × (rowsHold pairs ≡ true) × (rowsHold moving ≡ true)
-unfolding sum count sumOver all any listOf listWhere common firstLinks linked neighbours memberCount heldCount stranded numbersSound listsLong endsSound onceEach holdersLinked holdersWithin onlyPlacedHeld isSound heldBy look visit turn turns walk shift settled placedHolders placedBy firstWith holder back onCycle nextOnCycle leadsIn leadsInTrees begins cut leads leaderOf pairLeader partner ruleFive leaderListBy placeOf leaderList withoutHolder chokeWalk seenIn walkSaw inChoke chokeByte upTo written repeatsOrOutside openRefusal linkConditions orderConditions placeConditions readConditions limitOf soundState opened openCall conditions callRefusal changed call readLeaders readChoke run linkCalls placeCallsBy after leadersOf chokeOf withoutLink limitsOf aloneOf sameList rowHolds empty one two path star starBack star4 listed ring twoLinked twoLinkedBack ringBack chain table early pairs moving rowsHold moved callMoves runMoves movesOf
-tables-hold = (refl, refl, refl, refl)
+tables-hold : (rowsHold table ≡ true) × (rowsHold early ≡ true) × (rowsHold pairs ≡ true) × (rowsHold moving ≡ true) × (rowsHold limiting ≡ true)
+unfolding sum count sumOver all any listOf listWhere common firstLinks linked neighbours memberCount heldCount stranded numbersSound listsLong isLimit limitsSound endsSound onceEach holdersLinked holdersWithin onlyPlacedHeld isSound heldBy look visit turn turns walk shift settled placedHolders placedBy firstWith holder back onCycle nextOnCycle leadsIn leadsInTrees begins cut leads leaderOf pairLeader partner ruleFive leaderListBy placeOf leaderList withoutHolder chokeWalk seenIn walkSaw inChoke chokeByte upTo written repeatsOrOutside openRefusal linkConditions orderConditions limitConditions placeConditions readConditions limitOf soundState opened openCall conditions callRefusal changed call readLeaders readChoke run linkCalls placeCallsBy after leadersOf chokeOf withoutLink limitsOf aloneOf sameList rowHolds empty one two path star starBack star4 starAbove starBelow listed ring twoLinked twoLinkedBack ringBack chain table early pairs moving limiting rowsHold moved callMoves runMoves movesOf
+tables-hold = (refl, refl, refl, refl, refl)
 
 pub table-holds : rowsHold table ≡ true
 table-holds = tables-hold .0
@@ -44,6 +44,9 @@ pairs-hold = tables-hold .2
 pub moving-holds : rowsHold moving ≡ true
 moving-holds = tables-hold .3
 
+pub limiting-holds : rowsHold limiting ≡ true
+limiting-holds = tables-hold .4
+
 same-list : (l r : List ℕ) → sameList l r ≡ true → l ≡ r
 unfolding sameList
 same-list [] [] e = refl
@@ -55,6 +58,7 @@ same-list (x ∷ xs) (y ∷ ys) e =
 row-means : (r : Row) → rowHolds r ≡ true → Means r
 unfolding rowHolds
 row-means (stands p numbers) e = same-list (after p 0 .order) numbers e
+row-means (limited p limits) e = same-list (after p 0 .limits) limits e
 row-means (readsAfter p k leaders choke) e = (
   same-list (leadersOf p k) leaders (and-l (sameList (leadersOf p k) leaders) (sameList (chokeOf p k) choke) e),
   same-list (chokeOf p k) choke (and-r (sameList (leadersOf p k) leaders) (sameList (chokeOf p k) choke) e),
@@ -87,3 +91,6 @@ pairs-case = rows-mean pairs pairs-hold
 
 pub moving-case : (i : ℕ) → i < length moving → (d : Row) → Means (getD moving i d)
 moving-case = rows-mean moving moving-holds
+
+pub limiting-case : (i : ℕ) → i < length limiting → (d : Row) → Means (getD limiting i d)
+limiting-case = rows-mean limiting limiting-holds

@@ -1,30 +1,35 @@
 -- Each call gives the first number of its turn whose condition holds: test by test, what it says in words.
-use Prim.Native.Nat.{ℕ, _+_, _*_}
-use mathlib.Core.Path.{sym, ap, _∙_}
-use mathlib.Core.Bool.{not, _||_}
+use Prim.Native.Nat.{ℕ, zero, suc, _+_, _*_, _<_, _≤_}
+use mathlib.Core.Path.{_≡_, refl, sym, ap, _∙_}
+use mathlib.Core.Logic.{_⊎_, inl, inr, ⊎-elim}
+use mathlib.Core.Bool.{true, false, not, _||_, true≢false}
 use mathlib.Core.List.{List}
 use lib.Dec.{eqb, ltb, leb}
 use lib.ListN.{length}
-use borrow.Author.Tests.{not-false}
+use native.Mathlib.Omega.{arith}
+use borrow.Author.Tests.{not-true, not-false, ltb-true, ltb-false, le-leb}
 use Rattle.packing.specs.Plant.{GATEWAYS, LINKS, LOWEST, HIGHEST, linked}
 use Rattle.packing.specs.Orders.{repeatsOrOutside}
 use Rattle.packing.specs.Turns.{FirstNamed, LinkThere, firstEnd, secondEnd}
 use Rattle.packing.proofs.Turns.{Says, turn-done, turn-named, says-less, says-most, says-same, says-either, says-not, says-linked, says-first, says-order}
-use Rattle.sound.proofs.Facts.{sound-facts}
-use Rattle.planner.specs.Refusals.{openRefusal, linkConditions, orderConditions, placeConditions, readConditions}
+use Rattle.packing.proofs.Tests.{by-bool}
+use Rattle.sound.specs.Sound.{isLimit}
+use Rattle.sound.proofs.Meaning.{limit-means}
+use Rattle.planner.specs.Refusals.{openRefusal, linkConditions, orderConditions, limitConditions, placeConditions, readConditions}
 use Rattle.planner.specs.State.{soundState}
-use Rattle.planner.specs.Calls.{openCall, Call, link, order, placeBy, read, conditionsOf, conditions, callRefusal, call}
+use Rattle.planner.specs.Calls.{openCall, Call, link, order, setLimit, placeBy, read, conditionsOf, conditions, callRefusal, call}
 use Rattle.planner.specs.Told.{beginning, refuses, tell}
 use Rattle.planner.specs.Tells.{TellsPlant}
-use Rattle.planner.specs.Turns.{openTurn, linkTurn, orderTurn, placeTurn, readTurn, turnOf, callTurn, toldTurn, OpenExactly, CallExactly, ToldExactly}
+use Rattle.planner.specs.Turns.{openTurn, linkTurn, orderTurn, limitTurn, placeTurn, readTurn, turnOf, callTurn, toldTurn, OpenExactly, CallExactly, ToldExactly}
 use Rattle.planner.proofs.Tells.{tells-accepted}
+use Rattle.planner.proofs.Next.{says-sound}
 
 pub open-exactly : OpenExactly
 unfolding OpenExactly openTurn openCall openRefusal
-open-exactly n t ls os hs =
+open-exactly n t ls os hs ts =
     turn-named (ltb GATEWAYS n) 1 _ _ (says-less GATEWAYS n)
     (λ _. turn-named (ltb t LOWEST || ltb HIGHEST t) 2 _ _ (says-either _ _ (says-less t LOWEST) (says-less HIGHEST t))
-    (λ _. turn-named (ltb (length os) n || ltb (length hs) n) 10 0 _ (says-either _ _ (says-less (length os) n) (says-less (length hs) n)) (λ _. turn-done)))
+    (λ _. turn-named (ltb (length os) n || (ltb (length hs) n || ltb (length ts) n)) 10 0 _ (says-either _ _ (says-less (length os) n) (says-either _ _ (says-less (length hs) n) (says-less (length ts) n))) (λ _. turn-done)))
 
 -- link's, where the test for a link that is there says so of the m links
 link-exactly : (n k m : ℕ) (l ls : List ℕ) (room a b : ℕ) → Says (linked l a b) (LinkThere m (firstEnd ls) (secondEnd ls) a b) → FirstNamed (linkTurn n k m ls room a b) (linkConditions n k m l room a b)
@@ -43,6 +48,29 @@ order-exactly n k numbers =
     (λ _. turn-named (not (eqb (length numbers) n)) 5 _ _ (says-not _ (says-same (length numbers) n))
     (λ _. turn-named (repeatsOrOutside n numbers) 6 0 _ (says-order n numbers) (λ _. turn-done)))
 
+-- a limit that is none of 2 to 16
+below-two : (limit : ℕ) → isLimit limit ≡ false → limit ≤ 16 → (limit ≡ 0) ⊎ (limit ≡ 1)
+unfolding isLimit
+below-two zero e h = inl refl
+below-two (suc zero) e h = inr refl
+below-two (suc (suc x)) e h = absurd (true≢false (sym (rw (le-leb 2 (suc (suc x)) (omega arith)) (le-leb (suc (suc x)) 16 h)) ∙ e))
+
+says-limit : (limit : ℕ) → Says (not (isLimit limit)) ((limit ≡ 0) ⊎ (limit ≡ 1) ⊎ (16 < limit))
+says-limit limit =
+    record {
+      holds = λ e.
+          by-bool (ltb 16 limit) (λ q. inr (inr (ltb-true 16 limit q)))
+          (λ q. ⊎-elim (λ z. inl z) (λ o. inr (inl o)) (below-two limit (not-true (isLimit limit) e) (ltb-false 16 limit q)));
+      fails = λ e p. let (low, high) = limit-means limit (not-false (isLimit limit) e) in ⊎-elim (λ z. omega arith) (⊎-elim (λ o. omega arith) (λ h. omega arith)) p;
+    }
+
+limit-exactly : (n k u limit : ℕ) → FirstNamed (limitTurn n k u limit) (limitConditions n k u limit)
+unfolding limitTurn limitConditions
+limit-exactly n k u limit =
+    turn-named (ltb 0 k) 22 _ _ (says-less 0 k)
+    (λ _. turn-named (leb n u) 30 _ _ (says-most n u)
+    (λ _. turn-named (not (isLimit limit)) 33 0 _ (says-limit limit) (λ _. turn-done)))
+
 place-exactly : (n k : ℕ) → FirstNamed (placeTurn n k) (placeConditions n k)
 unfolding placeTurn placeConditions
 place-exactly n k = turn-named (eqb k n) 24 0 _ (says-same k n) (λ _. turn-done)
@@ -57,13 +85,14 @@ calls-exactly : (n k m : ℕ) (l ls : List ℕ) (room : ℕ) → ((a b : ℕ) �
     → FirstNamed (turnOf n k m ls room c) (conditionsOf n k m l room c)
 calls-exactly n k m l ls room there (link a b) = link-exactly n k m l ls room a b (there a b)
 calls-exactly n k m l ls room there (order numbers) = order-exactly n k numbers
+calls-exactly n k m l ls room there (setLimit u limit) = limit-exactly n k u limit
 calls-exactly n k m l ls room there (placeBy w) = place-exactly n k
 calls-exactly n k m l ls room there (read leaders choke) = read-exactly n leaders choke
 
 pub call-exactly : CallExactly
-unfolding CallExactly callTurn call callRefusal conditions soundState
+unfolding CallExactly callTurn call callRefusal conditions
 call-exactly s c =
-    let sound = sound-facts (s .small .n) (s .small .t) (s .small .m) (s .small .k) (s .links) (s .order) (s .holders) in
+    let sound = says-sound s in
     turn-named (not (soundState s)) 26 _ _ (says-not _ sound) (λ e. calls-exactly _ _ _ _ _ _ (λ a b. says-first (s .small .m) (s .links) a b (sound .holds (not-false (soundState s) e) .linksLong)) c)
 
 -- what the calls tell: the links are whole, two numbers for each of m

@@ -1,19 +1,19 @@
 -- Both searches are ways of placing, in the list of holders: one lemma for every way.
-use Prim.Native.Nat.{ℕ}
+use Prim.Native.Nat.{ℕ, _<_}
 use mathlib.Core.Path.{_≡_, refl}
 use mathlib.Core.List.{List}
-use lib.ListN.{replicate}
-use Rattle.packing.specs.Plant.{GATEWAYS, at, common, linked}
+use Rattle.packing.specs.Plant.{at, linked}
 use Rattle.packing.specs.Holders.{Feasible}
 use Rattle.packing.specs.Moved.{moved}
 use Rattle.packing.proofs.Placing.{PlacedIn}
 use Rattle.search.specs.Moved.{movedBy}
 use Rattle.search.specs.Pre.{Placeable}
 use Rattle.search.proofs.Placing.{placed-in}
-use Rattle.search.proofs.Limits.{placed-common}
+use Rattle.search.proofs.Tested.{holders-placed}
+use Rattle.search.proofs.Limits.{placed-limits}
 use Rattle.recursion.specs.Recursion.{recursiveMoved}
 use Rattle.recursion.proofs.Placing.{recursive-in}
-use Rattle.recursion.proofs.Alike.{recursive-common}
+use Rattle.recursion.proofs.Alike.{recursive-limits, recursive-placed}
 use Rattle.planner.specs.declared.Way.{Way}
 use Rattle.planner.specs.declared.Way.the-variants.{Queued, Recursive}
 use Rattle.planner.specs.Ways.{placedBy, afterBy, answerBy}
@@ -23,11 +23,17 @@ unfolding placedBy
 ways-place Queued limit ls p f = placed-in limit ls p f
 ways-place Recursive limit ls p f = recursive-in limit ls p f
 
--- with a list of limits that are all t each places by the common limit
-pub ways-common : (w : Way) {n : ℕ} (t : ℕ) (ls : List ℕ) {hs : List ℕ} {v : ℕ} → Placeable n hs v → afterBy w n (at (replicate GATEWAYS t)) ls hs v ≡ placedBy w n (common t) ls hs v
+-- what the public function of each leaves where the next may be placed
+pub ways-placed : (w : Way) {n : ℕ} (limit : ℕ → ℕ) (ls : List ℕ) {hs : List ℕ} {v : ℕ} → Placeable n hs v → afterBy w n limit ls hs v ≡ placedBy w n limit ls hs v
 unfolding placedBy
-ways-common Queued t ls p = placed-common t ls p
-ways-common Recursive t ls p = recursive-common t ls p
+ways-placed Queued limit ls p = holders-placed limit ls p
+ways-placed Recursive limit ls p = recursive-placed limit ls p
+
+-- each looks at the limits of gateways only
+pub ways-limits : (w : Way) {n : ℕ} {limit limit' : ℕ → ℕ} → ((u : ℕ) → u < n → limit u ≡ limit' u) → (ls : List ℕ) {hs : List ℕ} {v : ℕ} → Placeable n hs v → placedBy w n limit ls hs v ≡ placedBy w n limit' ls hs v
+unfolding placedBy
+ways-limits Queued same ls {hs} p = placed-limits same ls hs p
+ways-limits Recursive same ls {hs} {v} p = recursive-limits same ls hs v
 
 -- the number that each answers
 pub answer-moved : (w : Way) (n : ℕ) (limit : ℕ → ℕ) (ls hs : List ℕ) (v : ℕ) → answerBy w n limit ls hs v .moved ≡ moved n (at hs) (at (afterBy w n limit ls hs v))

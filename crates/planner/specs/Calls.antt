@@ -1,4 +1,4 @@
--- The calls of 01, "The record", and the second placing call of 02, change 7: the number that each gives, and the record after it.
+-- The calls of 01, "The record", the second placing call of 02, change 7, and the call for one limit of change 8: the number that each gives, and the record after it.
 use Prim.Native.Nat.{ℕ, _+_, _*_}
 use mathlib.Core.Bool.{not}
 use mathlib.Core.List.{List}
@@ -16,8 +16,8 @@ use Rattle.planner.specs.declared.PlaceAnswer.{PlaceAnswer}
 use Rattle.planner.specs.declared.Way.{Way}
 use Rattle.planner.specs.declared.Way.the-variants.{Queued, Recursive}
 use Rattle.planner.specs.Ways.{placedBy}
-use Rattle.planner.specs.Refusals.{openRefusal, linkConditions, orderConditions, placeConditions, readConditions}
-use Rattle.planner.specs.State.{State, stateOf, withSmall, withLinks, withOrder, withHolders, linksOf, limitOf, soundState}
+use Rattle.planner.specs.Refusals.{openRefusal, linkConditions, orderConditions, limitConditions, placeConditions, readConditions}
+use Rattle.planner.specs.State.{State, stateOf, withSmall, withLinks, withOrder, withHolders, withLimits, linksOf, limitOf, soundState}
 
 -- what a call gives: its number, 0 for accepted, and the record after it
 pub record Outcome : Type 0 where
@@ -32,21 +32,22 @@ outcome e changed kept = record { refusal = e; state = byNumber e changed kept }
 abbrev pub answerOf : Outcome → Answer
 answerOf o = record { refusal = o .refusal; small = o .state .small }
 
--- Open (n, T, lists): "order 0, 1, .., no holder, m = 0, k = 0"
+-- Open (n, T, lists): "order 0, 1, .., no holder, m = 0, k = 0"; the limits are "all T after open" (02, change 8)
 abbrev pub smallOpened : ℕ → ℕ → Small
 smallOpened n t = record { n = n; t = t; m = 0; k = 0 }
 
-unfoldable pub opened : ℕ → ℕ → List ℕ → List ℕ → List ℕ → State
-opened n t ls os hs = stateOf (smallOpened n t) ls (written n (upTo n) os) (written n (replicate n NONE) hs)
+unfoldable pub opened : ℕ → ℕ → List ℕ → List ℕ → List ℕ → List ℕ → State
+opened n t ls os hs ts = stateOf (smallOpened n t) ls (written n (upTo n) os) (written n (replicate n NONE) hs) (written n (replicate n t) ts)
 
 -- "a refused open, which was handed none, returns n = 0, T = 2, m = 0, k = 0"
-unfoldable pub openCall : ℕ → ℕ → List ℕ → List ℕ → List ℕ → Outcome
-openCall n t ls os hs = outcome (openRefusal n t os hs) (opened n t ls os hs) (stateOf (smallOpened 0 2) ls os hs)
+unfoldable pub openCall : ℕ → ℕ → List ℕ → List ℕ → List ℕ → List ℕ → Outcome
+openCall n t ls os hs ts = outcome (openRefusal n t os hs ts) (opened n t ls os hs ts) (stateOf (smallOpened 0 2) ls os hs ts)
 
--- The calls on a record, with what else each is handed: a link's two ends, the numbers of a new order, the lists lent for leaders and choke bytes.
+-- The calls on a record, with what else each is handed: a link's two ends, the numbers of a new order, a gateway and its limit, the lists lent for leaders and choke bytes.
 pub data Call : Type 0 where
   link : ℕ → ℕ → Call
   order : List ℕ → Call
+  setLimit : ℕ → ℕ → Call
   placeBy : Way → Call
   read : List ℕ → List ℕ → Call
 
@@ -61,6 +62,7 @@ placeRecursive = placeBy Recursive
 abbrev pub conditionsOf : (n k m : ℕ) (l : List ℕ) (room : ℕ) → Call → ℕ
 conditionsOf n k m l room (link a b) = linkConditions n k m l room a b
 conditionsOf n k m l room (order numbers) = orderConditions n k numbers
+conditionsOf n k m l room (setLimit u limit) = limitConditions n k u limit
 conditionsOf n k m l room (placeBy w) = placeConditions n k
 conditionsOf n k m l room (read leaders choke) = readConditions n (length leaders) (length choke)
 
@@ -80,10 +82,12 @@ abbrev pub onePlaced : Small → Small
 onePlaced s = record { n = s .n; t = s .t; m = s .m; k = s .k + 1 }
 
 -- the record after an accepted call. Link (a, b): "appended". Order (n numbers): "replaces the order".
+-- "A call replaces one gateway's limit" (02, change 8).
 -- Place: "the next in the order is kept or left; k rises by one". Read changes nothing of it.
 unfoldable pub changed : State → Call → State
 changed s (link a b) = withLinks (set (set (s .links) (2 * s .small .m) a) (2 * s .small .m + 1) b) (withSmall (oneLink (s .small)) s)
 changed s (order numbers) = withOrder (written (s .small .n) numbers (s .order)) s
+changed s (setLimit u limit) = withLimits (set (s .limits) u limit) s
 changed s (placeBy w) =
     withHolders (placedBy w (s .small .n) (limitOf s) (linksOf s) (s .holders) (at (s .order) (s .small .k))) (withSmall (onePlaced (s .small)) s)
 changed s (read leaders choke) = s

@@ -1,4 +1,4 @@
--- 01, "At the edges": the cases marked P, in one table over the definitions; one of reads before the last placing (02, change 1); and one of pairs by the order (02, change 2).
+-- 01, "At the edges": the cases marked P, in one table over the definitions; one of reads before the last placing (02, change 1); one of pairs by the order (02, change 2), one of what is moved (change 4), and one of limits (change 8).
 -- proofs/Table.antt has the checker compute them, and says what each row means.
 use Prim.Native.Nat.{ℕ}
 use mathlib.Core.Path.{_≡_}
@@ -7,24 +7,24 @@ use mathlib.Core.List.{List, [], _∷_, _++_}
 use lib.Dec.{eqb}
 use lib.ListN.{length, replicate}
 use Rattle.packing.specs.Count.{count, sumOver}
-use Rattle.packing.specs.Plant.{NONE, common, linked}
+use Rattle.packing.specs.Plant.{NONE, linked}
 use Rattle.packing.specs.Grouping.{isAlone}
 use Rattle.packing.specs.Choke.{stranded}
-use Rattle.planner.specs.State.{State}
-use Rattle.planner.specs.Calls.{Call, link, order, place, read, call, readLeaders, readChoke}
+use Rattle.planner.specs.State.{State, limitOf}
+use Rattle.planner.specs.Calls.{Call, link, order, setLimit, place, read, call, readLeaders, readChoke}
 use Rattle.planner.specs.Run.{linkCalls, placeCalls}
 use Rattle.planner.specs.Claims.{madeBy, movesBy, leadersRead, chokeRead}
 
--- a plant: n, T, its links two numbers each, and the call of order where 01 names one. Where it names none, no call of order is made: open's order stands.
+-- a plant: n, T, its links two numbers each, and the calls of order and of limits where one is named. Where none is, no such call is made: open's order and limits stand.
 pub record Plant : Type 0 where
   pub n : ℕ
   pub t : ℕ
   pub links : List ℕ
-  pub ordering : List Call
+  pub further : List Call
 
 -- the record after an open with lists of just the length needed, the calls that fill it, and k placings
 unfoldable pub after : Plant → ℕ → State
-after p k = madeBy (p .n) (p .t) (replicate (length (p .links)) 0) (replicate (p .n) 0) (replicate (p .n) 0) (linkCalls (p .links) ++ p .ordering ++ placeCalls k)
+after p k = madeBy (p .n) (p .t) (replicate (length (p .links)) 0) (replicate (p .n) 0) (replicate (p .n) 0) (replicate (p .n) 0) (linkCalls (p .links) ++ p .further ++ placeCalls k)
 
 -- a read of the record after k placings, into lists of just the length needed
 unfoldable pub leadersOf : Plant → ℕ → List ℕ
@@ -38,14 +38,14 @@ unfoldable pub withoutLink : Plant → ℕ → ℕ
 withoutLink p k = count (p .n) (stranded (p .n) (linked (p .links)) (chokeRead (after p k) (replicate (p .n) 0) (replicate (p .n) 0)))
 
 unfoldable pub limitsOf : Plant → ℕ → ℕ
-limitsOf p k = sumOver (p .n) (chokeRead (after p k) (replicate (p .n) 0) (replicate (p .n) 0)) (common (p .t))
+limitsOf p k = sumOver (p .n) (chokeRead (after p k) (replicate (p .n) 0) (replicate (p .n) 0)) (limitOf (after p k))
 
 unfoldable pub aloneOf : Plant → ℕ → ℕ
 aloneOf p k = count (p .n) (isAlone (leadersRead (after p k) (replicate (p .n) 0) (replicate (p .n) 0)))
 
 -- how many gateways its calls move up to then
 unfoldable pub movesOf : Plant → ℕ → ℕ
-movesOf p k = movesBy (p .n) (p .t) (replicate (length (p .links)) 0) (replicate (p .n) 0) (replicate (p .n) 0) (linkCalls (p .links) ++ p .ordering ++ placeCalls k)
+movesOf p k = movesBy (p .n) (p .t) (replicate (length (p .links)) 0) (replicate (p .n) 0) (replicate (p .n) 0) (replicate (p .n) 0) (linkCalls (p .links) ++ p .further ++ placeCalls k)
 
 unfoldable pub sameList : List ℕ → List ℕ → Bool
 sameList [] [] = true
@@ -53,9 +53,10 @@ sameList [] (y ∷ ys) = false
 sameList (x ∷ xs) [] = false
 sameList (x ∷ xs) (y ∷ ys) = eqb x y && sameList xs ys
 
--- what a row says of a plant: its order; what read writes after so many placings; the holders then; the number that a call then gives; the two numbers of the choke difference then, and the number alone; how many its calls moved up to then
+-- what a row says of a plant: its order; its limits; what read writes after so many placings; the holders then; the number that a call then gives; the two numbers of the choke difference then, and the number alone; how many its calls moved up to then
 pub data Row : Type 0 where
   stands : Plant → List ℕ → Row
+  limited : Plant → List ℕ → Row
   readsAfter : Plant → ℕ → List ℕ → List ℕ → Row
   holds : Plant → ℕ → List ℕ → Row
   gives : Plant → ℕ → Call → ℕ → Row
@@ -64,6 +65,7 @@ pub data Row : Type 0 where
 
 unfoldable pub rowHolds : Row → Bool
 rowHolds (stands p numbers) = sameList (after p 0 .order) numbers
+rowHolds (limited p limits) = sameList (after p 0 .limits) limits
 rowHolds (readsAfter p k leaders choke) = sameList (leadersOf p k) leaders && sameList (chokeOf p k) choke
 rowHolds (holds p k holders) = sameList (after p k .holders) holders
 rowHolds (gives p k c e) = eqb (call (after p k) c .refusal) e
@@ -72,40 +74,46 @@ rowHolds (moves p k sum) = eqb (movesOf p k) sum
 
 -- the plants
 unfoldable pub empty : Plant
-empty = record { n = 0; t = 2; links = []; ordering = [] }
+empty = record { n = 0; t = 2; links = []; further = [] }
 
 unfoldable pub one : Plant
-one = record { n = 1; t = 2; links = []; ordering = [] }
+one = record { n = 1; t = 2; links = []; further = [] }
 
 unfoldable pub two : Plant
-two = record { n = 2; t = 2; links = []; ordering = [] }
+two = record { n = 2; t = 2; links = []; further = [] }
 
 unfoldable pub path : Plant
-path = record { n = 3; t = 2; links = 0 ∷ 1 ∷ 1 ∷ 2 ∷ []; ordering = [] }
+path = record { n = 3; t = 2; links = 0 ∷ 1 ∷ 1 ∷ 2 ∷ []; further = [] }
 
 unfoldable pub star : Plant
-star = record { n = 5; t = 3; links = 0 ∷ 1 ∷ 0 ∷ 2 ∷ 0 ∷ 3 ∷ 0 ∷ 4 ∷ []; ordering = [] }
+star = record { n = 5; t = 3; links = 0 ∷ 1 ∷ 0 ∷ 2 ∷ 0 ∷ 3 ∷ 0 ∷ 4 ∷ []; further = [] }
 
 unfoldable pub starBack : Plant
-starBack = record { n = 5; t = 3; links = 0 ∷ 1 ∷ 0 ∷ 2 ∷ 0 ∷ 3 ∷ 0 ∷ 4 ∷ []; ordering = order (4 ∷ 3 ∷ 2 ∷ 1 ∷ 0 ∷ []) ∷ [] }
+starBack = record { n = 5; t = 3; links = 0 ∷ 1 ∷ 0 ∷ 2 ∷ 0 ∷ 3 ∷ 0 ∷ 4 ∷ []; further = order (4 ∷ 3 ∷ 2 ∷ 1 ∷ 0 ∷ []) ∷ [] }
 
 unfoldable pub star4 : Plant
-star4 = record { n = 5; t = 4; links = 0 ∷ 1 ∷ 0 ∷ 2 ∷ 0 ∷ 3 ∷ 0 ∷ 4 ∷ []; ordering = [] }
+star4 = record { n = 5; t = 4; links = 0 ∷ 1 ∷ 0 ∷ 2 ∷ 0 ∷ 3 ∷ 0 ∷ 4 ∷ []; further = [] }
+
+unfoldable pub starAbove : Plant
+starAbove = record { n = 5; t = 3; links = 0 ∷ 1 ∷ 0 ∷ 2 ∷ 0 ∷ 3 ∷ 0 ∷ 4 ∷ []; further = setLimit 0 4 ∷ [] }
+
+unfoldable pub starBelow : Plant
+starBelow = record { n = 5; t = 3; links = 0 ∷ 1 ∷ 0 ∷ 2 ∷ 0 ∷ 3 ∷ 0 ∷ 4 ∷ []; further = setLimit 0 16 ∷ setLimit 4 5 ∷ setLimit 0 2 ∷ [] }
 
 unfoldable pub listed : Plant
-listed = record { n = 5; t = 2; links = 0 ∷ 2 ∷ 0 ∷ 3 ∷ 0 ∷ 4 ∷ 1 ∷ 2 ∷ []; ordering = order (2 ∷ 3 ∷ 4 ∷ 0 ∷ 1 ∷ []) ∷ [] }
+listed = record { n = 5; t = 2; links = 0 ∷ 2 ∷ 0 ∷ 3 ∷ 0 ∷ 4 ∷ 1 ∷ 2 ∷ []; further = order (2 ∷ 3 ∷ 4 ∷ 0 ∷ 1 ∷ []) ∷ [] }
 
 unfoldable pub ring : Plant
-ring = record { n = 5; t = 2; links = 0 ∷ 1 ∷ 1 ∷ 2 ∷ 2 ∷ 3 ∷ 3 ∷ 4 ∷ 4 ∷ 0 ∷ []; ordering = [] }
+ring = record { n = 5; t = 2; links = 0 ∷ 1 ∷ 1 ∷ 2 ∷ 2 ∷ 3 ∷ 3 ∷ 4 ∷ 4 ∷ 0 ∷ []; further = [] }
 
 unfoldable pub twoLinked : Plant
-twoLinked = record { n = 2; t = 2; links = 0 ∷ 1 ∷ []; ordering = [] }
+twoLinked = record { n = 2; t = 2; links = 0 ∷ 1 ∷ []; further = [] }
 
 unfoldable pub twoLinkedBack : Plant
-twoLinkedBack = record { n = 2; t = 2; links = 0 ∷ 1 ∷ []; ordering = order (1 ∷ 0 ∷ []) ∷ [] }
+twoLinkedBack = record { n = 2; t = 2; links = 0 ∷ 1 ∷ []; further = order (1 ∷ 0 ∷ []) ∷ [] }
 
 unfoldable pub ringBack : Plant
-ringBack = record { n = 5; t = 2; links = 0 ∷ 1 ∷ 1 ∷ 2 ∷ 2 ∷ 3 ∷ 3 ∷ 4 ∷ 4 ∷ 0 ∷ []; ordering = order (4 ∷ 3 ∷ 2 ∷ 1 ∷ 0 ∷ []) ∷ [] }
+ringBack = record { n = 5; t = 2; links = 0 ∷ 1 ∷ 1 ∷ 2 ∷ 2 ∷ 3 ∷ 3 ∷ 4 ∷ 4 ∷ 0 ∷ []; further = order (4 ∷ 3 ∷ 2 ∷ 1 ∷ 0 ∷ []) ∷ [] }
 
 unfoldable pub chain : Plant
 chain =
@@ -113,7 +121,7 @@ chain =
       n = 8;
       t = 2;
       links = 0 ∷ 1 ∷ 2 ∷ 1 ∷ 3 ∷ 1 ∷ 2 ∷ 4 ∷ 3 ∷ 4 ∷ 5 ∷ 4 ∷ 6 ∷ 4 ∷ 5 ∷ 7 ∷ [];
-      ordering = order (2 ∷ 3 ∷ 5 ∷ 6 ∷ 0 ∷ 1 ∷ 4 ∷ 7 ∷ []) ∷ [];
+      further = order (2 ∷ 3 ∷ 5 ∷ 6 ∷ 0 ∷ 1 ∷ 4 ∷ 7 ∷ []) ∷ [];
     }
 
 -- rows about the fully placed plant
@@ -165,6 +173,17 @@ moving =
     ∷ moves chain 4 4 ∷ holds chain 4 (NONE ∷ NONE ∷ 1 ∷ 1 ∷ NONE ∷ 4 ∷ 4 ∷ NONE ∷ []) ∷ moves chain 5 7 ∷ holds chain 5 (1 ∷ NONE ∷ 4 ∷ 1 ∷ NONE ∷ 7 ∷ 4 ∷ NONE ∷ [])
     ∷ []
 
+-- 02, change 8. The star with T = 3: a limit of 4 for gateway 0 leaves nobody alone; with one of 2, the last that is set, two are, and 4 − 2 = 2. The other gateways keep T.
+-- "the call for one limit gives .. 22, 30 for a gateway out of range, then 33, for 0 as well", in this turn.
+unfoldable pub limiting : List Row
+limiting =
+    limited star (3 ∷ 3 ∷ 3 ∷ 3 ∷ 3 ∷ []) ∷ limited starAbove (4 ∷ 3 ∷ 3 ∷ 3 ∷ 3 ∷ []) ∷ limited starBelow (2 ∷ 3 ∷ 3 ∷ 3 ∷ 5 ∷ [])
+    ∷ reads starAbove (0 ∷ 0 ∷ 0 ∷ 0 ∷ 0 ∷ []) (0 ∷ 0 ∷ 0 ∷ 0 ∷ 0 ∷ []) ∷ differs starAbove 0 0 0
+    ∷ reads starBelow (0 ∷ 0 ∷ 0 ∷ NONE ∷ NONE ∷ []) (1 ∷ 0 ∷ 0 ∷ 0 ∷ 0 ∷ []) ∷ differs starBelow 4 2 2
+    ∷ gives star 0 (setLimit 4 2) 0 ∷ gives star 0 (setLimit 4 16) 0 ∷ gives star 0 (setLimit 5 2) 30 ∷ gives star 0 (setLimit 5 1) 30
+    ∷ gives star 0 (setLimit 4 0) 33 ∷ gives star 0 (setLimit 4 1) 33 ∷ gives star 0 (setLimit 4 17) 33 ∷ gives star 1 (setLimit 4 2) 22 ∷ gives star 1 (setLimit 5 1) 22
+    ∷ []
+
 -- every row holds
 unfoldable pub rowsHold : List Row → Bool
 rowsHold [] = true
@@ -173,6 +192,7 @@ rowsHold (r ∷ rows) = rowHolds r && rowsHold rows
 -- what a row means
 abbrev pub Means : Row → Type 0
 Means (stands p numbers) = after p 0 .order ≡ numbers
+Means (limited p limits) = after p 0 .limits ≡ limits
 Means (readsAfter p k leaders choke) = (leadersOf p k ≡ leaders) × (chokeOf p k ≡ choke)
 Means (holds p k holders) = after p k .holders ≡ holders
 Means (gives p k c e) = call (after p k) c .refusal ≡ e

@@ -17,20 +17,21 @@ use Rattle.packing.specs.SoFar.{SoFar}
 use Rattle.planner.specs.Refusals.{openRefusal}
 use Rattle.planner.specs.State.{State}
 use Rattle.planner.specs.declared.Way.{Way}
+use Rattle.planner.specs.Ways.{placedBy}
 use Rattle.planner.specs.Calls.{Call, placeBy, place, read, call, callMoves, readLeaders, readChoke}
 use Rattle.planner.specs.Told.{Told, beginning, refuses, tell, toldNumbers}
 use Rattle.planner.specs.Run.{afterOpen, run, runMoves, runNumbers}
 
--- what the calls tell, and the record they make, after an open that was handed n, t and the lists ls, os, hs
+-- what the calls tell, and the record they make, after an open that was handed n, t and the lists ls, os, hs, ts
 abbrev pub toldBy : ℕ → ℕ → List ℕ → List Call → Told
 toldBy n t ls calls = tell (beginning n t (length ls)) calls
 
-abbrev pub madeBy : ℕ → ℕ → List ℕ → List ℕ → List ℕ → List Call → State
-madeBy n t ls os hs calls = run (afterOpen n t ls os hs) calls
+abbrev pub madeBy : ℕ → ℕ → List ℕ → List ℕ → List ℕ → List ℕ → List Call → State
+madeBy n t ls os hs ts calls = run (afterOpen n t ls os hs ts) calls
 
 -- .. and how many gateways they move
-abbrev pub movesBy : ℕ → ℕ → List ℕ → List ℕ → List ℕ → List Call → ℕ
-movesBy n t ls os hs calls = runMoves (afterOpen n t ls os hs) calls
+abbrev pub movesBy : ℕ → ℕ → List ℕ → List ℕ → List ℕ → List ℕ → List Call → ℕ
+movesBy n t ls os hs ts calls = runMoves (afterOpen n t ls os hs ts) calls
 
 -- the leader list and the choke bytes that a read writes
 abbrev pub leadersRead : State → List ℕ → List ℕ → ℕ → ℕ
@@ -46,17 +47,17 @@ GroupingTold n p g = Grouping n (p .limit) (linked (p .links)) g
 -- 01, "Demand 3": the record refuses just the calls that what was told refuses, with the same numbers.
 unfoldable pub SameNumbers : Type 0
 SameNumbers =
-    (n t : ℕ) (ls os hs : List ℕ) → openRefusal n t os hs ≡ 0 → (calls : List Call) → runNumbers (afterOpen n t ls os hs) calls ≡ toldNumbers (beginning n t (length ls)) calls
+    (n t : ℕ) (ls os hs ts : List ℕ) → openRefusal n t os hs ts ≡ 0 → (calls : List Call) → runNumbers (afterOpen n t ls os hs ts) calls ≡ toldNumbers (beginning n t (length ls)) calls
 
 -- An open accepted, any list of calls, n placings of it accepted, and a read accepted after it: a claim about the plant told, the record made, and the lists that read was lent.
 abbrev pub OnceRead : ((n : ℕ) (told : Told) (made : State) (leaders choke : List ℕ) → Type 0) → Type 0
 OnceRead claim =
-    (n t : ℕ) (ls os hs : List ℕ) → openRefusal n t os hs ≡ 0 → (calls : List Call)
+    (n t : ℕ) (ls os hs ts : List ℕ) → openRefusal n t os hs ts ≡ 0 → (calls : List Call)
     → toldBy n t ls calls .placed ≡ n
     → (leaders choke : List ℕ) → refuses (toldBy n t ls calls) (read leaders choke) ≡ 0
-    → claim n (toldBy n t ls calls) (madeBy n t ls os hs calls) leaders choke
+    → claim n (toldBy n t ls calls) (madeBy n t ls os hs ts calls) leaders choke
 
--- 00, demand 3: the first n of the list read wrote are a grouping of the plant told, and no grouping of that plant covers more of the first k in the order told, for every k from 0 to n.
+-- 00, demand 3, by the limits told ("whatever limit of 2 to 16 each gateway has of its own"): the first n of the list read wrote are a grouping of the plant told, and no grouping of that plant covers more of the first k in the order told, for every k from 0 to n.
 abbrev pub DemandThreeOf : (n : ℕ) (told : Told) (made : State) (leaders choke : List ℕ) → Type 0
 DemandThreeOf n told made leaders choke =
     GroupingTold n told (leadersRead made leaders choke)
@@ -87,9 +88,9 @@ DemandTwo = OnceRead DemandTwoOf
 -- 02, change 1: "Read is now allowed at any k." An open accepted, any list of calls, and a read accepted after it, whatever number is placed.
 abbrev pub AnyRead : ((n : ℕ) (told : Told) (made : State) (leaders choke : List ℕ) → Type 0) → Type 0
 AnyRead claim =
-    (n t : ℕ) (ls os hs : List ℕ) → openRefusal n t os hs ≡ 0 → (calls : List Call)
+    (n t : ℕ) (ls os hs ts : List ℕ) → openRefusal n t os hs ts ≡ 0 → (calls : List Call)
     → (leaders choke : List ℕ) → refuses (toldBy n t ls calls) (read leaders choke) ≡ 0
-    → claim n (toldBy n t ls calls) (madeBy n t ls os hs calls) leaders choke
+    → claim n (toldBy n t ls calls) (madeBy n t ls os hs ts calls) leaders choke
 
 -- The list read is a grouping of the plant told, only placed gateways are held, every held one is covered, those left are alone, and for every j up to the number placed no grouping covers more of the first j in the order told.
 abbrev pub SoFarRead : (n : ℕ) (told : Told) (made : State) (leaders choke : List ℕ) → Type 0
@@ -124,9 +125,17 @@ DifferenceMayBeOff = AnyRead DifferenceIsAlone → ⊥
 -- An open accepted and any list of calls after which a gateway is yet to be placed: a claim about the plant told and the record made.
 abbrev pub BeforePlacing : ((n : ℕ) (told : Told) (made : State) → Type 0) → Type 0
 BeforePlacing claim =
-    (n t : ℕ) (ls os hs : List ℕ) → openRefusal n t os hs ≡ 0 → (calls : List Call)
+    (n t : ℕ) (ls os hs ts : List ℕ) → openRefusal n t os hs ts ≡ 0 → (calls : List Call)
     → toldBy n t ls calls .placed < n
-    → claim n (toldBy n t ls calls) (madeBy n t ls os hs calls)
+    → claim n (toldBy n t ls calls) (madeBy n t ls os hs ts calls)
+
+-- 01, "Placing": "If u holds fewer than T", with some limits for T: either search finds the holder of the next in the order told along the links told
+abbrev pub SearchBy : (ℕ → ℕ) → ℕ → Told → State → Type 0
+SearchBy limit n told made = (w : Way) → call made (placeBy w) .state .holders ≡ placedBy w n limit (told .links) (made .holders) (at (told .order) (told .placed))
+
+-- .. by the limits told
+unfoldable pub SearchTold : Type 0
+SearchTold = BeforePlacing (λ n told made. SearchBy (told .limit) n told made)
 
 -- the next in the order told is left by its placing, in either way
 abbrev pub NextLeft : Way → ℕ → Told → State → Type 0
@@ -138,7 +147,7 @@ CoversKept n told made cover =
     (cover (at (told .order) (told .placed)) ≡ true)
     × ((i : ℕ) → i < told .placed → held n (at (made .holders)) (at (told .order) i) ≡ true → cover (at (told .order) i) ≡ true)
 
--- 01, "Placing": "v is left exactly if no T-star packing covers v and all kept before it (for a record made by accepted calls)."
+-- 01, "Placing": "v is left exactly if no T-star packing covers v and all kept before it (for a record made by accepted calls)." A packing here is within each leader's limit, as told.
 abbrev pub LeftExactlyOf : (w : Way) (n : ℕ) (told : Told) (made : State) → Type 0
 LeftExactlyOf w n told made = NextLeft w n told made ↔ ((g : ℕ → ℕ) → GroupingTold n told g → CoversKept n told made (covered g) → ⊥)
 

@@ -9,7 +9,7 @@ use Rattle.packing.specs.Holders.{held}
 use Rattle.planner.specs.Refusals.{openRefusal}
 use Rattle.planner.specs.State.{State}
 use Rattle.planner.specs.declared.Way.{Way}
-use Rattle.planner.specs.Calls.{Call, link, order, placeBy, read, call}
+use Rattle.planner.specs.Calls.{Call, link, order, setLimit, placeBy, read, call}
 use Rattle.planner.specs.Claims.{toldBy, madeBy}
 
 -- v has a holder in the record
@@ -29,12 +29,13 @@ OthersKeep =
     (s : State)
     → ((a b : ℕ) → call s (link a b) .state .holders ≡ s .holders)
     × ((numbers : List ℕ) → call s (order numbers) .state .holders ≡ s .holders)
+    × ((u limit : ℕ) → call s (setLimit u limit) .state .holders ≡ s .holders)
     × ((leaders choke : List ℕ) → call s (read leaders choke) .state .holders ≡ s .holders)
 
 -- For every list of calls, and any calls after it: a gateway that is not yet placed is not held, and from its placing on it stays held or stays left.
 unfoldable pub HeldSince : Type 0
 HeldSince =
-    (n t : ℕ) (ls os hs : List ℕ) → openRefusal n t os hs ≡ 0 → (calls later : List Call) → (i : ℕ) → i < n
-    → (toldBy n t ls calls .placed ≤ i → heldIn (madeBy n t ls os hs calls) (at (toldBy n t ls calls .order) i) ≡ false)
+    (n t : ℕ) (ls os hs ts : List ℕ) → openRefusal n t os hs ts ≡ 0 → (calls later : List Call) → (i : ℕ) → i < n
+    → (toldBy n t ls calls .placed ≤ i → heldIn (madeBy n t ls os hs ts calls) (at (toldBy n t ls calls .order) i) ≡ false)
     × (i < toldBy n t ls calls .placed
-    → heldIn (madeBy n t ls os hs (calls ++ later)) (at (toldBy n t ls calls .order) i) ≡ heldIn (madeBy n t ls os hs calls) (at (toldBy n t ls calls .order) i))
+    → heldIn (madeBy n t ls os hs ts (calls ++ later)) (at (toldBy n t ls calls .order) i) ≡ heldIn (madeBy n t ls os hs ts calls) (at (toldBy n t ls calls .order) i))

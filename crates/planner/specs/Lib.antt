@@ -5,12 +5,13 @@ pub mod Ways
 pub mod Calls
 pub mod Members
 pub mod Told
-pub mod Tells
 pub mod Run
+pub mod Tells
 pub mod Turns
 pub mod MembersTurn
 pub mod Records
 pub mod Claims
+pub mod CommonLimit
 pub mod SameKept
 pub mod Kept
 pub mod Moved

@@ -7,7 +7,7 @@ use Rattle.packing.specs.Plant.{at, linked}
 use Rattle.packing.specs.Moved.{Fewest}
 use Rattle.planner.specs.State.{State, linksOf, limitOf}
 use Rattle.planner.specs.declared.Way.{Way}
-use Rattle.planner.specs.Calls.{Call, link, order, placeBy, place, read, call, callMoves}
+use Rattle.planner.specs.Calls.{Call, link, order, setLimit, placeBy, place, read, call, callMoves}
 use Rattle.planner.specs.Turns.{SoundFacts}
 use Rattle.planner.specs.Kept.{heldIn}
 
@@ -21,6 +21,7 @@ pub record MovesNobody (s : State) : Type 0 where
   pub left : (w : Way) → heldIn (call s (placeBy w) .state) (nextOf s) ≡ false → callMoves s (placeBy w) ≡ 0
   pub linked : (a b : ℕ) → callMoves s (link a b) ≡ 0
   pub ordered : (numbers : List ℕ) → callMoves s (order numbers) ≡ 0
+  pub limited : (u limit : ℕ) → callMoves s (setLimit u limit) ≡ 0
   pub looked : (leaders choke : List ℕ) → callMoves s (read leaders choke) ≡ 0
 
 -- .. of any record, sound or not
@@ -33,7 +34,7 @@ NewOneMoved =
     (s : State) (w : Way) → SoundFacts s → s .small .k < s .small .n → heldIn (call s (placeBy w) .state) (nextOf s) ≡ true
     → (at (s .holders) (nextOf s) ≡ at (call s (placeBy w) .state .holders) (nextOf s) → ⊥) × (1 ≤ callMoves s (placeBy w))
 
--- By 01's search: "For a sound record and a gateway that is kept this number is the least possible: no other set of holders that holds exactly the kept ones and the new one, along links and within T, differs from the old holders at fewer gateways."
+-- By 01's search: "For a sound record and a gateway that is kept this number is the least possible: no other set of holders that holds exactly the kept ones and the new one, along links and within T, differs from the old holders at fewer gateways.", with each gateway's own limit for T
 unfoldable pub FewestMoved : Type 0
 FewestMoved =
     (s : State) → SoundFacts s → s .small .k < s .small .n → heldIn (call s place .state) (nextOf s) ≡ true

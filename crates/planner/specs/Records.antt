@@ -14,11 +14,11 @@ use Rattle.stars.specs.Stars.{leaderListBy, placeOf, notLater, leaderList}
 use Rattle.search.specs.ChokeSet.{chokeByte}
 use Rattle.planner.specs.State.{State, stateOf, withOrder, linksOf, limitOf}
 use Rattle.planner.specs.declared.Way.{Way}
-use Rattle.planner.specs.Calls.{openCall, Call, link, order, placeBy, read, callRefusal, call, readLeaders, readChoke}
+use Rattle.planner.specs.Calls.{openCall, Call, link, order, setLimit, placeBy, read, callRefusal, call, readLeaders, readChoke}
 use Rattle.planner.specs.Turns.{SoundFacts}
 
--- Open (n, T, lists): "order 0, 1, .., no holder, m = 0, k = 0", entry by entry, and nothing past n
-pub record Opened (n t : ℕ) (ls os hs : List ℕ) (s : State) : Type 0 where
+-- Open (n, T, lists): "order 0, 1, .., no holder, m = 0, k = 0", and limits "all T after open" (02, change 8), entry by entry, and nothing past n
+pub record Opened (n t : ℕ) (ls os hs ts : List ℕ) (s : State) : Type 0 where
   pub gateways : s .small .n ≡ n
   pub limit : s .small .t ≡ t
   pub unlinked : s .small .m ≡ 0
@@ -28,15 +28,17 @@ pub record Opened (n t : ℕ) (ls os hs : List ℕ) (s : State) : Type 0 where
   pub orderPast : drop n (s .order) ≡ drop n os
   pub holders : (v : ℕ) → v < n → at (s .holders) v ≡ 65535
   pub holdersPast : drop n (s .holders) ≡ drop n hs
+  pub limits : (v : ℕ) → v < n → at (s .limits) v ≡ t
+  pub limitsPast : drop n (s .limits) ≡ drop n ts
 
 unfoldable pub OpenGives : Type 0
-OpenGives = (n t : ℕ) (ls os hs : List ℕ) → openCall n t ls os hs .refusal ≡ 0 → Opened n t ls os hs (openCall n t ls os hs .state)
+OpenGives = (n t : ℕ) (ls os hs ts : List ℕ) → openCall n t ls os hs ts .refusal ≡ 0 → Opened n t ls os hs ts (openCall n t ls os hs ts .state)
 
 -- "a refused open, which was handed none, returns n = 0, T = 2, m = 0, k = 0", and the lists stay
 unfoldable pub OpenRefused : Type 0
 OpenRefused =
-    (n t : ℕ) (ls os hs : List ℕ) → (openCall n t ls os hs .refusal ≡ 0 → ⊥)
-    → openCall n t ls os hs .state ≡ stateOf (record { n = 0; t = 2; m = 0; k = 0 }) ls os hs
+    (n t : ℕ) (ls os hs ts : List ℕ) → (openCall n t ls os hs ts .refusal ≡ 0 → ⊥)
+    → openCall n t ls os hs ts .state ≡ stateOf (record { n = 0; t = 2; m = 0; k = 0 }) ls os hs ts
 
 -- "Link (a, b): appended": behind the m links that are there, and m rises by one
 pub record AfterLink (s : State) (a b : ℕ) (after : State) : Type 0 where
@@ -49,6 +51,7 @@ pub record AfterLink (s : State) (a b : ℕ) (after : State) : Type 0 where
   pub second : at (after .links) (2 * s .small .m + 1) ≡ b
   pub order : after .order ≡ s .order
   pub holders : after .holders ≡ s .holders
+  pub limits : after .limits ≡ s .limits
 
 unfoldable pub LinkGives : Type 0
 LinkGives = (s : State) (a b : ℕ) → call s (link a b) .refusal ≡ 0 → AfterLink s a b (call s (link a b) .state)
@@ -59,9 +62,22 @@ pub record AfterOrder (s : State) (numbers : List ℕ) (after : State) : Type 0 
   pub links : after .links ≡ s .links
   pub order : (i : ℕ) → i < s .small .n → at (after .order) i ≡ at numbers i
   pub holders : after .holders ≡ s .holders
+  pub limits : after .limits ≡ s .limits
 
 unfoldable pub OrderGives : Type 0
 OrderGives = (s : State) (numbers : List ℕ) → call s (order numbers) .refusal ≡ 0 → AfterOrder s numbers (call s (order numbers) .state)
+
+-- 02, change 8: "A call replaces one gateway's limit"
+pub record AfterLimit (s : State) (u limit : ℕ) (after : State) : Type 0 where
+  pub small : after .small ≡ s .small
+  pub links : after .links ≡ s .links
+  pub order : after .order ≡ s .order
+  pub holders : after .holders ≡ s .holders
+  pub replaced : at (after .limits) u ≡ limit
+  pub others : (v : ℕ) → (v ≡ u → ⊥) → at (after .limits) v ≡ at (s .limits) v
+
+unfoldable pub LimitGives : Type 0
+LimitGives = (s : State) (u limit : ℕ) → call s (setLimit u limit) .refusal ≡ 0 → AfterLimit s u limit (call s (setLimit u limit) .state)
 
 -- "Place: .. k rises by one", in either way; what it does to the holders is said in search/specs/Search.antt and recursion/specs/Recursion.antt, and in Kept.antt
 pub record AfterPlace (s after : State) : Type 0 where
@@ -71,6 +87,7 @@ pub record AfterPlace (s after : State) : Type 0 where
   pub oneMore : after .small .k ≡ s .small .k + 1
   pub links : after .links ≡ s .links
   pub order : after .order ≡ s .order
+  pub limits : after .limits ≡ s .limits
 
 unfoldable pub PlaceGives : Type 0
 PlaceGives = (s : State) (w : Way) → call s (placeBy w) .refusal ≡ 0 → AfterPlace s (call s (placeBy w) .state)
@@ -86,11 +103,18 @@ RefusedUnchanged = (s : State) (c : Call) → (call s c .refusal ≡ 0 → ⊥) 
 unfoldable pub ReadRefused : Type 0
 ReadRefused = (s : State) (leaders choke : List ℕ) → (call s (read leaders choke) .refusal ≡ 0 → ⊥) → (readLeaders s leaders choke ≡ leaders) × (readChoke s leaders choke ≡ choke)
 
+-- A call leaves a sound record sound, accepted or refused and however the record was made; and open gives a sound one, refused too.
+unfoldable pub SoundStays : Type 0
+SoundStays =
+    ((n t : ℕ) (ls os hs ts : List ℕ) → SoundFacts (openCall n t ls os hs ts .state))
+    × ((s : State) (c : Call) → SoundFacts s → SoundFacts (call s c .state))
+
 -- "Entries past these lengths never change, taken with m as it is after the call."
 pub record Past (before after : State) : Type 0 where
   pub links : drop (2 * after .small .m) (after .links) ≡ drop (2 * after .small .m) (before .links)
   pub order : drop (after .small .n) (after .order) ≡ drop (after .small .n) (before .order)
   pub holders : drop (after .small .n) (after .holders) ≡ drop (after .small .n) (before .holders)
+  pub limits : drop (after .small .n) (after .limits) ≡ drop (after .small .n) (before .limits)
 
 unfoldable pub PastUnchanged : Type 0
 PastUnchanged = (s : State) (c : Call) → Past s (call s c .state)

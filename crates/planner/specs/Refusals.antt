@@ -1,4 +1,4 @@
--- 01, "Refused for what was handed in" and "Refused for where the record is": each call's conditions in the turn of "First to be named".
+-- 01, "Refused for what was handed in" and "Refused for where the record is": each call's conditions in the turn of "First to be named"; and those of 02, change 8.
 -- The conditions without 26 speak of the links accepted so far, their number and the placings so far, not of a record.
 use Prim.Native.Nat.{ℕ, _+_, _*_}
 use mathlib.Core.Bool.{not, _||_}
@@ -8,13 +8,14 @@ use lib.ListN.{length}
 use Rattle.packing.specs.Plant.{GATEWAYS, LINKS, LOWEST, HIGHEST, linked}
 use Rattle.packing.specs.Refusals.{refuse}
 use Rattle.packing.specs.Orders.{repeatsOrOutside}
+use Rattle.sound.specs.Sound.{isLimit}
 
--- open: 1, 2, 10
-unfoldable pub openRefusal : ℕ → ℕ → List ℕ → List ℕ → ℕ
-openRefusal n t os hs =
+-- open: 1, 2, 10; of the limits "fewer is 10 at open" (02, change 8)
+unfoldable pub openRefusal : ℕ → ℕ → List ℕ → List ℕ → List ℕ → ℕ
+openRefusal n t os hs ts =
     refuse (ltb GATEWAYS n) 1
     (refuse (ltb t LOWEST || ltb HIGHEST t) 2
-    (refuse (ltb (length os) n || ltb (length hs) n) 10 0))
+    (refuse (ltb (length os) n || (ltb (length hs) n || ltb (length ts) n)) 10 0))
 
 -- link, after 26: 22, 3, 4, 20, 21. l are the m links so far; room is the length of the lent link list.
 unfoldable pub linkConditions : ℕ → ℕ → ℕ → List ℕ → ℕ → ℕ → ℕ → ℕ
@@ -31,6 +32,13 @@ orderConditions n k numbers =
     refuse (ltb 0 k) 22
     (refuse (not (eqb (length numbers) n)) 5
     (refuse (repeatsOrOutside n numbers) 6 0))
+
+-- the call for one limit, after 26: 22, 30 for a gateway out of range, 33 for a limit that is none of 2 to 16 (02, change 8)
+unfoldable pub limitConditions : ℕ → ℕ → ℕ → ℕ → ℕ
+limitConditions n k u limit =
+    refuse (ltb 0 k) 22
+    (refuse (leb n u) 30
+    (refuse (not (isLimit limit)) 33 0))
 
 -- place, after 26: 24
 unfoldable pub placeConditions : ℕ → ℕ → ℕ

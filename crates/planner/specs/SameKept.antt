@@ -9,7 +9,7 @@ use Rattle.packing.specs.Holders.{held}
 use Rattle.planner.specs.Refusals.{openRefusal}
 use Rattle.planner.specs.State.{State}
 use Rattle.planner.specs.declared.Way.{Way}
-use Rattle.planner.specs.Calls.{Call, link, order, placeBy, read, readChoke}
+use Rattle.planner.specs.Calls.{Call, link, order, setLimit, placeBy, read, readChoke}
 use Rattle.planner.specs.Told.{Told, refuses, tell}
 use Rattle.planner.specs.Claims.{toldBy, madeBy, leadersRead}
 
@@ -23,9 +23,9 @@ pub record SamePlant (n : ℕ) (told told' : Told) : Type 0 where
 -- Two opens accepted, with lent lists of any lengths, and two lists of calls that tell the same plant: a claim about what was told and the records made.
 abbrev pub FilledAlike : ((n : ℕ) (told told' : Told) (made made' : State) → Type 0) → Type 0
 FilledAlike claim =
-    (n t t' : ℕ) (ls os hs ls' os' hs' : List ℕ) → openRefusal n t os hs ≡ 0 → openRefusal n t' os' hs' ≡ 0 → (calls calls' : List Call)
+    (n t t' : ℕ) (ls os hs ts ls' os' hs' ts' : List ℕ) → openRefusal n t os hs ts ≡ 0 → openRefusal n t' os' hs' ts' ≡ 0 → (calls calls' : List Call)
     → SamePlant n (toldBy n t ls calls) (toldBy n t' ls' calls')
-    → claim n (toldBy n t ls calls) (toldBy n t' ls' calls') (madeBy n t ls os hs calls) (madeBy n t' ls' os' hs' calls')
+    → claim n (toldBy n t ls calls) (toldBy n t' ls' calls') (madeBy n t ls os hs ts calls) (madeBy n t' ls' os' hs' ts' calls')
 
 -- "both .. keep the same gateways and leave the same ones at every k"
 abbrev pub SameHeld : (n : ℕ) (told told' : Told) (made made' : State) → Type 0
@@ -49,6 +49,7 @@ unfoldable pub inWay : Way → List Call → List Call
 inWay w [] = []
 inWay w (link a b ∷ calls) = link a b ∷ inWay w calls
 inWay w (order numbers ∷ calls) = order numbers ∷ inWay w calls
+inWay w (setLimit u limit ∷ calls) = setLimit u limit ∷ inWay w calls
 inWay w (placeBy v ∷ calls) = placeBy w ∷ inWay w calls
 inWay w (read leaders choke ∷ calls) = read leaders choke ∷ inWay w calls
 
@@ -58,6 +59,6 @@ AnyWayTold = (p : Told) (w : Way) (calls : List Call) → tell p (inWay w calls)
 -- So the claims hold of both searches, or of one of them and any mix: after one open, by any list of calls with its placings in one way or the other.
 unfoldable pub BothWays : Type 0
 BothWays =
-    (n t : ℕ) (ls os hs : List ℕ) → openRefusal n t os hs ≡ 0 → (calls : List Call) (w : Way)
-    → SameHeld n (toldBy n t ls calls) (toldBy n t ls (inWay w calls)) (madeBy n t ls os hs calls) (madeBy n t ls os hs (inWay w calls))
-    × SameCovered n (toldBy n t ls calls) (toldBy n t ls (inWay w calls)) (madeBy n t ls os hs calls) (madeBy n t ls os hs (inWay w calls))
+    (n t : ℕ) (ls os hs ts : List ℕ) → openRefusal n t os hs ts ≡ 0 → (calls : List Call) (w : Way)
+    → SameHeld n (toldBy n t ls calls) (toldBy n t ls (inWay w calls)) (madeBy n t ls os hs ts calls) (madeBy n t ls os hs ts (inWay w calls))
+    × SameCovered n (toldBy n t ls calls) (toldBy n t ls (inWay w calls)) (madeBy n t ls os hs ts calls) (madeBy n t ls os hs ts (inWay w calls))

@@ -10,15 +10,15 @@ use Rattle.packing.specs.Plant.{at}
 use Rattle.packing.specs.Turns.{Turn, done, named, FirstNamed, LinkThere, firstEnd, secondEnd, RepeatsOrOutside}
 use Rattle.sound.specs.Facts.{Facts}
 use Rattle.planner.specs.State.{State}
-use Rattle.planner.specs.Calls.{openCall, Call, link, order, placeBy, read, call}
+use Rattle.planner.specs.Calls.{openCall, Call, link, order, setLimit, placeBy, read, call}
 use Rattle.planner.specs.Told.{Told, beginning, refuses, tell}
 
--- "open 1, 2, 10": "n above 1,024"; "T below 2 or above 16"; "open needs n in order and holders"
-unfoldable pub openTurn : ℕ → ℕ → List ℕ → List ℕ → Turn
-openTurn n t os hs =
+-- "open 1, 2, 10": "n above 1,024"; "T below 2 or above 16"; "open needs n in order and holders", and in the limits "fewer is 10 at open" (02, change 8)
+unfoldable pub openTurn : ℕ → ℕ → List ℕ → List ℕ → List ℕ → Turn
+openTurn n t os hs ts =
     named 1 (1024 < n)
     (named 2 ((t < 2) ⊎ (16 < t))
-    (named 10 ((length os < n) ⊎ (length hs < n)) done))
+    (named 10 ((length os < n) ⊎ (length hs < n) ⊎ (length ts < n)) done))
 
 -- "Link 26, 22, 3, 4, 20, 21", after 26: "Link or order after the first placing"; "A link end not below n"; "Both ends equal"; "The link is there already";
 -- "m is 8,192, or the lent link list has no place for two more numbers". ls are the links, m of them count; room is the lent list's length.
@@ -37,6 +37,13 @@ orderTurn n k numbers =
     (named 5 (length numbers ≡ n → ⊥)
     (named 6 (RepeatsOrOutside n (at numbers)) done))
 
+-- 02, change 8: "the call for one limit gives 26, 22, 30 for a gateway out of range, then 33, for 0 as well", after 26: "a limit byte of 1 or above 16"
+unfoldable pub limitTurn : ℕ → ℕ → ℕ → ℕ → Turn
+limitTurn n k u limit =
+    named 22 (0 < k)
+    (named 30 (n ≤ u)
+    (named 33 ((limit ≡ 0) ⊎ (limit ≡ 1) ⊎ (16 < limit)) done))
+
 -- "Place 26, 24", after 26: "Place when k = n"; of either way (02, change 7: "Turns and refusals are place's")
 unfoldable pub placeTurn : ℕ → ℕ → Turn
 placeTurn n k = named 24 (k ≡ n) done
@@ -49,12 +56,13 @@ readTurn n leaders choke = named 10 ((length leaders < n) ⊎ (length choke < n)
 abbrev pub turnOf : (n k m : ℕ) (ls : List ℕ) (room : ℕ) → Call → Turn
 turnOf n k m ls room (link a b) = linkTurn n k m ls room a b
 turnOf n k m ls room (order numbers) = orderTurn n k numbers
+turnOf n k m ls room (setLimit u limit) = limitTurn n k u limit
 turnOf n k m ls room (placeBy w) = placeTurn n k
 turnOf n k m ls room (read leaders choke) = readTurn n leaders choke
 
 -- "26. The record is not sound."
 abbrev pub SoundFacts : State → Type 0
-SoundFacts s = Facts (s .small .n) (s .small .t) (s .small .m) (s .small .k) (s .links) (s .order) (s .holders)
+SoundFacts s = Facts (s .small .n) (s .small .t) (s .small .m) (s .small .k) (s .links) (s .order) (s .holders) (s .limits)
 
 unfoldable pub callTurn : State → Call → Turn
 callTurn s c = named 26 (SoundFacts s → ⊥) (turnOf (s .small .n) (s .small .k) (s .small .m) (s .links) (length (s .links)) c)
@@ -65,9 +73,9 @@ toldTurn p c = turnOf (p .n) (p .placed) (p .m) (p .links) (p .room) c
 
 -- The statements. Open, for anything handed in:
 unfoldable pub OpenExactly : Type 0
-OpenExactly = (n t : ℕ) (ls os hs : List ℕ) → FirstNamed (openTurn n t os hs) (openCall n t ls os hs .refusal)
+OpenExactly = (n t : ℕ) (ls os hs ts : List ℕ) → FirstNamed (openTurn n t os hs ts) (openCall n t ls os hs ts .refusal)
 
--- link, order, placing in either way and read, on any record, sound or not
+-- link, order, the call for one limit, placing in either way and read, on any record, sound or not
 unfoldable pub CallExactly : Type 0
 CallExactly = (s : State) (c : Call) → FirstNamed (callTurn s c) (call s c .refusal)
 

@@ -30,6 +30,18 @@ pub(crate) fn with_none(n: usize, list: &mut [u16])
     }
 }
 
+// one byte in each of the first n places
+pub(crate) fn with_byte(n: usize, byte: u8, list: &mut [u8])
+    requires { ⌜ n ≤ length (now list) ⌝ }
+    ensures { λ _. ⌜ now (list .exit) ≡ written n (replicate n byte) (now (list .entry)) ⌝ }
+{
+    let mut i: usize = 0;
+    while i < n {
+        list[i] = byte;
+        i += 1;
+    }
+}
+
 // another list's numbers
 pub(crate) fn with_list(numbers: &[u16], list: &mut [u16])
     requires { ⌜ length (now numbers) ≤ length (now list) ⌝ }

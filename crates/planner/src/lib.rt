@@ -1,4 +1,4 @@
-// The calls of 01 on a record, and a second placing call (02, change 7): the small part as a struct that goes in by value and comes back beside the refusal number, and three lent lists.
+// The calls of 01 on a record, a second placing call (02, change 7) and a call that sets a gateway's limit (change 8): the small part as a struct that goes in by value and comes back beside the refusal number, and four lent lists.
 mod fill;
 pub mod members;
 mod refusals;
@@ -50,13 +50,21 @@ fn search_by(way: Way, n: u16, v: u16, limits: &[u8], links: &[u16], holders: &m
 }
 
 impl Small {
-    // Order 0, 1, .., no holder, no link, none placed. The links are lent with the other lists; nothing of them is read or written.
-    pub fn open(n: u16, t: u8, links: &[u16], order: &mut [u16], holders: &mut [u16]) -> Answer
-        ensures answer { λ r. ⌜ r ≡ answerOf (openCall n t (now (links .entry)) (now (order .entry)) (now (holders .entry))) ⌝ }
-        ensures order { λ _. ⌜ now (order .exit) ≡ openCall n t (now (links .entry)) (now (order .entry)) (now (holders .entry)) .state .order ⌝ }
-        ensures holders { λ _. ⌜ now (holders .exit) ≡ openCall n t (now (links .entry)) (now (order .entry)) (now (holders .entry)) .state .holders ⌝ }
+    // Order 0, 1, .., no holder, the limit T for each gateway, no link, none placed. The links are lent with the other lists; nothing of them is read or written.
+    pub fn open(
+        n: u16,
+        t: u8,
+        links: &[u16],
+        order: &mut [u16],
+        holders: &mut [u16],
+        limits: &mut [u8],
+    ) -> Answer
+        ensures answer { λ r. ⌜ r ≡ answerOf (openCall n t (now (links .entry)) (now (order .entry)) (now (holders .entry)) (now (limits .entry))) ⌝ }
+        ensures order { λ _. ⌜ now (order .exit) ≡ openCall n t (now (links .entry)) (now (order .entry)) (now (holders .entry)) (now (limits .entry)) .state .order ⌝ }
+        ensures holders { λ _. ⌜ now (holders .exit) ≡ openCall n t (now (links .entry)) (now (order .entry)) (now (holders .entry)) (now (limits .entry)) .state .holders ⌝ }
+        ensures limits { λ _. ⌜ now (limits .exit) ≡ openCall n t (now (links .entry)) (now (order .entry)) (now (holders .entry)) (now (limits .entry)) .state .limits ⌝ }
     {
-        let refusal = refusals::of_open(n, t, order, holders);
+        let refusal = refusals::of_open(n, t, order, holders, limits);
         if refusal != 0 {
             return Answer {
                 refusal,
@@ -70,6 +78,7 @@ impl Small {
         }
         fill::with_places(n as usize, order);
         fill::with_none(n as usize, holders);
+        fill::with_byte(n as usize, t, limits);
         Answer {
             refusal: 0,
             small: Small { n, t, m: 0, k: 0 },
@@ -77,15 +86,23 @@ impl Small {
     }
 
     // Appends the link a-b.
-    pub fn link(self, links: &mut [u16], order: &[u16], holders: &[u16], a: u16, b: u16) -> Answer
-        ensures answer { λ r. ⌜ r ≡ answerOf (call (stateOf self (now (links .entry)) (now (order .entry)) (now (holders .entry))) (calls.link a b)) ⌝ }
-        ensures links { λ _. ⌜ now (links .exit) ≡ call (stateOf self (now (links .entry)) (now (order .entry)) (now (holders .entry))) (calls.link a b) .state .links ⌝ }
+    pub fn link(
+        self,
+        links: &mut [u16],
+        order: &[u16],
+        holders: &[u16],
+        limits: &[u8],
+        a: u16,
+        b: u16,
+    ) -> Answer
+        ensures answer { λ r. ⌜ r ≡ answerOf (call (stateOf self (now (links .entry)) (now (order .entry)) (now (holders .entry)) (now (limits .entry))) (calls.link a b)) ⌝ }
+        ensures links { λ _. ⌜ now (links .exit) ≡ call (stateOf self (now (links .entry)) (now (order .entry)) (now (holders .entry)) (now (limits .entry))) (calls.link a b) .state .links ⌝ }
     {
         let n = self.n;
         let t = self.t;
         let m = self.m;
         let k = self.k;
-        if !sound::is_sound(n, t, m, k, links, order, holders) {
+        if !sound::is_sound(n, t, m, k, links, order, holders, limits) {
             return Answer {
                 refusal: 26,
                 small: self,
@@ -108,13 +125,20 @@ impl Small {
     }
 
     // Replaces the order.
-    pub fn order(self, links: &[u16], order: &mut [u16], holders: &[u16], numbers: &[u16]) -> Answer
-        ensures answer { λ r. ⌜ r ≡ answerOf (call (stateOf self (now (links .entry)) (now (order .entry)) (now (holders .entry))) (calls.order (now (numbers .entry)))) ⌝ }
-        ensures order { λ _. ⌜ now (order .exit) ≡ call (stateOf self (now (links .entry)) (now (order .entry)) (now (holders .entry))) (calls.order (now (numbers .entry))) .state .order ⌝ }
+    pub fn order(
+        self,
+        links: &[u16],
+        order: &mut [u16],
+        holders: &[u16],
+        limits: &[u8],
+        numbers: &[u16],
+    ) -> Answer
+        ensures answer { λ r. ⌜ r ≡ answerOf (call (stateOf self (now (links .entry)) (now (order .entry)) (now (holders .entry)) (now (limits .entry))) (calls.order (now (numbers .entry)))) ⌝ }
+        ensures order { λ _. ⌜ now (order .exit) ≡ call (stateOf self (now (links .entry)) (now (order .entry)) (now (holders .entry)) (now (limits .entry))) (calls.order (now (numbers .entry))) .state .order ⌝ }
     {
         let n = self.n;
         let k = self.k;
-        if !sound::is_sound(n, self.t, self.m, k, links, order, holders) {
+        if !sound::is_sound(n, self.t, self.m, k, links, order, holders, limits) {
             return Answer {
                 refusal: 26,
                 small: self,
@@ -134,20 +158,67 @@ impl Small {
         }
     }
 
-    // The next in the order is kept or left. So that it finds a holder, others may change theirs; all whose holder changed are counted.
-    pub fn place(self, links: &[u16], order: &[u16], holders: &mut [u16]) -> PlaceAnswer
-        ensures answer { λ r. ⌜ r ≡ placeAnswerOf (stateOf self (now (links .entry)) (now (order .entry)) (now (holders .entry))) calls.place ⌝ }
-        ensures holders { λ _. ⌜ now (holders .exit) ≡ call (stateOf self (now (links .entry)) (now (order .entry)) (now (holders .entry))) calls.place .state .holders ⌝ }
+    // Replaces one gateway's limit, before the first placing.
+    pub fn set_limit(
+        self,
+        links: &[u16],
+        order: &[u16],
+        holders: &[u16],
+        limits: &mut [u8],
+        gateway: u16,
+        limit: u8,
+    ) -> Answer
+        ensures answer { λ r. ⌜ r ≡ answerOf (call (stateOf self (now (links .entry)) (now (order .entry)) (now (holders .entry)) (now (limits .entry))) (calls.setLimit gateway limit)) ⌝ }
+        ensures limits { λ _. ⌜ now (limits .exit) ≡ call (stateOf self (now (links .entry)) (now (order .entry)) (now (holders .entry)) (now (limits .entry))) (calls.setLimit gateway limit) .state .limits ⌝ }
     {
-        self.place_by(Way::Queued, links, order, holders)
+        let n = self.n;
+        let k = self.k;
+        if !sound::is_sound(n, self.t, self.m, k, links, order, holders, limits) {
+            return Answer {
+                refusal: 26,
+                small: self,
+            };
+        }
+        let refusal = refusals::of_limit(n, k, gateway, limit);
+        if refusal != 0 {
+            return Answer {
+                refusal,
+                small: self,
+            };
+        }
+        limits[gateway as usize] = limit;
+        Answer {
+            refusal: 0,
+            small: self,
+        }
+    }
+
+    // The next in the order is kept or left. So that it finds a holder, others may change theirs; all whose holder changed are counted.
+    pub fn place(
+        self,
+        links: &[u16],
+        order: &[u16],
+        holders: &mut [u16],
+        limits: &[u8],
+    ) -> PlaceAnswer
+        ensures answer { λ r. ⌜ r ≡ placeAnswerOf (stateOf self (now (links .entry)) (now (order .entry)) (now (holders .entry)) (now (limits .entry))) calls.place ⌝ }
+        ensures holders { λ _. ⌜ now (holders .exit) ≡ call (stateOf self (now (links .entry)) (now (order .entry)) (now (holders .entry)) (now (limits .entry))) calls.place .state .holders ⌝ }
+    {
+        self.place_by(Way::Queued, links, order, holders, limits)
     }
 
     // The same by the short search: the same gateways are kept, but holders may be others, and more may change theirs.
-    pub fn place_recursive(self, links: &[u16], order: &[u16], holders: &mut [u16]) -> PlaceAnswer
-        ensures answer { λ r. ⌜ r ≡ placeAnswerOf (stateOf self (now (links .entry)) (now (order .entry)) (now (holders .entry))) calls.placeRecursive ⌝ }
-        ensures holders { λ _. ⌜ now (holders .exit) ≡ call (stateOf self (now (links .entry)) (now (order .entry)) (now (holders .entry))) calls.placeRecursive .state .holders ⌝ }
+    pub fn place_recursive(
+        self,
+        links: &[u16],
+        order: &[u16],
+        holders: &mut [u16],
+        limits: &[u8],
+    ) -> PlaceAnswer
+        ensures answer { λ r. ⌜ r ≡ placeAnswerOf (stateOf self (now (links .entry)) (now (order .entry)) (now (holders .entry)) (now (limits .entry))) calls.placeRecursive ⌝ }
+        ensures holders { λ _. ⌜ now (holders .exit) ≡ call (stateOf self (now (links .entry)) (now (order .entry)) (now (holders .entry)) (now (limits .entry))) calls.placeRecursive .state .holders ⌝ }
     {
-        self.place_by(Way::Recursive, links, order, holders)
+        self.place_by(Way::Recursive, links, order, holders, limits)
     }
 
     // .. in the way that is named.
@@ -157,15 +228,16 @@ impl Small {
         links: &[u16],
         order: &[u16],
         holders: &mut [u16],
+        limits: &[u8],
     ) -> PlaceAnswer
-        ensures answer { λ r. ⌜ r ≡ placeAnswerOf (stateOf self (now (links .entry)) (now (order .entry)) (now (holders .entry))) (calls.placeBy way) ⌝ }
-        ensures holders { λ _. ⌜ now (holders .exit) ≡ call (stateOf self (now (links .entry)) (now (order .entry)) (now (holders .entry))) (calls.placeBy way) .state .holders ⌝ }
+        ensures answer { λ r. ⌜ r ≡ placeAnswerOf (stateOf self (now (links .entry)) (now (order .entry)) (now (holders .entry)) (now (limits .entry))) (calls.placeBy way) ⌝ }
+        ensures holders { λ _. ⌜ now (holders .exit) ≡ call (stateOf self (now (links .entry)) (now (order .entry)) (now (holders .entry)) (now (limits .entry))) (calls.placeBy way) .state .holders ⌝ }
     {
         let n = self.n;
         let t = self.t;
         let m = self.m;
         let k = self.k;
-        if !sound::is_sound(n, t, m, k, links, order, holders) {
+        if !sound::is_sound(n, t, m, k, links, order, holders, limits) {
             return PlaceAnswer {
                 refusal: 26,
                 small: self,
@@ -180,9 +252,8 @@ impl Small {
             };
         }
         let end = 2 * (m as usize);
-        let limits = lists::marks::bytes(t);
         // It is done: the next of a sound record may be placed.
-        let placed = search_by(way, n, order[k as usize], &limits, &links[..end], holders);
+        let placed = search_by(way, n, order[k as usize], limits, &links[..end], holders);
         PlaceAnswer {
             refusal: 0,
             small: Small { n, t, m, k: k + 1 },
@@ -196,17 +267,18 @@ impl Small {
         links: &[u16],
         order: &[u16],
         holders: &[u16],
+        limits: &[u8],
         leaders: &mut [u16],
         choke: &mut [u8],
     ) -> Answer
-        ensures answer { λ r. ⌜ r ≡ answerOf (call (stateOf self (now (links .entry)) (now (order .entry)) (now (holders .entry))) (calls.read (now (leaders .entry)) (now (choke .entry)))) ⌝ }
-        ensures leaders { λ _. ⌜ now (leaders .exit) ≡ readLeaders (stateOf self (now (links .entry)) (now (order .entry)) (now (holders .entry))) (now (leaders .entry)) (now (choke .entry)) ⌝ }
-        ensures choke { λ _. ⌜ now (choke .exit) ≡ readChoke (stateOf self (now (links .entry)) (now (order .entry)) (now (holders .entry))) (now (leaders .entry)) (now (choke .entry)) ⌝ }
+        ensures answer { λ r. ⌜ r ≡ answerOf (call (stateOf self (now (links .entry)) (now (order .entry)) (now (holders .entry)) (now (limits .entry))) (calls.read (now (leaders .entry)) (now (choke .entry)))) ⌝ }
+        ensures leaders { λ _. ⌜ now (leaders .exit) ≡ readLeaders (stateOf self (now (links .entry)) (now (order .entry)) (now (holders .entry)) (now (limits .entry))) (now (leaders .entry)) (now (choke .entry)) ⌝ }
+        ensures choke { λ _. ⌜ now (choke .exit) ≡ readChoke (stateOf self (now (links .entry)) (now (order .entry)) (now (holders .entry)) (now (limits .entry))) (now (leaders .entry)) (now (choke .entry)) ⌝ }
     {
         let n = self.n;
         let m = self.m;
         let k = self.k;
-        if !sound::is_sound(n, self.t, m, k, links, order, holders) {
+        if !sound::is_sound(n, self.t, m, k, links, order, holders, limits) {
             return Answer {
                 refusal: 26,
                 small: self,

@@ -8,10 +8,10 @@ ghost use mathlib.Core.Path.{_≡_};
 ghost use Prim.Native.Nat.{_≤_, _*_};
 ghost use lib.ListN.{length};
 ghost use Rattle.packing.specs.Plant.{GATEWAYS, firstLinks};
-ghost use Rattle.planner.specs.Refusals.{openRefusal, linkConditions, orderConditions, readConditions};
+ghost use Rattle.planner.specs.Refusals.{openRefusal, linkConditions, orderConditions, limitConditions, readConditions};
 
-pub(crate) fn of_open(n: u16, t: u8, order: &[u16], holders: &[u16]) -> u32
-    ensures { λ r. ⌜ r ≡ openRefusal n t (now (order .entry)) (now (holders .entry)) ⌝ }
+pub(crate) fn of_open(n: u16, t: u8, order: &[u16], holders: &[u16], limits: &[u8]) -> u32
+    ensures { λ r. ⌜ r ≡ openRefusal n t (now (order .entry)) (now (holders .entry)) (now (limits .entry)) ⌝ }
 {
     if GATEWAYS < n {
         return 1;
@@ -26,6 +26,9 @@ pub(crate) fn of_open(n: u16, t: u8, order: &[u16], holders: &[u16]) -> u32
         return 10;
     }
     if holders.len() < n as usize {
+        return 10;
+    }
+    if limits.len() < n as usize {
         return 10;
     }
     0
@@ -74,6 +77,22 @@ pub(crate) fn of_order(n: u16, k: u16, numbers: &[u16]) -> u32
     }
     if !sound::is_order(n, numbers) {
         return 6;
+    }
+    0
+}
+
+// After 26.
+pub(crate) fn of_limit(n: u16, k: u16, gateway: u16, limit: u8) -> u32
+    ensures { λ r. ⌜ r ≡ limitConditions n k gateway limit ⌝ }
+{
+    if 0 < k {
+        return 22;
+    }
+    if n <= gateway {
+        return 30;
+    }
+    if !sound::is_limit(limit) {
+        return 33;
     }
     0
 }

@@ -1,6 +1,7 @@
 -- What no refusal of a file says.
 use Prim.Native.Nat.{ℕ, zero, suc, _+_, _*_, _<_, _≤_}
 use mathlib.Core.Path.{_≡_, refl, sym, _∙_}
+use mathlib.Core.Logic.{_⊎_}
 use mathlib.Core.Bool.{true, false, not, _||_}
 use mathlib.Core.List.{List, [], _∷_, _++_}
 use native.Mathlib.Numerals.{add-one}
@@ -16,43 +17,47 @@ use Rattle.packing.proofs.Refusals.{refuse-none, first-none}
 use Rattle.sound.specs.Sound.{endsSound}
 use Rattle.sound.proofs.Meaning.{ends-mean}
 use Rattle.sound.proofs.Orders.{order-right}
-use Rattle.plant_file.specs.PlantFile.{number, fileN, fileT, fileM, fileLinks, fileOrder, beginsPLT, endsRefusal, linksRefusal, fileRefusal}
+use Rattle.plant_file.specs.PlantFile.{fileVersion, fileN, fileT, fileM, fileLinks, fileOrder, fileLength, limitsAllowed, beginsPLT, endsRefusal, linksRefusal, fileRefusal}
 use Rattle.plant_file.proofs.LinksByIndex.{links-long}
 use Rattle.plant_file.proofs.LinkChecks.{onward, onward-at}
+use Rattle.plant_file.proofs.Versions.{one-or-two}
 
 pub record FileAllowed (file : List ℕ) : Type 0 where
   pub begins : beginsPLT file ≡ true
-  pub version : number file 3 ≡ 1
+  pub version : (fileVersion file ≡ 1) ⊎ (fileVersion file ≡ 2)
   pub few : fileN file ≤ GATEWAYS
   pub least : LOWEST ≤ fileT file
   pub most : fileT file ≤ HIGHEST
   pub links-few : fileM file ≤ LINKS
-  pub long : length file ≡ 10 + 4 * fileM file + 2 * fileN file
+  pub long : length file ≡ fileLength file
   pub links : linksRefusal (fileN file) [] (fileLinks file) ≡ 0
   pub order : IsOrder (fileN file) (at (fileOrder file))
+  pub limits : limitsAllowed file ≡ true
 
 pub file-allowed : (file : List ℕ) → fileRefusal file ≡ 0 → FileAllowed file
 unfolding fileRefusal
 file-allowed file z =
     let short = refuse-none (ltb (length file) 10) 9 _ (omega arith) z in
     let begins = refuse-none (not (beginsPLT file)) 7 _ (omega arith) (short .1) in
-    let version = refuse-none (not (eqb (number file 3) 1)) 8 _ (omega arith) (begins .1) in
+    let version = refuse-none (not (eqb (fileVersion file) 1 || eqb (fileVersion file) 2)) 8 _ (omega arith) (begins .1) in
     let n = refuse-none (ltb GATEWAYS (fileN file)) 1 _ (omega arith) (version .1) in
     let t = refuse-none (ltb (fileT file) LOWEST || ltb HIGHEST (fileT file)) 2 _ (omega arith) (n .1) in
     let m = refuse-none (ltb LINKS (fileM file)) 12 _ (omega arith) (t .1) in
-    let long = refuse-none (not (eqb (length file) (10 + 4 * fileM file + 2 * fileN file))) 9 _ (omega arith) (m .1) in
+    let long = refuse-none (not (eqb (length file) (fileLength file))) 9 _ (omega arith) (m .1) in
     let links = first-none (linksRefusal (fileN file) [] (fileLinks file)) _ (long .1) in
-    let order = refuse-none (repeatsOrOutside (fileN file) (fileOrder file)) 6 0 (omega arith) (links .1) in
+    let order = refuse-none (repeatsOrOutside (fileN file) (fileOrder file)) 6 _ (omega arith) (links .1) in
+    let limits = refuse-none (not (limitsAllowed file)) 33 0 (omega arith) (order .1) in
     record {
       begins = not-false (beginsPLT file) (begins .0);
-      version = eqb-true (number file 3) 1 (not-false (eqb (number file 3) 1) (version .0));
+      version = one-or-two file (version .0);
       few = ltb-false GATEWAYS (fileN file) (n .0);
       least = ltb-false (fileT file) LOWEST (or-false-l _ _ (t .0));
       most = ltb-false HIGHEST (fileT file) (or-false-r (ltb (fileT file) LOWEST) _ (t .0));
       links-few = ltb-false LINKS (fileM file) (m .0);
-      long = eqb-true (length file) _ (not-false (eqb (length file) (10 + 4 * fileM file + 2 * fileN file)) (long .0));
+      long = eqb-true (length file) (fileLength file) (not-false (eqb (length file) (fileLength file)) (long .0));
       links = links .0;
       order = order-right (fileN file) (fileOrder file) (order .0);
+      limits = not-false (limitsAllowed file) (limits .0);
     }
 
 -- a link a-b that is not refused after the links before it

@@ -11,22 +11,23 @@ use borrow.Author.Tests.{ltb-true, ltb-false, le-ltb, ne-eqb}
 use Rattle.packing.specs.Plant.{GATEWAYS, LINKS, LOWEST, HIGHEST, at}
 use Rattle.packing.specs.Refusals.{refuse}
 use Rattle.packing.proofs.Tests.{by-bool}
-use Rattle.plant_file.specs.PlantFile.{LONGEST, number, fileN, fileT, fileM, beginsPLT, fileRefusal}
+use Rattle.plant_file.specs.PlantFile.{LONGEST, number, fileVersion, fileN, fileT, fileM, fileLength, beginsPLT, fileRefusal}
+use Rattle.plant_file.proofs.Versions.{length-most}
 use Rattle.plant_file.proofs.Accepted.{file-allowed}
 
--- 01: "Length 10 + 4m + 2n"
-longest-is : LONGEST ≡ 10 + 4 * LINKS + 2 * GATEWAYS
+-- of the two lengths the longer one, "10 + 4m + 4n"
+longest-is : LONGEST ≡ 10 + 4 * LINKS + 4 * GATEWAYS
 longest-is = refl
 
 -- no accepted file is longer
 pub accepted-short : (file : List ℕ) → fileRefusal file ≡ 0 → length file ≤ LONGEST
-accepted-short file z = let a = file-allowed file z in omega (arith, a .few, a .links-few, a .long)
+accepted-short file z = let a = file-allowed file z in omega (arith, a .few, a .links-few, a .long, length-most file)
 
 -- what a longer file is refused for: its header, and at last its length
 abbrev longRefusal : List ℕ → ℕ
 longRefusal file =
     refuse (not (beginsPLT file)) 7
-    (refuse (not (eqb (number file 3) 1)) 8
+    (refuse (not (eqb (fileVersion file) 1 || eqb (fileVersion file) 2)) 8
     (refuse (ltb GATEWAYS (fileN file)) 1
     (refuse (ltb (fileT file) LOWEST || ltb HIGHEST (fileT file)) 2
     (refuse (ltb LINKS (fileM file)) 12 9))))
@@ -39,8 +40,8 @@ long-refused file h =
     (λ e. rw e (by-bool (ltb LINKS (fileM file)) (λ f. rw f)
     (λ f. rw (f, other (ltb-false GATEWAYS (fileN file) e) (ltb-false LINKS (fileM file) f))))))
   where
-    other : fileN file ≤ GATEWAYS → fileM file ≤ LINKS → eqb (length file) (10 + 4 * fileM file + 2 * fileN file) ≡ false
-    other p q = ne-eqb (length file) (10 + 4 * fileM file + 2 * fileN file) (λ e. omega arith)
+    other : fileN file ≤ GATEWAYS → fileM file ≤ LINKS → eqb (length file) (fileLength file) ≡ false
+    other p q = ne-eqb (length file) (fileLength file) (λ e. omega (arith, length-most file))
 
 -- the header is within the cut
 module _ (file : List ℕ) where
@@ -59,7 +60,7 @@ module _ (file : List ℕ) where
   cut-begins = rw (cut-at 0 (omega arith), cut-at 1 (omega arith), cut-at 2 (omega arith))
 
   cut-header : longRefusal cut ≡ longRefusal file
-  unfolding fileN fileT fileM
+  unfolding fileVersion fileN fileT fileM
   cut-header = rw (cut-begins, cut-number 3 (omega arith), cut-number 5 (omega arith), cut-at 7 (omega arith), cut-number 8 (omega arith))
 
   pub cut-refusal : fileRefusal cut ≡ fileRefusal file

@@ -10,32 +10,38 @@ use borrow.Author.Tests.{ltb-false, lt-leb, le-leb}
 use Rattle.packing.specs.Lists.{written}
 use Rattle.packing.proofs.Tests.{or-false-l, or-false-r}
 use Rattle.packing.proofs.Refusals.{refused, accepted}
-use Rattle.plant_file.specs.PlantFile.{fileN, fileM, fileLinks, fileOrder, fileRefusal, fileThenShort}
-use Rattle.plant_file.specs.Load.{loadRefusal, loadLinks, loadOrder, orderWritten}
+use Rattle.plant_file.specs.PlantFile.{fileN, fileM, fileLinks, fileOrder, fileLimits, fileRefusal, fileThenShort}
+use Rattle.plant_file.specs.Load.{loadRefusal, loadLinks, loadOrder, loadLimits, orderWritten}
 use Rattle.plant_file.proofs.Refusing.{then-none}
 
 -- the answer by the numbers that the code reads
-pub load-number : (file : List ℕ) (ls os : ℕ) {m n e : ℕ} {short : Bool} → m ≡ fileM file → n ≡ fileN file → short ≡ (ltb ls (2 * m) || ltb os n) → e ≡ fileThenShort file short
-    → e ≡ loadRefusal file ls os
+pub load-number : (file : List ℕ) (ls os ts : ℕ) {m n e : ℕ} {few short : Bool} → m ≡ fileM file → n ≡ fileN file → few ≡ (ltb ls (2 * m) || ltb os n) → short ≡ (few || ltb ts n)
+    → e ≡ fileThenShort file short → e ≡ loadRefusal file ls os ts
 unfolding loadRefusal
-load-number file ls os f g h i = i ∙ rw (h, f, g)
+load-number file ls os ts f g h i j = j ∙ rw (i, h, f, g)
 
 -- no refusal of load: the file is accepted, and the lists are long enough
-pub load-places : (file : List ℕ) (ls os : ℕ) {e : ℕ} → e ≡ loadRefusal file ls os → e ≡ 0 → (fileRefusal file ≡ 0) × (2 * fileM file ≤ ls) × (fileN file ≤ os)
+pub load-places : (file : List ℕ) (ls os ts : ℕ) {e : ℕ} → e ≡ loadRefusal file ls os ts → e ≡ 0 → (fileRefusal file ≡ 0) × (2 * fileM file ≤ ls) × (fileN file ≤ os) × (fileN file ≤ ts)
 unfolding loadRefusal
-load-places file ls os f z =
-    let a = then-none file (ltb ls (2 * fileM file) || ltb os (fileN file)) (sym f ∙ z) in
-    (a .0, ltb-false ls _ (or-false-l _ _ (a .1)), ltb-false os _ (or-false-r (ltb ls (2 * fileM file)) _ (a .1)))
+load-places file ls os ts f z =
+    let a = then-none file (ltb ls (2 * fileM file) || ltb os (fileN file) || ltb ts (fileN file)) (sym f ∙ z) in
+    let few = or-false-l (ltb ls (2 * fileM file) || ltb os (fileN file)) _ (a .1) in
+    let limits = or-false-r (ltb ls (2 * fileM file) || ltb os (fileN file)) _ (a .1) in
+    (a .0, ltb-false ls _ (or-false-l _ _ few), ltb-false os _ (or-false-r (ltb ls (2 * fileM file)) _ few), ltb-false ts _ limits)
 
-module _ (file links order : List ℕ) {e : ℕ} (of : e ≡ loadRefusal file (length links) (length order)) where
-  pub load-refused : (e ≡ 0 → ⊥) → (e ≡ loadRefusal file (length links) (length order)) × ((links ≡ loadLinks file links order) × (order ≡ loadOrder file links order))
-  unfolding loadLinks loadOrder
-  load-refused z = (of, (refused _ _ of z, refused _ _ of z))
+module _ (file links order limits : List ℕ) {e : ℕ} (of : e ≡ loadRefusal file (length links) (length order) (length limits)) where
+  pub load-refused : (e ≡ 0 → ⊥)
+      → (e ≡ loadRefusal file (length links) (length order) (length limits))
+      × ((links ≡ loadLinks file links order limits) × ((order ≡ loadOrder file links order limits) × (limits ≡ loadLimits file links order limits)))
+  unfolding loadLinks loadOrder loadLimits
+  load-refused z = (of, (refused _ _ of z, (refused _ _ of z, refused _ _ of z)))
 
-  pub load-accepted : {links' order' : List ℕ} → e ≡ 0 → links' ≡ written (2 * fileM file) (fileLinks file) links → order' ≡ written (fileN file) (fileOrder file) order
-      → (0 ≡ loadRefusal file (length links) (length order)) × ((links' ≡ loadLinks file links order) × (order' ≡ loadOrder file links order))
-  unfolding loadLinks loadOrder
-  load-accepted z p q = (sym z ∙ of, (accepted _ _ of z p, accepted _ _ of z q))
+  pub load-accepted : {links' order' limits' : List ℕ} → e ≡ 0
+      → links' ≡ written (2 * fileM file) (fileLinks file) links → order' ≡ written (fileN file) (fileOrder file) order → limits' ≡ written (fileN file) (fileLimits file) limits
+      → (0 ≡ loadRefusal file (length links) (length order) (length limits))
+      × ((links' ≡ loadLinks file links order limits) × ((order' ≡ loadOrder file links order limits) × (limits' ≡ loadLimits file links order limits)))
+  unfolding loadLinks loadOrder loadLimits
+  load-accepted z p q r = (sym z ∙ of, (accepted _ _ of z p, (accepted _ _ of z q, accepted _ _ of z r)))
 
 -- the order alone: nothing where there are fewer than n places, else its n numbers
 module _ (file out : List ℕ) where

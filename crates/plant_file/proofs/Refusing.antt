@@ -1,5 +1,5 @@
--- A file's refusal in its parts, the header's, the links' and the order's; and with 10 after it.
-use Prim.Native.Nat.{ℕ, _+_, _*_, _≤_}
+-- A file's refusal in its parts, the header's, the links', the order's and the limits'; and with 10 after it.
+use Prim.Native.Nat.{ℕ, _≤_}
 use mathlib.Core.Path.{_≡_, sym, _∙_}
 use mathlib.Core.Bool.{Bool, true, false, not, _||_}
 use mathlib.Core.List.{List, []}
@@ -14,24 +14,24 @@ use Rattle.packing.specs.Orders.{repeatsOrOutside}
 use Rattle.packing.specs.Refusals.{refuse, firstOf}
 use Rattle.packing.proofs.Refusals.{refuse-none, first-refused, first-passed, first-none, first-alone}
 use Rattle.sound.proofs.Orders.{order-test}
-use Rattle.plant_file.specs.PlantFile.{number, fileN, fileT, fileM, fileLinks, fileOrder, beginsPLT, linksRefusal, fileRefusal, fileThenShort}
+use Rattle.plant_file.specs.PlantFile.{fileVersion, fileN, fileT, fileM, fileLinks, fileOrder, fileLength, limitsAllowed, beginsPLT, linksRefusal, fileRefusal, fileThenShort}
 use Rattle.plant_file.specs.Pre.{sizesRefusal, headerRefusal}
 
--- the links', and then 6
+-- the links', then 6, and then 33
 abbrev pub bodyRefusal : List ℕ → ℕ
 bodyRefusal file =
-    firstOf (linksRefusal (fileN file) [] (fileLinks file)) (refuse (repeatsOrOutside (fileN file) (fileOrder file)) 6 0)
+    firstOf (linksRefusal (fileN file) [] (fileLinks file)) (refuse (repeatsOrOutside (fileN file) (fileOrder file)) 6 (refuse (not (limitsAllowed file)) 33 0))
 
 pub file-parts : (file : List ℕ) → fileRefusal file ≡ firstOf (headerRefusal file) (bodyRefusal file)
 unfolding fileRefusal sizesRefusal headerRefusal
 file-parts file =
     by-bool (ltb (length file) 10) (λ e. rw e)
     (λ e. rw e (by-bool (beginsPLT file)
-    (λ f. rw f (by-bool (eqb (number file 3) 1)
+    (λ f. rw f (by-bool (eqb (fileVersion file) 1 || eqb (fileVersion file) 2)
     (λ g. rw g (by-bool (ltb GATEWAYS (fileN file)) (λ h. rw h)
     (λ h. rw h (by-bool (ltb (fileT file) LOWEST || ltb HIGHEST (fileT file)) (λ k. rw k)
     (λ k. rw k (by-bool (ltb LINKS (fileM file)) (λ l. rw l)
-    (λ l. rw l (by-bool (eqb (length file) (10 + 4 * fileM file + 2 * fileN file)) (λ m. rw m) (λ m. rw m))))))))) (λ g. rw g))) (λ f. rw f)))
+    (λ l. rw l (by-bool (eqb (length file) (fileLength file)) (λ m. rw m) (λ m. rw m))))))))) (λ g. rw g))) (λ f. rw f)))
 
 -- each answer of the whole check
 module _ (file : List ℕ) {h : ℕ} (header : h ≡ headerRefusal file) where
@@ -48,8 +48,12 @@ module _ (file : List ℕ) {h : ℕ} (header : h ≡ headerRefusal file) where
     pub file-disorder : l ≡ 0 → {b : Bool} → b ≡ onceEach (fileN file) (fileOrder file) → b ≡ false → 6 ≡ fileRefusal file
     file-disorder z e f = file-body fine (first-passed links z (rw (sym (order-test (fileN file) (fileOrder file)), sym e ∙ f)))
 
-    pub file-fine : l ≡ 0 → {b : Bool} → b ≡ onceEach (fileN file) (fileOrder file) → b ≡ true → 0 ≡ fileRefusal file
-    file-fine z e f = file-body fine (first-passed links z (rw (sym (order-test (fileN file) (fileOrder file)), sym e ∙ f)))
+    module _ (clear : l ≡ 0) {b : Bool} (order : b ≡ onceEach (fileN file) (fileOrder file)) (once : b ≡ true) {a : Bool} (limits : a ≡ limitsAllowed file) where
+      pub file-limits : a ≡ false → 33 ≡ fileRefusal file
+      file-limits f = file-body fine (first-passed links clear (rw (sym (order-test (fileN file) (fileOrder file)), sym order ∙ once, sym limits ∙ f)))
+
+      pub file-fine : a ≡ true → 0 ≡ fileRefusal file
+      file-fine f = file-body fine (first-passed links clear (rw (sym (order-test (fileN file) (fileOrder file)), sym order ∙ once, sym limits ∙ f)))
 
 -- no refusal of the header: n is in range
 pub header-few : (file : List ℕ) {h : ℕ} → h ≡ headerRefusal file → h ≡ 0 → fileN file ≤ GATEWAYS
@@ -57,7 +61,7 @@ unfolding sizesRefusal headerRefusal
 header-few file e z =
     let a = refuse-none (ltb (length file) 10) 9 _ (omega arith) (sym e ∙ z) in
     let b = refuse-none (not (beginsPLT file)) 7 _ (omega arith) (a .1) in
-    let d = refuse-none (not (eqb (number file 3) 1)) 8 _ (omega arith) (b .1) in
+    let d = refuse-none (not (eqb (fileVersion file) 1 || eqb (fileVersion file) 2)) 8 _ (omega arith) (b .1) in
     ltb-false GATEWAYS (fileN file) (refuse-none (ltb GATEWAYS (fileN file)) 1 _ (omega arith) (d .1) .0)
 
 -- the file's number, then 10

@@ -2,24 +2,27 @@
 use Prim.Native.Nat.{ℕ, zero, suc, _+_, _*_, _<_, _≤_}
 use mathlib.Core.Path.{_≡_, refl, sym, _∙_}
 use mathlib.Core.Logic.{_⊎_, inl, inr, ⊎-elim}
-use mathlib.Core.Bool.{Bool, true, false, _||_}
+use mathlib.Core.Bool.{Bool, true, false, not, _||_, false≢true}
 use mathlib.Core.List.{List}
 use native.Mathlib.Numerals.{add-one}
 use native.Mathlib.Omega.{arith}
 use lib.Dec.{eqb, leb}
 use lib.ListN.{length, take}
 use lib.Seq.{getD-take, length-take-le}
+use borrow.Author.Tests.{eqb-true, eqb-false, leb-true, leb-false}
 use Rattle.packing.specs.Plant.{GATEWAYS, LINKS, LOWEST, HIGHEST, at, linked}
 use Rattle.packing.specs.Orders.{repeatsOrOutside}
 use Rattle.packing.specs.Refusals.{refuse, firstOf}
 use Rattle.packing.specs.Turns.{Turn, done, named, FirstNamed, LinkThere, firstEnd, secondEnd, RepeatsOrOutside}
+use Rattle.packing.proofs.Tests.{by-bool}
 use Rattle.packing.proofs.Refusals.{first-alone}
-use Rattle.packing.proofs.Turns.{Says, turn-done, turn-named, says-less, says-most, says-same, says-either, says-both, says-not, says-as, says-linked, says-order}
-use Rattle.plant_file.specs.PlantFile.{number, fileN, fileT, fileM, fileLinks, fileOrder, beginsPLT, endsRefusal, fileRefusal, fileThenShort}
+use Rattle.packing.proofs.Turns.{Says, turn-done, turn-named, says-less, says-most, says-same, says-either, says-both, says-not, says-all, says-as, says-linked, says-order}
+use Rattle.plant_file.specs.PlantFile.{number, fileVersion, fileN, fileT, fileM, fileLinks, fileOrder, limitByte, fileLength, limitAllowed, limitsAllowed, beginsPLT, endsRefusal, fileRefusal, fileThenShort}
 use Rattle.plant_file.specs.Load.{loadRefusal}
-use Rattle.plant_file.specs.Turns.{eachLink, fileTurn, FileExactly, LoadExactly}
+use Rattle.plant_file.specs.Turns.{eachLink, LengthGiven, LimitRefused, fileTurn, FileExactly, LoadExactly}
 use Rattle.plant_file.proofs.LinksByIndex.{orderNumber, links-long, order-at, link-first, link-second}
 use Rattle.plant_file.proofs.LinkChecks.{onward, onward-at, onward-end}
+use Rattle.plant_file.proofs.Versions.{one-or-two, length-two, length-other, allowed-two, allowed-other, is-one, is-two}
 use Rattle.plant_file.proofs.Refusing.{bodyRefusal}
 
 -- a test, the rest of a call's tests, and what comes after them all
@@ -74,6 +77,17 @@ module _ (n m : ℕ) (l : List ℕ) (long : length l ≡ 2 * m) (first second : 
   links-turn i (suc count) later rest e f =
       rw (onward-at n l i (omega arith), add-one i, first-assoc) (link-turn i _ _ (omega arith) (links-turn (suc i) count later rest (omega arith) f))
 
+-- a limit byte of 1 or above 16
+says-limit-byte : (limit : ℕ) → Says (not (limitAllowed limit)) ((limit ≡ 1) ⊎ (HIGHEST < limit))
+unfolding limitAllowed
+says-limit-byte limit = says-as to from (says-not _ (says-both _ _ (says-not _ (says-same limit 1)) (says-most limit HIGHEST)))
+  where
+    to : ((limit ≡ 1 → ⊥) × (limit ≤ HIGHEST) → ⊥) → (limit ≡ 1) ⊎ (HIGHEST < limit)
+    to f = by-bool (eqb limit 1) (λ e. inl (eqb-true limit 1 e)) (λ e. by-bool (leb limit HIGHEST) (λ l. absurd (f (eqb-false limit 1 e, leb-true limit HIGHEST l))) (λ l. inr (leb-false limit HIGHEST l)))
+
+    from : (limit ≡ 1) ⊎ (HIGHEST < limit) → ((limit ≡ 1 → ⊥) × (limit ≤ HIGHEST) → ⊥)
+    from = ⊎-elim (λ e p. p .0 e) (λ h p. omega (arith, p .1))
+
 -- the file's number, and then what comes later
 module _ (file : List ℕ) where
   says-begins : Says (beginsPLT file) ((at file 0 ≡ 80) × (at file 1 ≡ 76) × (at file 2 ≡ 84))
@@ -87,24 +101,39 @@ module _ (file : List ℕ) where
       says-as (repeats-as (fileN file) (at (fileOrder file)) (orderNumber file) (order-at file))
       (repeats-as (fileN file) (orderNumber file) (at (fileOrder file)) (λ i l. sym (order-at file i l))) (says-order (fileN file) (fileOrder file))
 
+  -- the length that the header gives, where the version is 1 or 2
+  says-length : (fileVersion file ≡ 1) ⊎ (fileVersion file ≡ 2) → Says (eqb (length file) (fileLength file)) (LengthGiven file)
+  unfolding fileVersion
+  says-length =
+      ⊎-elim
+      (λ v. let given = length-other file (is-one file v) in says-as (λ e. inl (v, e ∙ given)) (⊎-elim (λ p. p .1 ∙ sym given) (λ p. absurd (omega (arith, v, p .0)))) (says-same (length file) (fileLength file)))
+      (λ v. let given = length-two file (is-two file v) in says-as (λ e. inr (v, e ∙ given)) (⊎-elim (λ p. absurd (omega (arith, v, p .0))) (λ p. p .1 ∙ sym given)) (says-same (length file) (fileLength file)))
+
+  says-limits : Says (not (limitsAllowed file)) (LimitRefused file)
+  unfolding limitByte fileVersion
+  says-limits =
+      by-bool (eqb (fileVersion file) 2)
+      (λ e. rw (allowed-two file e) (says-as (λ r. (eqb-true (fileVersion file) 2 e, r)) (λ p. p .1) (says-all (fileN file) (λ v. limitAllowed (limitByte file v)) (λ v. says-limit-byte (limitByte file v)))))
+      (λ e. rw (allowed-other file e) (record { holds = λ t. absurd (false≢true t); fails = λ _ p. eqb-false (fileVersion file) 2 e (p .0) }))
+
   body-then : (later : Turn) (rest : ℕ) → FirstNamed later rest
-      → FirstNamed (eachLink (fileN file) (λ i. number file (10 + 4 * i)) (λ i. number file (12 + 4 * i)) 0 (fileM file) (named 6 (RepeatsOrOutside (fileN file) (orderNumber file)) later))
+      → FirstNamed (eachLink (fileN file) (λ i. number file (10 + 4 * i)) (λ i. number file (12 + 4 * i)) 0 (fileM file) (named 6 (RepeatsOrOutside (fileN file) (orderNumber file)) (named 33 (LimitRefused file) later)))
       (firstOf (bodyRefusal file) rest)
   body-then later rest f =
       rw first-assoc
       (links-turn (fileN file) (fileM file) (fileLinks file) (links-long file) _ _ (λ i l. (link-first file i l, link-second file i l)) 0 (fileM file) _ _ (omega arith)
-      (then-named _ _ 0 rest later says-disorder (λ _. f)))
+      (then-named _ _ _ _ _ says-disorder (λ _. then-named _ _ 0 rest later says-limits (λ _. f))))
 
   pub file-then : (later : Turn) (rest : ℕ) → FirstNamed later rest → FirstNamed (fileTurn file later) (firstOf (fileRefusal file) rest)
-  unfolding fileTurn fileRefusal
+  unfolding fileTurn fileRefusal fileVersion
   file-then later rest f =
       then-named _ _ _ _ _ (says-less (length file) 10)
       (λ _. then-named _ _ _ _ _ (says-not _ says-begins)
-      (λ _. then-named _ _ _ _ _ (says-not _ (says-same (number file 3) 1))
-      (λ _. then-named _ _ _ _ _ (says-less GATEWAYS (fileN file))
+      (λ _. then-named _ _ _ _ _ (says-not _ (says-either _ _ (says-same (fileVersion file) 1) (says-same (fileVersion file) 2)))
+      (λ known. then-named _ _ _ _ _ (says-less GATEWAYS (fileN file))
       (λ _. then-named _ _ _ _ _ (says-either _ _ (says-less (fileT file) LOWEST) (says-less HIGHEST (fileT file)))
       (λ _. then-named _ _ _ _ _ (says-less LINKS (fileM file))
-      (λ _. then-named _ _ _ _ _ (says-not _ (says-same (length file) (10 + 4 * fileM file + 2 * fileN file)))
+      (λ _. then-named _ _ _ _ _ (says-not _ (says-length (one-or-two file known)))
       (λ _. body-then later rest f)))))))
 
 -- the file's number alone
@@ -119,4 +148,7 @@ file-then-short file short Short s = file-then file (named 10 Short done) (refus
 
 pub load-exactly : LoadExactly
 unfolding LoadExactly loadRefusal
-load-exactly file linksLen orderLen = file-then-short file _ _ (says-either _ _ (says-less linksLen (2 * fileM file)) (says-less orderLen (fileN file)))
+load-exactly file linksLen orderLen limitsLen =
+    file-then-short file _ _
+    (says-as (⊎-elim (⊎-elim inl (λ p. inr (inl p))) (λ p. inr (inr p))) (⊎-elim (λ p. inl (inl p)) (⊎-elim (λ p. inl (inr p)) inr))
+    (says-either _ _ (says-either _ _ (says-less linksLen (2 * fileM file)) (says-less orderLen (fileN file))) (says-less limitsLen (fileN file))))

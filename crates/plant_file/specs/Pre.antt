@@ -1,5 +1,5 @@
 -- What the contracts of private functions cite. A reader of the public ones needs none of it.
-use Prim.Native.Nat.{ℕ, _+_, _*_}
+use Prim.Native.Nat.{ℕ, _+_}
 use mathlib.Core.Bool.{not, _||_}
 use mathlib.Core.List.{List, [], _∷_}
 use lib.Dec.{eqb, ltb}
@@ -8,7 +8,7 @@ use Rattle.packing.specs.Plant.{GATEWAYS, LINKS, LOWEST, HIGHEST}
 use Rattle.packing.specs.Refusals.{refuse}
 use Rattle.plant_file.specs.declared.reader.Step.{Step}
 use Rattle.plant_file.specs.declared.reader.Step.the-variants.{Link, End}
-use Rattle.plant_file.specs.PlantFile.{number, fileN, fileT, fileM, beginsPLT, endsRefusal}
+use Rattle.plant_file.specs.PlantFile.{fileVersion, fileN, fileT, fileM, fileLength, beginsPLT, endsRefusal}
 
 -- a link as a list of links
 abbrev pub endsOf : Step → List ℕ
@@ -31,10 +31,10 @@ sizesRefusal file =
     refuse (ltb GATEWAYS (fileN file)) 1
     (refuse (ltb (fileT file) LOWEST || ltb HIGHEST (fileT file)) 2
     (refuse (ltb LINKS (fileM file)) 12
-    (refuse (not (eqb (length file) (10 + 4 * fileM file + 2 * fileN file))) 9 0)))
+    (refuse (not (eqb (length file) (fileLength file))) 9 0)))
 
 unfoldable pub headerRefusal : List ℕ → ℕ
 headerRefusal file =
     refuse (ltb (length file) 10) 9
     (refuse (not (beginsPLT file)) 7
-    (refuse (not (eqb (number file 3) 1)) 8 (sizesRefusal file)))
+    (refuse (not (eqb (fileVersion file) 1 || eqb (fileVersion file) 2)) 8 (sizesRefusal file)))

@@ -1,16 +1,17 @@
 // The refusals of a file, in 01's turn; 0 where no condition holds.
-use crate::bytes::number_at;
 use crate::reader::Step;
 use lists::byte;
 use lists::tests::either;
 use sound::links::is_linked;
 ghost use mathlib.Core.Path.{_≡_};
+ghost use mathlib.Core.Bool.{_||_};
 ghost use mathlib.Core.List.{[]};
 ghost use Prim.Native.Nat.{_*_, _≤_};
+ghost use lib.Dec.{eqb};
 ghost use lib.ListN.{take, length};
 ghost use Rattle.packing.specs.Plant.{GATEWAYS, linked};
 ghost use Rattle.sound.specs.Sound.{onceEach};
-ghost use Rattle.plant_file.specs.PlantFile.{fileN, fileM, fileLinks, fileOrder, beginsPLT, linksRefusal};
+ghost use Rattle.plant_file.specs.PlantFile.{fileN, fileM, fileLinks, fileOrder, fileLength, beginsPLT, linksRefusal};
 ghost use Rattle.plant_file.specs.Load.{loadRefusal};
 ghost use Rattle.plant_file.specs.Reader.{linkAt};
 ghost use Rattle.plant_file.specs.Pre.{endsOf, stepRefusal, sizesRefusal, headerRefusal};
@@ -27,12 +28,29 @@ fn begins_plt(file: &[u8]) -> bool
     byte(file, 2) == 84
 }
 
+fn is_known(version: u16) -> bool
+    ensures { λ r. ⌜ r ≡ (eqb version 1 || eqb version 2) ⌝ }
+{
+    either(version == 1, version == 2)
+}
+
+// The length that the header gives.
+fn length_given(file: &[u8]) -> usize
+    ensures { λ r. ⌜ r ≡ fileLength (now (file .entry)) ⌝ }
+{
+    let links = 10 + 4 * (crate::link_count(file) as usize);
+    let n = crate::gateways(file) as usize;
+    if crate::version(file) == 2 {
+        return links + 4 * n;
+    }
+    links + 2 * n
+}
+
 // The sizes that the header gives: 1, 2, 12, 9 for the length.
 fn of_sizes(file: &[u8]) -> u32
     ensures { λ r. ⌜ r ≡ sizesRefusal (now (file .entry)) ⌝ }
 {
-    let n = crate::gateways(file);
-    if lists::GATEWAYS < n {
+    if lists::GATEWAYS < crate::gateways(file) {
         return 1;
     }
     let t = crate::limit(file);
@@ -42,11 +60,10 @@ fn of_sizes(file: &[u8]) -> u32
     if lists::HIGHEST < t {
         return 2;
     }
-    let m = crate::link_count(file);
-    if lists::LINKS < m {
+    if lists::LINKS < crate::link_count(file) {
         return 12;
     }
-    if file.len() != 10 + 4 * (m as usize) + 2 * (n as usize) {
+    if file.len() != length_given(file) {
         return 9;
     }
     0
@@ -62,7 +79,7 @@ pub(crate) fn of_header(file: &[u8]) -> u32
     if !begins_plt(file) {
         return 7;
     }
-    if number_at(file, 3) != 1 {
+    if !is_known(crate::version(file)) {
         return 8;
     }
     of_sizes(file)
@@ -147,10 +164,11 @@ pub(crate) fn is_order(file: &[u8]) -> bool
 }
 
 // The file's number, then 10 for a lent list too short.
-pub(crate) fn of_load(file: &[u8], links: &[u16], order: &[u16]) -> u32
-    ensures { λ r. ⌜ r ≡ loadRefusal (now (file .entry)) (length (now (links .entry))) (length (now (order .entry))) ⌝ }
+pub(crate) fn of_load(file: &[u8], links: &[u16], order: &[u16], limits: &[u8]) -> u32
+    ensures { λ r. ⌜ r ≡ loadRefusal (now (file .entry)) (length (now (links .entry))) (length (now (order .entry))) (length (now (limits .entry))) ⌝ }
 {
+    let n = crate::gateways(file) as usize;
     let few_ends = links.len() < 2 * (crate::link_count(file) as usize);
-    let few_places = order.len() < crate::gateways(file) as usize;
-    crate::refusal_then(file, either(few_ends, few_places))
+    let few_places = either(few_ends, order.len() < n);
+    crate::refusal_then(file, either(few_places, limits.len() < n))
 }

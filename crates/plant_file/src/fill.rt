@@ -4,7 +4,7 @@ ghost use mathlib.Core.Path.{_≡_};
 ghost use Prim.Native.Nat.{_+_, _*_, _<_, _≤_};
 ghost use lib.ListN.{length};
 ghost use Rattle.packing.specs.Lists.{written};
-ghost use Rattle.plant_file.specs.PlantFile.{fileN, fileM, fileLinks, fileOrder};
+ghost use Rattle.plant_file.specs.PlantFile.{fileN, fileM, fileLinks, fileOrder, fileLimits};
 ghost use Rattle.plant_file.specs.Reader.{linkAt};
 ghost use Rattle.plant_file.specs.Pre.{withEnds};
 
@@ -45,5 +45,18 @@ pub(crate) fn with_order(file: &[u8], order: &mut [u16])
     while i < n {
         order[i] = crate::bytes::number_at(file, start + 2 * i);
         i += 1;
+    }
+}
+
+// The gateways' limits.
+pub(crate) fn with_limits(file: &[u8], limits: &mut [u8])
+    requires { ⌜ fileN (now file) ≤ length (now limits) ⌝ }
+    ensures { λ _. ⌜ now (limits .exit) ≡ written (fileN (now (file .entry))) (fileLimits (now (file .entry))) (now (limits .entry)) ⌝ }
+{
+    let n = crate::gateways(file);
+    let mut v: u16 = 0;
+    while v < n {
+        limits[v as usize] = crate::limits::limit_of(file, v);
+        v += 1;
     }
 }

@@ -1,16 +1,23 @@
-// The plant file (01, "The plant file and the listing").
+// The plant file (01, "The plant file and the listing"; version 2: 02, change 8).
 pub mod bytes;
 mod checks;
 mod fill;
+pub mod limits;
 pub mod reader;
 
 ghost use mathlib.Core.Path.{_≡_};
 ghost use lib.Dec.{leb};
 ghost use lib.ListN.{length};
-ghost use Rattle.plant_file.specs.PlantFile.{fileN, fileT, fileM, fileRefusal, fileThenShort};
-ghost use Rattle.plant_file.specs.Load.{loadRefusal, loadLinks, loadOrder, orderWritten};
+ghost use Rattle.plant_file.specs.PlantFile.{fileVersion, fileN, fileT, fileM, fileRefusal, fileThenShort};
+ghost use Rattle.plant_file.specs.Load.{loadRefusal, loadLinks, loadOrder, loadLimits, orderWritten};
 
-// n, T and m as the header's bytes give them. A byte past the end counts as 0.
+// The version, n, T and m as the header's bytes give them. A byte past the end counts as 0.
+pub fn version(file: &[u8]) -> u16
+    ensures { λ r. ⌜ r ≡ fileVersion (now (file .entry)) ⌝ }
+{
+    bytes::number_at(file, 3)
+}
+
 pub fn gateways(file: &[u8]) -> u16
     ensures { λ r. ⌜ r ≡ fileN (now (file .entry)) ⌝ }
 {
@@ -44,6 +51,9 @@ pub fn refusal(file: &[u8]) -> u32
     if !checks::is_order(file) {
         return 6;
     }
+    if !limits::are_allowed(file) {
+        return 33;
+    }
     0
 }
 
@@ -61,18 +71,20 @@ pub fn refusal_then(file: &[u8], short: bool) -> u32
     0
 }
 
-// The file's links and order into lent lists. Its own refusal first, then 10 for a list too short; nothing is written on refusal.
-pub fn load(file: &[u8], links: &mut [u16], order: &mut [u16]) -> u32
-    ensures answer { λ r. ⌜ r ≡ loadRefusal (now (file .entry)) (length (now (links .entry))) (length (now (order .entry))) ⌝ }
-    ensures links { λ _. ⌜ now (links .exit) ≡ loadLinks (now (file .entry)) (now (links .entry)) (now (order .entry)) ⌝ }
-    ensures order { λ _. ⌜ now (order .exit) ≡ loadOrder (now (file .entry)) (now (links .entry)) (now (order .entry)) ⌝ }
+// The file's links, order and limits into lent lists. Its own refusal first, then 10 for a list too short; nothing is written on refusal.
+pub fn load(file: &[u8], links: &mut [u16], order: &mut [u16], limits: &mut [u8]) -> u32
+    ensures answer { λ r. ⌜ r ≡ loadRefusal (now (file .entry)) (length (now (links .entry))) (length (now (order .entry))) (length (now (limits .entry))) ⌝ }
+    ensures links { λ _. ⌜ now (links .exit) ≡ loadLinks (now (file .entry)) (now (links .entry)) (now (order .entry)) (now (limits .entry)) ⌝ }
+    ensures order { λ _. ⌜ now (order .exit) ≡ loadOrder (now (file .entry)) (now (links .entry)) (now (order .entry)) (now (limits .entry)) ⌝ }
+    ensures limits { λ _. ⌜ now (limits .exit) ≡ loadLimits (now (file .entry)) (now (links .entry)) (now (order .entry)) (now (limits .entry)) ⌝ }
 {
-    let refused = checks::of_load(file, links, order);
+    let refused = checks::of_load(file, links, order, limits);
     if refused != 0 {
         return refused;
     }
     fill::with_links(file, links);
     fill::with_order(file, order);
+    fill::with_limits(file, limits);
     0
 }
 

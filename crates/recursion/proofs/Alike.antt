@@ -6,13 +6,12 @@ use mathlib.Core.List.{List, [], _∷_, _++_}
 use lib.Dec.{ltb}
 use lib.ListN.{length, length-set, replicate, length-replicate}
 use Rattle.packing.specs.Lists.{memberOf}
-use Rattle.packing.specs.Plant.{NONE, GATEWAYS, at, common, neighbours}
+use Rattle.packing.specs.Plant.{NONE, at, neighbours}
 use Rattle.packing.specs.Holders.{holds}
 use Rattle.packing.proofs.Tests.{by-bool}
 use Rattle.packing.proofs.Links.{neighbours-again}
 use Rattle.search.specs.Search.{placeable}
 use Rattle.search.specs.Pre.{Placeable}
-use Rattle.search.proofs.Limits.{same-limits}
 use Rattle.search.proofs.Tested.{placeable-holds}
 use Rattle.recursion.specs.Recursion.{Try, freed, tried, mark, orElse, tryEach, takes, unlessTried, findHolder, freePlace, search, settled, recursiveHolders, recursiveAfter}
 use Rattle.recursion.specs.Enough.{EachGone}
@@ -81,11 +80,14 @@ module _
     unfolding recursiveHolders search
     holders-alike v = ap (settled hs) (alike (2 * n + 2) .0 v (replicate n NONE) (length-replicate n NONE))
 
--- a call with a list of limits that are all t places by the common limit
-pub recursive-common : {n : ℕ} (t : ℕ) (ls : List ℕ) {hs : List ℕ} {v : ℕ} → Placeable n hs v → recursiveAfter n (at (replicate GATEWAYS t)) ls hs v ≡ recursiveHolders n (common t) ls hs v
+-- limits that are equal for every gateway
+pub recursive-limits : {n : ℕ} {limit limit' : ℕ → ℕ} → ((u : ℕ) → u < n → limit u ≡ limit' u) → (ls hs : List ℕ) (v : ℕ) → recursiveHolders n limit ls hs v ≡ recursiveHolders n limit' ls hs v
+recursive-limits {n} {limit} {limit'} same ls hs v = holders-alike n limit limit' ls ls hs same (λ attempt grows x marks. refl) v
+
+-- what a call leaves where the next may be placed
+pub recursive-placed : {n : ℕ} (limit : ℕ → ℕ) (ls : List ℕ) {hs : List ℕ} {v : ℕ} → Placeable n hs v → recursiveAfter n limit ls hs v ≡ recursiveHolders n limit ls hs v
 unfolding recursiveAfter
-recursive-common {n} t ls {hs} {v} p =
-    rw (placeable-holds p) (holders-alike n (at (replicate GATEWAYS t)) (common t) ls ls hs (same-limits t (p .few)) (λ attempt grows x marks. refl) v)
+recursive-placed limit ls p = rw (placeable-holds p)
 
 -- "A link listed twice .. counts where it first stands": a neighbour that was gone through is tried, and trying it again changes nothing.
 each-append : (f : ℕ → List ℕ → Try) (xs ys marks : List ℕ) → tryEach f (xs ++ ys) marks ≡ orElse (tryEach f xs marks) (tryEach f ys)

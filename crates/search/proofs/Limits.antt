@@ -1,15 +1,13 @@
 -- Limits that are equal for every gateway give the same search: a number that is no gateway counts as seen, so its limit is never looked at.
-use Prim.Native.Nat.{ℕ, _<_, _≤_}
+use Prim.Native.Nat.{ℕ, _<_}
 use mathlib.Core.Path.{_≡_, refl, sym, ap, _∙_}
 use mathlib.Core.List.{List, [], _∷_}
-use native.Mathlib.Omega.{arith}
-use lib.ListN.{length, replicate, getD-replicate}
-use Rattle.packing.specs.Plant.{GATEWAYS, at, common, neighbours}
+use lib.ListN.{length}
+use Rattle.packing.specs.Plant.{neighbours}
 use Rattle.packing.proofs.Tests.{by-bool}
-use Rattle.search.specs.Search.{more, seen, look, visit, walk, settled, placedHolders, holdersAfter}
+use Rattle.search.specs.Search.{more, seen, look, visit, walk, settled, placedHolders}
 use Rattle.search.specs.Pre.{Going, Startable, Placeable}
 use Rattle.search.proofs.States.{unseen-below, look-going, by-state, visit-found, walk-alike, placeable-startable}
-use Rattle.search.proofs.Tested.{holders-placed}
 
 module _ {n : ℕ} {limit limit' : ℕ → ℕ} (same : (u : ℕ) → u < n → limit u ≡ limit' u) (ls hs : List ℕ) where
   look-limits : (x u : ℕ) (queue from : List ℕ) → length from ≡ n → look n limit hs x u queue from ≡ look n limit' hs x u queue from
@@ -31,12 +29,3 @@ module _ {n : ℕ} {limit limit' : ℕ → ℕ} (same : (u : ℕ) → u < n → 
   pub placed-limits : {v : ℕ} → Placeable n hs v → placedHolders n limit ls hs v ≡ placedHolders n limit' ls hs v
   unfolding placedHolders
   placed-limits {v} p = ap (settled n v hs) (walk-limits (placeable-startable p))
-
--- a list of limits that are all t is the common limit t of every gateway
-pub same-limits : {n : ℕ} (t : ℕ) → n ≤ GATEWAYS → (u : ℕ) → u < n → at (replicate GATEWAYS t) u ≡ common t u
-unfolding common
-same-limits t few u l = getD-replicate GATEWAYS u t 0 (omega arith)
-
--- .. so a call with such a list places by the common limit
-pub placed-common : {n : ℕ} (t : ℕ) (ls : List ℕ) {hs : List ℕ} {v : ℕ} → Placeable n hs v → holdersAfter n (at (replicate GATEWAYS t)) ls hs v ≡ placedHolders n (common t) ls hs v
-placed-common t ls {hs} p = holders-placed (at (replicate GATEWAYS t)) ls p ∙ placed-limits (same-limits t (p .few)) ls hs p

@@ -168,10 +168,10 @@ row-holds n hs u l h =
 
 pub sound-table : TableHolds
 unfolding TableHolds RowHolds holds
-sound-table n t m k ls os hs e = (table-length n hs, λ u l. row-holds n hs u l (by-bool (ltb u n) (λ q. few u (ltb-true u n q)) (λ q. none u l (ltb-false u n q))))
+sound-table n t m k ls os hs ts e = (table-length n hs, λ u l. row-holds n hs u l (by-bool (ltb u n) (λ q. few u (ltb-true u n q)) (λ q. none u l (ltb-false u n q))))
   where
-    s : Sound n t m k ls os hs
-    s = sound-means n t m k ls os hs e
+    s : Sound n t m k ls os hs ts
+    s = sound-means n t m k ls os hs ts e
 
     few : (u : ℕ) → u < n → count n (λ v. eqb (at hs v) u) ≤ 16
     few u l = sound-searchable s .within u l

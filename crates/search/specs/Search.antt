@@ -22,7 +22,7 @@ pub data Search : Type 0 where
 abbrev pub seen : List ℕ → ℕ → Bool
 seen from u = not (eqb (at from u) NONE)
 
--- "A neighbour u not yet seen is marked as seen from x. If u holds fewer than T, the search ends. If u is full, what it holds joins the queue, ascending."
+-- "A neighbour u not yet seen is marked as seen from x. If u holds fewer than T, the search ends. If u is full, what it holds joins the queue, ascending.", with u's own limit for T
 unfoldable pub look : ℕ → (ℕ → ℕ) → List ℕ → ℕ → ℕ → List ℕ → List ℕ → Search
 look n limit hs x u queue from =
     cond (seen from u) (more queue from)

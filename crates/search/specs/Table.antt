@@ -42,7 +42,7 @@ RowHolds = (n : ℕ) (hs : List ℕ) (u : ℕ) → u < 1024 → holds n (at hs) 
 -- .. and in a sound record all 1,024 rows are
 unfoldable pub TableHolds : Type 0
 TableHolds =
-    (n t m k : ℕ) (ls os hs : List ℕ) → isSound n t m k ls os hs ≡ true
+    (n t m k : ℕ) (ls os hs ts : List ℕ) → isSound n t m k ls os hs ts ≡ true
     → (length (heldTable n hs) ≡ 1024) × ((u : ℕ) → u < 1024 → Row n (λ v. at hs v ≡ u) (rowAt (heldTable n hs) u))
 
 -- "the search learns only from it what a gateway holds": holders that have the same table, and of which nobody holds more than sixteen, are searched alike

@@ -8,7 +8,7 @@ use native.Mathlib.Omega.{arith}
 use lib.Dec.{eqb}
 use borrow.Author.Tests.{eqb-true, eq-eqb, ltb-true, lt-ltb}
 use Rattle.packing.specs.Count.{count}
-use Rattle.packing.specs.Plant.{NONE, at, common, firstLinks, linked}
+use Rattle.packing.specs.Plant.{NONE, at, firstLinks, linked}
 use Rattle.packing.specs.Holders.{Feasible}
 use Rattle.packing.specs.Turns.{LinkThere, firstEnd, secondEnd}
 use Rattle.packing.proofs.Prefixes.{IsOrder, order-place}
@@ -19,9 +19,8 @@ use Rattle.sound.specs.Sound.{onceEach, isSound}
 use Rattle.sound.specs.Facts.{Facts, SoundMeans}
 use Rattle.sound.proofs.Meaning.{Sound, once-mean, sound-means, means-sound}
 
-module _ (n t m k : ℕ) (ls os hs : List ℕ) where
-  facts-of : Sound n t m k ls os hs → Facts n t m k ls os hs
-  unfolding common
+module _ (n t m k : ℕ) (ls os hs ts : List ℕ) where
+  facts-of : Sound n t m k ls os hs ts → Facts n t m k ls os hs ts
   facts-of s =
       record {
         gateways = s .few;
@@ -32,6 +31,8 @@ module _ (n t m k : ℕ) (ls os hs : List ℕ) where
         linksLong = s .links-long;
         orderLong = s .order-long;
         holdersLong = s .holders-long;
+        limitsLong = s .limits-long;
+        limits = s .limits;
         ends = λ i l. s .ends (firstEnd ls i) (secondEnd ls i) (joined i l);
         order = λ v l. let p = order-place (s .order) v l in (p .0, p .1, p .2, λ j q e. s .order .once j (p .0) q (p .1) (e ∙ sym (p .2)));
         along = λ v l. ⊎-elim (λ q. inl q) (λ q. inr (says v (at hs v) .holds (s .feasible .along v l (lt-ltb (at hs v) n q)))) (s .range v l);
@@ -46,7 +47,7 @@ module _ (n t m k : ℕ) (ls os hs : List ℕ) where
       joined i l =
           by-bool (linked (firstLinks m ls) (firstEnd ls i) (secondEnd ls i)) (λ e. e) (λ e. absurd (says (firstEnd ls i) (secondEnd ls i) .fails e (i, l, inl (refl, refl))))
 
-  module _ (f : Facts n t m k ls os hs) where
+  module _ (f : Facts n t m k ls os hs ts) where
     ends-apart : (x y : ℕ) → LinkThere m (firstEnd ls) (secondEnd ls) x y → (x < n) × (y < n) × (x ≡ y → ⊥)
     ends-apart x y p =
         let (i, l, s) = p in
@@ -59,8 +60,7 @@ module _ (n t m k : ℕ) (ls os hs : List ℕ) where
     inside : (v : ℕ) → v < n → (at hs v ≡ NONE) ⊎ (at hs v < n)
     inside v l = ⊎-elim (λ q. inl q) (λ q. inr (ends-apart v (at hs v) q .1)) (f .along v l)
 
-    feasible : Feasible n (common t) (linked (firstLinks m ls)) (at hs)
-    unfolding common
+    feasible : Feasible n (at ts) (linked (firstLinks m ls)) (at hs)
     feasible =
         record {
           along = λ v l e. by-bool (linked (firstLinks m ls) v (at hs v)) (λ q. q)
@@ -81,7 +81,7 @@ module _ (n t m k : ℕ) (ls os hs : List ℕ) where
               count-unique n (λ i. eqb (at os i) v) (λ j j' a b q r. only j a (eqb-true _ v q) ∙ sym (only j' b (eqb-true _ v r))),
             )
 
-    of-facts : Sound n t m k ls os hs
+    of-facts : Sound n t m k ls os hs ts
     of-facts =
         record {
           few = f .gateways;
@@ -92,6 +92,8 @@ module _ (n t m k : ℕ) (ls os hs : List ℕ) where
           links-long = f .linksLong;
           order-long = f .orderLong;
           holders-long = f .holdersLong;
+          limits-long = f .limitsLong;
+          limits = f .limits;
           ends = λ x y e. ends-apart x y (says x y .holds e);
           order = order;
           range = inside;
@@ -101,9 +103,9 @@ module _ (n t m k : ℕ) (ls os hs : List ℕ) where
 
 pub sound-means-facts : SoundMeans
 unfolding SoundMeans
-sound-means-facts n t m k ls os hs = (λ e. facts-of n t m k ls os hs (sound-means n t m k ls os hs e), λ f. means-sound n t m k ls os hs (of-facts n t m k ls os hs f))
+sound-means-facts n t m k ls os hs ts = (λ e. facts-of n t m k ls os hs ts (sound-means n t m k ls os hs ts e), λ f. means-sound n t m k ls os hs ts (of-facts n t m k ls os hs ts f))
 
 -- .. as what the test says
-pub sound-facts : (n t m k : ℕ) (ls os hs : List ℕ) → Says (isSound n t m k ls os hs) (Facts n t m k ls os hs)
+pub sound-facts : (n t m k : ℕ) (ls os hs ts : List ℕ) → Says (isSound n t m k ls os hs ts) (Facts n t m k ls os hs ts)
 unfolding SoundMeans
-sound-facts n t m k ls os hs = record { holds = sound-means-facts n t m k ls os hs .0; fails = λ e f. clash _ (sound-means-facts n t m k ls os hs .1 f) e }
+sound-facts n t m k ls os hs ts = record { holds = sound-means-facts n t m k ls os hs ts .0; fails = λ e f. clash _ (sound-means-facts n t m k ls os hs ts .1 f) e }

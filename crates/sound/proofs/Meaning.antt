@@ -9,14 +9,14 @@ use lib.Dec.{eqb, ltb, leb}
 use lib.ListN.{length}
 use borrow.Author.Tests.{eqb-true, eqb-false, eq-eqb, ne-eqb, ltb-true, ltb-false, lt-ltb, leb-true, le-leb, not-true}
 use Rattle.packing.specs.Count.{count, all}
-use Rattle.packing.specs.Plant.{GATEWAYS, LINKS, LOWEST, HIGHEST, NONE, at, common, firstLinks, linked, joins}
+use Rattle.packing.specs.Plant.{GATEWAYS, LINKS, LOWEST, HIGHEST, NONE, at, firstLinks, linked, joins}
 use Rattle.packing.specs.Holders.{held, holds, Feasible}
 use Rattle.packing.proofs.Tests.{tests, by-bool, and-l, and-r, and-i, or-l, or-r, or-cases, iff-test, all-elim, all-intro}
 use Rattle.packing.proofs.Sums.{count-ext, count-one, count-unique, count-some, count-same, count-all, fibre, sumOver-ext, sumOver-const}
 use Rattle.packing.proofs.Prefixes.{IsOrder, order-place}
-use Rattle.sound.specs.Sound.{numbersSound, listsLong, endsSound, onceEach, isOrder, holdersLinked, holdersWithin, onlyPlacedHeld, isSound}
+use Rattle.sound.specs.Sound.{numbersSound, listsLong, isLimit, limitsSound, endsSound, onceEach, isOrder, holdersLinked, holdersWithin, onlyPlacedHeld, isSound}
 
-pub record Sound (n t m k : ℕ) (ls os hs : List ℕ) : Type 0 where
+pub record Sound (n t m k : ℕ) (ls os hs ts : List ℕ) : Type 0 where
   pub few : n ≤ GATEWAYS
   pub low : LOWEST ≤ t
   pub high : t ≤ HIGHEST
@@ -25,19 +25,38 @@ pub record Sound (n t m k : ℕ) (ls os hs : List ℕ) : Type 0 where
   pub links-long : 2 * m ≤ length ls
   pub order-long : n ≤ length os
   pub holders-long : n ≤ length hs
+  pub limits-long : n ≤ length ts
+  pub limits : (u : ℕ) → u < n → (LOWEST ≤ at ts u) × (at ts u ≤ HIGHEST)
   pub ends : (x y : ℕ) → linked (firstLinks m ls) x y ≡ true → (x < n) × (y < n) × (x ≡ y → ⊥)
   pub order : IsOrder n (at os)
   pub range : (v : ℕ) → v < n → (at hs v ≡ NONE) ⊎ (at hs v < n)
-  pub feasible : Feasible n (common t) (linked (firstLinks m ls)) (at hs)
+  pub feasible : Feasible n (at ts) (linked (firstLinks m ls)) (at hs)
   pub free : (i : ℕ) → k ≤ i → i < n → at hs (at os i) ≡ NONE
 
 pub numbers-mean : (n t m k : ℕ) → numbersSound n t m k ≡ true → (n ≤ GATEWAYS) × (LOWEST ≤ t) × (t ≤ HIGHEST) × (m ≤ LINKS) × (k ≤ n)
 unfolding numbersSound
 numbers-mean n t m k e = search (tests, leb-true)
 
-pub lists-mean : (n m : ℕ) (ls os hs : List ℕ) → listsLong n m ls os hs ≡ true → (2 * m ≤ length ls) × (n ≤ length os) × (n ≤ length hs)
+pub lists-mean : (n m : ℕ) (ls os hs ts : List ℕ) → listsLong n m ls os hs ts ≡ true → (2 * m ≤ length ls) × (n ≤ length os) × (n ≤ length hs) × (n ≤ length ts)
 unfolding listsLong
-lists-mean n m ls os hs e = search (tests, leb-true)
+lists-mean n m ls os hs ts e = search (tests, leb-true)
+
+-- one limit, and those of all gateways
+pub limit-means : (limit : ℕ) → isLimit limit ≡ true → (LOWEST ≤ limit) × (limit ≤ HIGHEST)
+unfolding isLimit
+limit-means limit e = search (tests, leb-true)
+
+pub means-limit : (limit : ℕ) → LOWEST ≤ limit → limit ≤ HIGHEST → isLimit limit ≡ true
+unfolding isLimit
+means-limit limit low high = rw (le-leb LOWEST limit low) (le-leb limit HIGHEST high)
+
+limits-mean : (n : ℕ) (ts : List ℕ) → limitsSound n ts ≡ true → (u : ℕ) → u < n → (LOWEST ≤ at ts u) × (at ts u ≤ HIGHEST)
+unfolding limitsSound
+limits-mean n ts e u l = limit-means (at ts u) (all-elim n (λ w. isLimit (at ts w)) e u l)
+
+mean-limits : (n : ℕ) (ts : List ℕ) → ((u : ℕ) → u < n → (LOWEST ≤ at ts u) × (at ts u ≤ HIGHEST)) → limitsSound n ts ≡ true
+unfolding limitsSound
+mean-limits n ts h = all-intro n (λ w. isLimit (at ts w)) (λ u l. means-limit (at ts u) (h u l .0) (h u l .1))
 
 -- what a link whose ends differ and are below n joins differs and is below n
 pub joined-ends : (n a b : ℕ) → a < n → b < n → (a ≡ b → ⊥) → (x y : ℕ) → joins a b x y ≡ true → (x < n) × (y < n) × (x ≡ y → ⊥)
@@ -117,28 +136,29 @@ mean-once n os o = all-intro n (λ v. eqb (count n (λ i. eqb (at os i) v)) 1) (
           count-unique n (λ i. eqb (at os i) v) (λ i j a b q r. o .once i j a b (eqb-true _ v q ∙ sym (eqb-true _ v r))),
         )
 
-module _ (n t m k : ℕ) (ls os hs : List ℕ) where
+module _ (n t m k : ℕ) (ls os hs ts : List ℕ) where
   holders-along : holdersLinked n (firstLinks m ls) hs ≡ true → (v : ℕ) → v < n → (at hs v ≡ NONE) ⊎ (linked (firstLinks m ls) v (at hs v) ≡ true)
   unfolding holdersLinked
   holders-along e v l =
       ⊎-elim (λ q. inl (eqb-true (at hs v) NONE q)) (λ q. inr q)
       (or-cases (eqb (at hs v) NONE) (linked (firstLinks m ls) v (at hs v)) (all-elim n (λ w. eqb (at hs w) NONE || linked (firstLinks m ls) w (at hs w)) e v l))
 
-  -- the seven clauses, one by one
+  -- the eight clauses, one by one
   record Clauses : Type 0 where
     numbers : numbersSound n t m k ≡ true
-    lists : listsLong n m ls os hs ≡ true
+    lists : listsLong n m ls os hs ts ≡ true
+    limits : limitsSound n ts ≡ true
     link-ends : endsSound n (firstLinks m ls) ≡ true
     once : onceEach n os ≡ true
     tied : holdersLinked n (firstLinks m ls) hs ≡ true
-    within : holdersWithin n (common t) hs ≡ true
+    within : holdersWithin n (at ts) hs ≡ true
     unplaced : onlyPlacedHeld n k os hs ≡ true
 
-  clauses : isSound n t m k ls os hs ≡ true → Clauses
+  clauses : isSound n t m k ls os hs ts ≡ true → Clauses
   unfolding isSound
-  clauses e = search tests depth 8
+  clauses e = search tests depth 9
 
-  pub sound-means : isSound n t m k ls os hs ≡ true → Sound n t m k ls os hs
+  pub sound-means : isSound n t m k ls os hs ts ≡ true → Sound n t m k ls os hs ts
   unfolding holdersWithin onlyPlacedHeld
   sound-means e =
       record {
@@ -150,10 +170,12 @@ module _ (n t m k : ℕ) (ls os hs : List ℕ) where
         links-long = lens .0;
         order-long = lens .1;
         holders-long = lens .2;
+        limits-long = lens .3;
+        limits = limits-mean n ts (c .limits);
         ends = ends;
         order = once-mean n os (c .once);
         range = range;
-        feasible = record { along = along; within = λ u l. leb-true _ _ (all-elim n (λ w. leb (holds n (at hs) w) (common t w)) (c .within) u l) };
+        feasible = record { along = along; within = λ u l. leb-true _ _ (all-elim n (λ w. leb (holds n (at hs) w) (at ts w)) (c .within) u l) };
         free = λ i p l. ⊎-elim (λ q. absurd (omega (arith, ltb-true i k q))) (λ q. eqb-true _ NONE q) (or-cases (ltb i k) (eqb (at hs (at os i)) NONE) (all-elim n (λ j. ltb j k || eqb (at hs (at os j)) NONE) (c .unplaced) i l));
       }
     where
@@ -163,8 +185,8 @@ module _ (n t m k : ℕ) (ls os hs : List ℕ) where
       nums : (n ≤ GATEWAYS) × (LOWEST ≤ t) × (t ≤ HIGHEST) × (m ≤ LINKS) × (k ≤ n)
       nums = numbers-mean n t m k (c .numbers)
 
-      lens : (2 * m ≤ length ls) × (n ≤ length os) × (n ≤ length hs)
-      lens = lists-mean n m ls os hs (c .lists)
+      lens : (2 * m ≤ length ls) × (n ≤ length os) × (n ≤ length hs) × (n ≤ length ts)
+      lens = lists-mean n m ls os hs ts (c .lists)
 
       ends : (x y : ℕ) → linked (firstLinks m ls) x y ≡ true → (x < n) × (y < n) × (x ≡ y → ⊥)
       ends = ends-mean n (firstLinks m ls) (c .link-ends)
@@ -175,7 +197,7 @@ module _ (n t m k : ℕ) (ls os hs : List ℕ) where
       along : (v : ℕ) → v < n → held n (at hs) v ≡ true → linked (firstLinks m ls) v (at hs v) ≡ true
       along v l q = ⊎-elim (λ none. absurd (omega (arith, nums .0, ltb-true (at hs v) n q))) (λ j. j) (holders-along (c .tied) v l)
 
-  pub means-sound : Sound n t m k ls os hs → isSound n t m k ls os hs ≡ true
+  pub means-sound : Sound n t m k ls os hs ts → isSound n t m k ls os hs ts ≡ true
   unfolding isSound numbersSound listsLong holdersLinked holdersWithin onlyPlacedHeld
   means-sound s =
       rw (
@@ -187,6 +209,8 @@ module _ (n t m k : ℕ) (ls os hs : List ℕ) where
         le-leb (2 * m) (length ls) (s .links-long),
         le-leb n (length os) (s .order-long),
         le-leb n (length hs) (s .holders-long),
+        le-leb n (length ts) (s .limits-long),
+        mean-limits n ts (s .limits),
         mean-ends n (firstLinks m ls) (s .ends),
         mean-once n os (s .order),
         tied,
@@ -198,8 +222,8 @@ module _ (n t m k : ℕ) (ls os hs : List ℕ) where
           all-intro n (λ v. eqb (at hs v) NONE || linked (firstLinks m ls) v (at hs v))
           (λ v l. ⊎-elim (λ q. or-l _ (linked (firstLinks m ls) v (at hs v)) (eq-eqb (at hs v) NONE q)) (λ q. or-r (eqb (at hs v) NONE) _ (s .feasible .along v l (lt-ltb (at hs v) n q))) (s .range v l))
 
-      within : all n (λ u. leb (holds n (at hs) u) (common t u)) ≡ true
-      within = all-intro n (λ u. leb (holds n (at hs) u) (common t u)) (λ u l. le-leb _ _ (s .feasible .within u l))
+      within : all n (λ u. leb (holds n (at hs) u) (at ts u)) ≡ true
+      within = all-intro n (λ u. leb (holds n (at hs) u) (at ts u)) (λ u l. le-leb _ _ (s .feasible .within u l))
 
       unplaced : all n (λ i. ltb i k || eqb (at hs (at os i)) NONE) ≡ true
       unplaced =

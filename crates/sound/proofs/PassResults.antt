@@ -13,7 +13,7 @@ use Rattle.packing.specs.Plant.{GATEWAYS, NONE, at, common, firstLinks, linked}
 use Rattle.packing.specs.Holders.{holds}
 use Rattle.packing.proofs.Tests.{tests, all-ext, all-intro, or-l, iff-test}
 use Rattle.lists.proofs.Tallies.{tally-at}
-use Rattle.sound.specs.Sound.{numbersSound, listsLong, endsSound, onceEach, holdersLinked, holdersWithin, onlyPlacedHeld, isSound}
+use Rattle.sound.specs.Sound.{numbersSound, listsLong, limitsSound, endsSound, onceEach, holdersLinked, holdersWithin, onlyPlacedHeld, isSound}
 use Rattle.sound.proofs.Meaning.{numbers-mean, lists-mean}
 use Rattle.sound.specs.Marks.{LinksPassed}
 
@@ -58,27 +58,33 @@ within-common n t limits hs few e = within-below n (at limits) (λ u. t) hs (λ 
 pub numbers-few : (n t m k : ℕ) {b : Bool} → b ≡ numbersSound n t m k → not b ≡ false → n ≤ GATEWAYS
 numbers-few n t m k {b} e f = numbers-mean n t m k (sym e ∙ not-false b f) .0
 
-pub links-lent : (n m : ℕ) (ls os hs : List ℕ) {b : Bool} → b ≡ listsLong n m ls os hs → not b ≡ false → 2 * m ≤ length ls
-links-lent n m ls os hs {b} e f = lists-mean n m ls os hs (sym e ∙ not-false b f) .0
+pub links-lent : (n m : ℕ) (ls os hs ts : List ℕ) {b : Bool} → b ≡ listsLong n m ls os hs ts → not b ≡ false → 2 * m ≤ length ls
+links-lent n m ls os hs ts {b} e f = lists-mean n m ls os hs ts (sym e ∙ not-false b f) .0
 
-module _ (n t m k : ℕ) (ls os hs : List ℕ) where
-  pub unsound-numbers : {b : Bool} → b ≡ numbersSound n t m k → not b ≡ true → false ≡ isSound n t m k ls os hs
+module _ (n t m k : ℕ) (ls os hs ts : List ℕ) where
+  pub unsound-numbers : {b : Bool} → b ≡ numbersSound n t m k → not b ≡ true → false ≡ isSound n t m k ls os hs ts
   unfolding isSound
   unsound-numbers {b} e f = rw (sym e ∙ not-true b f)
 
-  pub unsound-lists : {b b' : Bool} → b ≡ numbersSound n t m k → not b ≡ false → b' ≡ listsLong n m ls os hs → not b' ≡ true → false ≡ isSound n t m k ls os hs
-  unfolding isSound
-  unsound-lists {b} {b'} e f g h = rw (sym e ∙ not-false b f, sym g ∙ not-true b' h)
+  module _ {numbers : Bool} (n-is : numbers ≡ numbersSound n t m k) (n-holds : not numbers ≡ false) {lists : Bool} (l-is : lists ≡ listsLong n m ls os hs ts) where
+    pub unsound-lists : not lists ≡ true → false ≡ isSound n t m k ls os hs ts
+    unfolding isSound
+    unsound-lists h = rw (sym n-is ∙ not-false numbers n-holds, sym l-is ∙ not-true lists h)
 
-  pub all-results : (limits : List ℕ) {b b' o h r : Bool} → limits ≡ replicate GATEWAYS t → b ≡ numbersSound n t m k → not b ≡ false → b' ≡ listsLong n m ls os hs → not b' ≡ false → o ≡ (onceEach n os && onlyPlacedHeld n k os hs)
-      → h ≡ (endsSound n (firstLinks m ls) && holdersLinked n (firstLinks m ls) hs && holdersWithin n (at limits) hs) → r ≡ (o && h) → r ≡ isSound n t m k ls os hs
-  unfolding isSound
-  all-results limits {b} {b'} c e f g i j q r =
-      r ∙ rw (j, q, within-common n t limits hs (numbers-few n t m k e f) c, sym e ∙ not-false b f, sym g ∙ not-false b' i)
-      (shuffle (endsSound n (firstLinks m ls)) (onceEach n os) (holdersLinked n (firstLinks m ls) hs) (holdersWithin n (common t) hs) (onlyPlacedHeld n k os hs))
-    where
-      shuffle : (a b c d p : Bool) → ((b && p) && (a && c && d)) ≡ (a && b && c && d && p)
-      shuffle a b c d p = iff-test ((b && p) && (a && c && d)) (a && b && c && d && p) (λ e. search tests depth 8) (λ e. search tests depth 8)
+    module _ (l-holds : not lists ≡ false) {limits : Bool} (t-is : limits ≡ limitsSound n ts) where
+      pub unsound-limits : not limits ≡ true → false ≡ isSound n t m k ls os hs ts
+      unfolding isSound
+      unsound-limits h = rw (sym n-is ∙ not-false numbers n-holds, sym l-is ∙ not-false lists l-holds, sym t-is ∙ not-true limits h)
+
+      pub all-results : not limits ≡ false → {o h r : Bool} → o ≡ (onceEach n os && onlyPlacedHeld n k os hs)
+          → h ≡ (endsSound n (firstLinks m ls) && holdersLinked n (firstLinks m ls) hs && holdersWithin n (at ts) hs) → r ≡ (o && h) → r ≡ isSound n t m k ls os hs ts
+      unfolding isSound
+      all-results t-holds j q r =
+          r ∙ rw (j, q, sym n-is ∙ not-false numbers n-holds, sym l-is ∙ not-false lists l-holds, sym t-is ∙ not-false limits t-holds)
+          (shuffle (endsSound n (firstLinks m ls)) (onceEach n os) (holdersLinked n (firstLinks m ls) hs) (holdersWithin n (at ts) hs) (onlyPlacedHeld n k os hs))
+        where
+          shuffle : (a b c d p : Bool) → ((b && p) && (a && c && d)) ≡ (a && b && c && d && p)
+          shuffle a b c d p = iff-test ((b && p) && (a && c && d)) (a && b && c && d && p) (λ e. search tests depth 8) (λ e. search tests depth 8)
 
 -- with all n placed, only the order itself is asked
 pub order-only : (n : ℕ) (os hs : List ℕ) {r : Bool} → r ≡ (onceEach n os && onlyPlacedHeld n n os hs) → r ≡ onceEach n os

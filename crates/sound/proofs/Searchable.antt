@@ -39,9 +39,8 @@ unfolding searchable
 searchable-holds {n} {hs} s = rw (le-leb n GATEWAYS (s .few), le-leb n (length hs) (s .holders)) (within-holds n hs (s .within))
 
 -- the holders of a sound record are such
-pub sound-searchable : {n t m k : ℕ} {ls os hs : List ℕ} → Sound n t m k ls os hs → Searchable n hs
-unfolding common
-sound-searchable s = record { few = s .few; holders = s .holders-long; within = λ u l. omega (arith, s .feasible .within u l, s .high) }
+pub sound-searchable : {n t m k : ℕ} {ls os hs ts : List ℕ} → Sound n t m k ls os hs ts → Searchable n hs
+sound-searchable s = record { few = s .few; holders = s .holders-long; within = λ u l. omega (arith, s .feasible .within u l, s .limits u l .1) }
 
 -- what the tally of the holders says, compared with a list of the highest limit
 pub within-tallied : (n : ℕ) (hs limits : List ℕ) {loads : List ℕ} {r : Bool} → n ≤ GATEWAYS → loads ≡ tallyOf n hs → limits ≡ replicate GATEWAYS HIGHEST → r ≡ all n (λ v. leb (at loads v) (at limits v))

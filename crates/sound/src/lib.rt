@@ -5,7 +5,6 @@ mod marks;
 mod passes;
 
 use lists::counts::tally;
-use lists::marks::bytes;
 use lists::marks::zeros;
 use lists::tests::both;
 ghost use mathlib.Core.Path.{_≡_};
@@ -13,7 +12,17 @@ ghost use mathlib.Core.Bool.{_&&_};
 ghost use Prim.Native.Nat.{_≤_};
 ghost use Rattle.packing.specs.Lists.{fits};
 ghost use Rattle.packing.specs.Plant.{GATEWAYS, at};
-ghost use Rattle.sound.specs.Sound.{isSound, isOrder, numbersSound, listsLong, endsSound, holdersLinked, holdersWithin, onceEach, onlyPlacedHeld};
+ghost use Rattle.sound.specs.Sound.{isSound, isOrder, isLimit, numbersSound, listsLong, endsSound, holdersLinked, holdersWithin, onceEach, onlyPlacedHeld};
+
+// Whether a gateway may have this limit.
+pub fn is_limit(limit: u8) -> bool
+    ensures { λ r. ⌜ r ≡ isLimit limit ⌝ }
+{
+    if limit < lists::LOWEST {
+        return false;
+    }
+    limit <= lists::HIGHEST
+}
 
 fn numbers_sound(n: u16, t: u8, m: u16, k: u16) -> bool
     ensures { λ r. ⌜ r ≡ numbersSound n t m k ⌝ }
@@ -33,8 +42,8 @@ fn numbers_sound(n: u16, t: u8, m: u16, k: u16) -> bool
     k <= n
 }
 
-fn lists_long(n: u16, m: u16, links: &[u16], order: &[u16], holders: &[u16]) -> bool
-    ensures { λ r. ⌜ r ≡ listsLong n m (now (links .entry)) (now (order .entry)) (now (holders .entry)) ⌝ }
+fn lists_long(n: u16, m: u16, links: &[u16], order: &[u16], holders: &[u16], limits: &[u8]) -> bool
+    ensures { λ r. ⌜ r ≡ listsLong n m (now (links .entry)) (now (order .entry)) (now (holders .entry)) (now (limits .entry)) ⌝ }
 {
     if links.len() < 2 * (m as usize) {
         return false;
@@ -42,7 +51,10 @@ fn lists_long(n: u16, m: u16, links: &[u16], order: &[u16], holders: &[u16]) -> 
     if order.len() < n as usize {
         return false;
     }
-    (n as usize) <= holders.len()
+    if holders.len() < n as usize {
+        return false;
+    }
+    (n as usize) <= limits.len()
 }
 
 // The links' ends, and the holders: linked to what they hold, and each within the limit of its gateway.
@@ -104,18 +116,21 @@ pub fn is_sound(
     links: &[u16],
     order: &[u16],
     holders: &[u16],
+    limits: &[u8],
 ) -> bool
-    ensures { λ r. ⌜ r ≡ isSound n t m k (now (links .entry)) (now (order .entry)) (now (holders .entry)) ⌝ }
+    ensures { λ r. ⌜ r ≡ isSound n t m k (now (links .entry)) (now (order .entry)) (now (holders .entry)) (now (limits .entry)) ⌝ }
 {
     if !numbers_sound(n, t, m, k) {
         return false;
     }
-    if !lists_long(n, m, links, order, holders) {
+    if !lists_long(n, m, links, order, holders, limits) {
+        return false;
+    }
+    if !passes::limits_sound(n, limits) {
         return false;
     }
     let end = 2 * (m as usize);
     let order_holds = order_sound(n, k, order, holders);
-    let limits = bytes(t);
-    let holders_hold = holders_sound(n, &limits, &links[..end], holders);
+    let holders_hold = holders_sound(n, limits, &links[..end], holders);
     both(order_holds, holders_hold)
 }

@@ -11,7 +11,7 @@ ghost use lib.Dec.{eqb, leb};
 ghost use Rattle.packing.specs.Count.{all};
 ghost use mathlib.Core.Bool.{_||_};
 ghost use Rattle.packing.specs.Plant.{NONE, at};
-ghost use Rattle.sound.specs.Sound.{onlyPlacedHeld};
+ghost use Rattle.sound.specs.Sound.{onlyPlacedHeld, limitsSound};
 ghost use Rattle.sound.specs.Marks.{Zeros, LinksPassed};
 
 // The links: whether the ends of each differ and are below n. Marks each gateway whose holder is linked to it.
@@ -72,6 +72,19 @@ pub(crate) fn counts_one(n: u16, counts: &[u16]) -> bool
     let mut v: u16 = 0;
     while v < n {
         ok = both(ok, entry(counts, v) == 1);
+        v += 1;
+    }
+    ok
+}
+
+// The limits: whether each of the first n is one of 2 to 16.
+pub(crate) fn limits_sound(n: u16, limits: &[u8]) -> bool
+    ensures { λ r. ⌜ r ≡ limitsSound n (now (limits .entry)) ⌝ }
+{
+    let mut ok = true;
+    let mut v: u16 = 0;
+    while v < n {
+        ok = both(ok, crate::is_limit(byte(limits, v as usize)));
         v += 1;
     }
     ok

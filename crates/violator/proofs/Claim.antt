@@ -10,7 +10,7 @@ use Rattle.packing.specs.Lists.{listWhere}
 use Rattle.packing.specs.Plant.{at, linked}
 use Rattle.packing.specs.Holders.{held}
 use Rattle.packing.specs.Refusals.{byNumber}
-use Rattle.packing.specs.Violator.{sumOf, Violator, Smallest}
+use Rattle.packing.specs.Violator.{Violator, Smallest}
 use Rattle.packing.proofs.Lists.{listWhere-length, written-front, written-past}
 use Rattle.packing.proofs.Refusals.{refuse-none, refused}
 use Rattle.packing.proofs.Violator.{sumOf-common, violator-below, smallest-below}
@@ -18,13 +18,14 @@ use Rattle.search.specs.Reached.{setWritten}
 use Rattle.search.proofs.FromOne.{walk-violator, walk-smallest}
 use Rattle.planner.specs.State.{State, linksOf, limitOf, soundState}
 use Rattle.planner.specs.Told.{Told}
-use Rattle.planner.specs.Claims.{toldBy, madeBy}
+use Rattle.planner.specs.Claims.{madeBy}
 use Rattle.planner.proofs.Made.{Made}
 use Rattle.planner.proofs.Agree.{Agrees, stateTold}
 use Rattle.planner.proofs.Optimal.{links-symmetric, links-loopless, limit-two}
-use Rattle.planner.proofs.Demands.{tells-limit, after-calls}
+use Rattle.planner.proofs.Demands.{after-calls}
+use Rattle.planner.proofs.CommonLimit.{tells-common}
 use Rattle.violator.specs.WhyAlone.{whyRefusal, inFirst, inSecond, firstCount, secondCount, whyFirst, whySecond, firstSet, secondSet}
-use Rattle.violator.specs.Claim.{WhyAlone, WhyPast, WhyRefused}
+use Rattle.violator.specs.Claim.{WhyAlone, WhyCommon, WhyPast, WhyRefused}
 use Rattle.violator.proofs.WhyTests.{Allowed, allowed, left-placeable}
 use Rattle.violator.proofs.Turns.{says-placed}
 
@@ -83,24 +84,26 @@ WhyTold n told made =
     → Violator n (told .limit) (linked (told .links)) (at (told .order)) (held n (at (made .holders))) v (firstSet made v first second) (secondSet made v first second)
     × Smallest n (told .limit) (linked (told .links)) (held n (at (made .holders))) v (firstSet made v first second) (secondSet made v first second)
 
-why-told : (p : Told) (ls os hs : List ℕ) → Agrees p (stateTold p ls os hs) → WhyTold (p .n) p (stateTold p ls os hs)
-why-told p ls os hs a v first second z =
-    let s = stateTold p ls os hs in (
+why-told : (p : Told) (ls os hs ts : List ℕ) → Agrees p (stateTold p ls os hs ts) → WhyTold (p .n) p (stateTold p ls os hs ts)
+why-told p ls os hs ts a v first second z =
+    let s = stateTold p ls os hs ts in (
       violator-below (a .limits) (a .order) (λ x l. refl) (rw (a .links) at (made-violator s v first second z (a .made))),
       smallest-below (a .limits) (λ x l. refl) (rw (a .links) at (made-smallest s v first second z (a .made))),
     )
 
 pub why-alone : WhyAlone
 unfolding WhyAlone
-why-alone n t ls os hs ok calls v first second z =
-    let (violator, smallest) = after-calls WhyTold why-told n t ls os hs ok calls v first second z in
-    record { violator = violator; smallest = smallest; counts = sym (first-counted s v first second z) ∙ violator .size ∙ ap (λ (k : ℕ). k + 1) sizes }
-  where
-    s : State
-    s = madeBy n t ls os hs calls
+why-alone n t ls os hs ts ok calls v first second z =
+    let s = madeBy n t ls os hs ts calls in
+    let (violator, smallest) = after-calls WhyTold why-told n t ls os hs ts ok calls v first second z in
+    record { violator = violator; smallest = smallest; counts = sym (first-counted s v first second z) ∙ violator .size; counted = sym (second-counted s v first second z) }
 
-    sizes : sumOf (toldBy n t ls calls .limit) (secondSet s v first second) ≡ t * secondCount s v (length first) (length second)
-    sizes = rw (tells-limit n t ls calls, ← second-counted s v first second z) (sumOf-common t (secondSet s v first second))
+pub why-common : WhyCommon
+unfolding WhyCommon WhyAlone
+why-common n t ls os hs ts ok calls each v first second z =
+    let s = madeBy n t ls os hs ts calls in
+    let why = why-alone n t ls os hs ts ok calls v first second z in
+    (rw (tells-common n t ls calls each) at (why .counts)) ∙ ap (λ (k : ℕ). k + 1) (sumOf-common t (secondSet s v first second) ∙ ap (λ (k : ℕ). t * k) (sym (why .counted)))
 
 pub why-past : WhyPast
 unfolding WhyPast firstCount secondCount whyFirst whySecond

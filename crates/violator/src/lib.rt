@@ -63,18 +63,19 @@ pub fn why_alone(
     links: &[u16],
     order: &[u16],
     holders: &[u16],
+    limits: &[u8],
     gateway: u16,
     first: &mut [u16],
     second: &mut [u16],
 ) -> WhyAnswer
-    ensures answer { λ r. ⌜ r ≡ whyAnswer (stateOf small (now (links .entry)) (now (order .entry)) (now (holders .entry))) gateway (length (now (first .entry))) (length (now (second .entry))) ⌝ }
-    ensures first { λ _. ⌜ now (first .exit) ≡ whyFirst (stateOf small (now (links .entry)) (now (order .entry)) (now (holders .entry))) gateway (now (first .entry)) (now (second .entry)) ⌝ }
-    ensures second { λ _. ⌜ now (second .exit) ≡ whySecond (stateOf small (now (links .entry)) (now (order .entry)) (now (holders .entry))) gateway (now (first .entry)) (now (second .entry)) ⌝ }
+    ensures answer { λ r. ⌜ r ≡ whyAnswer (stateOf small (now (links .entry)) (now (order .entry)) (now (holders .entry)) (now (limits .entry))) gateway (length (now (first .entry))) (length (now (second .entry))) ⌝ }
+    ensures first { λ _. ⌜ now (first .exit) ≡ whyFirst (stateOf small (now (links .entry)) (now (order .entry)) (now (holders .entry)) (now (limits .entry))) gateway (now (first .entry)) (now (second .entry)) ⌝ }
+    ensures second { λ _. ⌜ now (second .exit) ≡ whySecond (stateOf small (now (links .entry)) (now (order .entry)) (now (holders .entry)) (now (limits .entry))) gateway (now (first .entry)) (now (second .entry)) ⌝ }
 {
     let n = small.n;
     let m = small.m;
     let k = small.k;
-    if !sound::is_sound(n, small.t, m, k, links, order, holders) {
+    if !sound::is_sound(n, small.t, m, k, links, order, holders, limits) {
         return WhyAnswer {
             refusal: 26,
             small,

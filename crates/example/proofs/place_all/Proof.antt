@@ -7,10 +7,10 @@ use Rattle.example.proofs.place_all.Statement.{statement}
 use Rattle.example.proofs.place_all.Tie as tie
 
 abbrev Inv-loop : tie.InvT-loop
-Inv-loop links order holders₀ n s₀ i₀ text holders s i = (i ≤ n) × (length holders ≡ length holders₀)
+Inv-loop links order holders₀ limits n s₀ i₀ text holders s i = (i ≤ n) × (length holders ≡ length holders₀)
 
 abbrev μ-loop : tie.MeasureT-loop
-μ-loop links order holders₀ n s₀ i₀ text holders s i = n - i
+μ-loop links order holders₀ limits n s₀ i₀ text holders s i = n - i
 
 loop-holds : tie.Need-loop-holds Inv-loop μ-loop
 loop-holds c = search needs

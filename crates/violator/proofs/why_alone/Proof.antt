@@ -35,7 +35,7 @@ mul-end c = search needs
 
 slice-aggregate-reached-from : tie.Need-slice-aggregate-reached-from
 slice-aggregate-reached-from c = let test = c .before .before .before in
-    sym (length-take-le _ _ (checked _ _ _ _ _ _ _ (test .before .is-sound .ensures) (test .if1 .left) .links-long))
+    sym (length-take-le _ _ (checked _ _ _ _ _ _ _ _ (test .before .is-sound .ensures) (test .if1 .left) .links-long))
 
 reached-from-requires : tie.Need-reached-from-requires
 reached-from-requires c κs = search needs
@@ -51,7 +51,7 @@ unfolding whyRefusal soundState firstLinks
 returns-3 c = let called = c .before .before .before .before in
     let asked = called .before .before .before .before in
     let test = asked .before .before in
-    let sound = checked _ _ _ _ _ _ _ (test .before .is-sound .ensures) (test .if1 .left) in
+    let sound = checked _ _ _ _ _ _ _ _ (test .before .is-sound .ensures) (test .if1 .left) in
     why-accepted _ _ _ _ (sound-number (test .before .is-sound .ensures) (not-false _ (test .if1 .left)) (asked .before .refusal-of .ensures)) (asked .if2 .left) sound
     (allowed _ _ _ _ _ _ _ (sym (asked .before .refusal-of .ensures) ∙ asked .if2 .left)) (called .reached-from .ensures)
 

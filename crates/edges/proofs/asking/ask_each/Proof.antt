@@ -7,10 +7,10 @@ use Rattle.edges.proofs.asking.ask_each.Statement.{statement}
 use Rattle.edges.proofs.asking.ask_each.Tie as tie
 
 abbrev Inv-loop : tie.InvT-loop
-Inv-loop label links order holders₀ gateway s₀ i₀ holders s i = (i ≤ 9) × (length holders ≡ length holders₀)
+Inv-loop label links order holders₀ limits gateway s₀ i₀ holders s i = (i ≤ 9) × (length holders ≡ length holders₀)
 
 abbrev μ-loop : tie.MeasureT-loop
-μ-loop label links order holders₀ gateway s₀ i₀ holders s i = 9 - i
+μ-loop label links order holders₀ limits gateway s₀ i₀ holders s i = 9 - i
 
 loop-holds : tie.Need-loop-holds Inv-loop μ-loop
 loop-holds c = search needs

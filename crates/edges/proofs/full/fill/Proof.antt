@@ -7,10 +7,10 @@ use Rattle.edges.proofs.full.fill.Statement.{statement}
 use Rattle.edges.proofs.full.fill.Tie as tie
 
 abbrev Inv-loop : tie.InvT-loop
-Inv-loop links₀ order holders now₀ i₀ links now i = (i ≤ 8192) × (length links ≡ length links₀)
+Inv-loop links₀ order holders limits now₀ i₀ links now i = (i ≤ 8192) × (length links ≡ length links₀)
 
 abbrev μ-loop : tie.MeasureT-loop
-μ-loop links₀ order holders now₀ i₀ links now i = 8192 - i
+μ-loop links₀ order holders limits now₀ i₀ links now i = 8192 - i
 
 loop-holds : tie.Need-loop-holds Inv-loop μ-loop
 loop-holds c = search needs

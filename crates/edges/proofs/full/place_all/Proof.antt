@@ -7,10 +7,10 @@ use Rattle.edges.proofs.full.place_all.Statement.{statement}
 use Rattle.edges.proofs.full.place_all.Tie as tie
 
 abbrev Inv-loop : tie.InvT-loop
-Inv-loop links order holders₀ now₀ i₀ holders now i = (i ≤ 1024) × (length holders ≡ length holders₀)
+Inv-loop links order holders₀ limits now₀ i₀ holders now i = (i ≤ 1024) × (length holders ≡ length holders₀)
 
 abbrev μ-loop : tie.MeasureT-loop
-μ-loop links order holders₀ now₀ i₀ holders now i = 1024 - i
+μ-loop links order holders₀ limits now₀ i₀ holders now i = 1024 - i
 
 loop-holds : tie.Need-loop-holds Inv-loop μ-loop
 loop-holds c = search needs

@@ -7,10 +7,10 @@ use Rattle.edges.proofs.placing.place_each.Statement.{statement}
 use Rattle.edges.proofs.placing.place_each.Tie as tie
 
 abbrev Inv-loop : tie.InvT-loop
-Inv-loop label one other links order holders₀ s₀ i₀ holders s i = (i ≤ 8) × (length holders ≡ length holders₀)
+Inv-loop label one other links order holders₀ limits s₀ i₀ holders s i = (i ≤ 8) × (length holders ≡ length holders₀)
 
 abbrev μ-loop : tie.MeasureT-loop
-μ-loop label one other links order holders₀ s₀ i₀ holders s i = 8 - i
+μ-loop label one other links order holders₀ limits s₀ i₀ holders s i = 8 - i
 
 loop-holds : tie.Need-loop-holds Inv-loop μ-loop
 loop-holds c = search needs

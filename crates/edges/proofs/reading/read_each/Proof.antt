@@ -7,10 +7,10 @@ use Rattle.edges.proofs.reading.read_each.Statement.{statement}
 use Rattle.edges.proofs.reading.read_each.Tie as tie
 
 abbrev Inv-loop : tie.InvT-loop
-Inv-loop label links order holders₀ s₀ i₀ holders s i = (i ≤ 6) × (length holders ≡ length holders₀)
+Inv-loop label links order holders₀ limits s₀ i₀ holders s i = (i ≤ 6) × (length holders ≡ length holders₀)
 
 abbrev μ-loop : tie.MeasureT-loop
-μ-loop label links order holders₀ s₀ i₀ holders s i = 6 - i
+μ-loop label links order holders₀ limits s₀ i₀ holders s i = 6 - i
 
 loop-holds : tie.Need-loop-holds Inv-loop μ-loop
 loop-holds c = search needs

@@ -17,30 +17,48 @@ with-links-requires : tie.Need-with-links-requires
 with-links-requires c κs = search needs
 
 with-order-requires : tie.Need-with-order-requires
-with-order-requires c κs = c .before .before .before .before .before .before .before .before .before .before .before .before .before .before .before .before .before .before .before .before .before .before .before .before .pre
+with-order-requires c κs = let links = c .before .before .before .before .before .before in
+    let opened = links .before .before .before .before .before .before .before .before .before .before .before .before in
+    opened .before .before .before .before .before .before .before .before .before .before .before .before .pre
+
+with-limits-requires : tie.Need-with-limits-requires
+with-limits-requires c κs = search needs
 
 with-places-requires : tie.Need-with-places-requires
 with-places-requires c κs = search needs
 
 same-length : tie.Need-same-length
-same-length c = search needs
+same-length c = let limits = c .before .before .before .before .before .before .before .before in
+    let order = limits .before .before .before .before .before .before .before in
+    order .before .before .before .before .before .before .before .links .given
 
 same-length-2 : tie.Need-same-length-2
-same-length-2 c = c .before .before .before .before .before .before .before .order2 .given ∙ c .before .before .before .before .before .before .before .before .before .before .before .before .before .before .before .before .before .before .before .before .before .before .order .given
+same-length-2 c = let limits = c .before .before .before .before .before .before .before .before in
+    let order = limits .before .before .before .before .before .before .before in
+    let links = order .before .before .before .before .before .before .before in
+    order .order2 .given ∙ links .before .before .before .before .before .before .before .before .before .before .before .before .order .given
 
 same-length-3 : tie.Need-same-length-3
-same-length-3 c = c .before .holders2 .given ∙ c .before .before .before .before .before .before .before .before .before .before .before .before .before .before .before .before .before .before .before .before .holders .given
+same-length-3 c = let limits = c .before .before .before .before .before .before .before .before in
+    let links = limits .before .before .before .before .before .before .before .before .before .before .before .before .before .before in
+    c .before .holders2 .given ∙ links .before .before .before .before .before .before .before .before .before .before .holders .given
+
+same-length-4 : tie.Need-same-length-4
+same-length-4 c = let limits = c .before .before .before .before .before .before .before .before in
+    let links = limits .before .before .before .before .before .before .before .before .before .before .before .before .before .before in
+    limits .limits2 .given ∙ links .before .before .before .before .before .before .before .before .limits .given
 
 returns : tie.Need-returns
 returns c = let places = c .before .before in
-    let order = places .before .before .before .before .before .before in
-    let links = order .before .before .before .before .before .before in
-    let opened = links .before .before .before .before .before .before .before .before .before in
-    let header = opened .before .before .before .before in (
-      all-made _ _ _ _ _ _ (header .before .gateways .ensures) (header .limit .ensures) (opened .«open» .ensures .0) (opened .«open» .ensures .1 .0) (opened .«open» .ensures .1 .1)
-          (links .with-links .ensures) (order .with-order .ensures) (places .with-places .ensures .0),
-      all-moves _ _ _ _ _ _ (header .before .gateways .ensures) (header .limit .ensures) (opened .«open» .ensures .0) (opened .«open» .ensures .1 .0) (opened .«open» .ensures .1 .1)
-          (links .with-links .ensures) (order .with-order .ensures) (places .with-places .ensures .1),
+    let limits = places .before .before .before .before .before .before .before in
+    let order = limits .before .before .before .before .before .before .before in
+    let links = order .before .before .before .before .before .before .before in
+    let opened = links .before .before .before .before .before .before .before .before .before .before .before .before in
+    let header = opened .before .before .before .before .before in (
+      all-made _ _ _ _ _ _ _ (header .before .gateways .ensures) (header .limit .ensures) (opened .«open» .ensures .0) (opened .«open» .ensures .1 .0) (opened .«open» .ensures .1 .1 .0) (opened .«open» .ensures .1 .1 .1)
+          (links .with-links .ensures) (order .with-order .ensures) (limits .with-limits .ensures) (places .with-places .ensures .0),
+      all-moves _ _ _ _ _ _ _ (header .before .gateways .ensures) (header .limit .ensures) (opened .«open» .ensures .0) (opened .«open» .ensures .1 .0) (opened .«open» .ensures .1 .1 .0) (opened .«open» .ensures .1 .1 .1)
+          (links .with-links .ensures) (order .with-order .ensures) (limits .with-limits .ensures) (places .with-places .ensures .1),
     )
 
 pub make-spec : {M : Type 1} → statement M
@@ -52,8 +70,10 @@ make-spec =
     open-requires
     with-links-requires
     with-order-requires
+    with-limits-requires
     with-places-requires
     same-length
     same-length-2
     same-length-3
+    same-length-4
     returns)

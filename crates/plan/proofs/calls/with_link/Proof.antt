@@ -14,7 +14,7 @@ enum-told : tie.Need-enum-told
 enum-told c = search needs
 
 returns : tie.Need-returns
-returns c = link-none _ _ _ _ _ (sym (c .before .before .link-of .ensures) ∙ c .enum-told .given .1)
+returns c = link-none _ _ _ _ _ _ (sym (c .before .before .link-of .ensures) ∙ c .enum-told .given .1)
 
 link-requires : tie.Need-link-requires
 link-requires c κs = search needs
@@ -23,7 +23,7 @@ same-length : tie.Need-same-length
 same-length c = search needs
 
 returns-2 : tie.Need-returns-2
-returns-2 c = link-made _ _ _ _ (sym (c .before .before .before .before .before .before .before .before .link-of .ensures) ∙ c .before .before .before .before .before .before .a .given .1) (c .before .before .before .link .ensures .0) (c .before .before .before .link .ensures .1)
+returns-2 c = link-made _ _ _ _ _ (sym (c .before .before .before .before .before .before .before .before .link-of .ensures) ∙ c .before .before .before .before .before .before .a .given .1) (c .before .before .before .link .ensures .0) (c .before .before .before .link .ensures .1)
 
 pub with-link-spec : {M : Type 1} → statement M
 with-link-spec =

@@ -9,10 +9,10 @@ use Rattle.plan.proofs.calls.with_links.Statement.{statement}
 use Rattle.plan.proofs.calls.with_links.Tie as tie
 
 abbrev Inv-loop : tie.InvT-loop
-Inv-loop file links₀ order holders m now₀ i₀ links now i = Linking file (stateOf now₀ links₀ order holders) (stateOf now links order holders) i × (length links ≡ length links₀)
+Inv-loop file links₀ order holders limits m now₀ i₀ links now i = Linking file (stateOf now₀ links₀ order holders limits) (stateOf now links order holders limits) i × (length links ≡ length links₀)
 
 abbrev μ-loop : tie.MeasureT-loop
-μ-loop file links₀ order holders m now₀ i₀ links now i = m - i
+μ-loop file links₀ order holders limits m now₀ i₀ links now i = m - i
 
 link-count-requires : tie.Need-link-count-requires Inv-loop μ-loop
 link-count-requires c κs = search needs

@@ -19,10 +19,10 @@ order-requires : tie.Need-order-requires
 order-requires c κs = search needs
 
 array-share-prefix-numbers : tie.Need-array-share-prefix-numbers
-array-share-prefix-numbers c = order-room _ (c .before .before .before .before .before .before .before .before .before .before .pre) (c .before .before .before .before .before .gateways .ensures) (c .before .before .before .before .zeros .ensures) (c .before .before .order .ensures .1)
+array-share-prefix-numbers c = order-room _ (c .before .before .before .before .before .before .before .before .before .before .before .pre) (c .before .before .before .before .before .gateways .ensures) (c .before .before .before .before .zeros .ensures) (c .before .before .order .ensures .1)
 
 slice-aggregate-order-2 : tie.Need-slice-aggregate-order-2
-slice-aggregate-order-2 c = order-front _ (c .before .before .before .before .before .before .before .before .before .before .before .pre) (c .before .before .before .before .before .before .gateways .ensures) (c .before .before .before .before .before .zeros .ensures) (c .before .before .before .order .ensures .1)
+slice-aggregate-order-2 c = order-front _ (c .before .before .before .before .before .before .before .before .before .before .before .before .pre) (c .before .before .before .before .before .before .gateways .ensures) (c .before .before .before .before .before .zeros .ensures) (c .before .before .before .order .ensures .1)
 
 order-requires-2 : tie.Need-order-requires-2
 order-requires-2 c κs = search needs
@@ -31,7 +31,7 @@ same-length : tie.Need-same-length
 same-length c = search needs
 
 returns : tie.Need-returns
-returns c = ordered _ (c .before .before .before .before .before .before .before .before .before .before .before .before .before .before .before .pre) (c .before .before .before .before .before .before .before .before .before .before .gateways .ensures) (c .before .before .before .before .before .before .before .before .before .zeros .ensures) (c .before .before .before .before .before .before .before .order .ensures .1) _ _ _ _ (c .before .before .before .order2 .ensures .0) (c .before .before .before .order2 .ensures .1)
+returns c = ordered _ (c .before .before .before .before .before .before .before .before .before .before .before .before .before .before .before .before .pre) (c .before .before .before .before .before .before .before .before .before .before .gateways .ensures) (c .before .before .before .before .before .before .before .before .before .zeros .ensures) (c .before .before .before .before .before .before .before .order .ensures .1) _ _ _ _ _ (c .before .before .before .order2 .ensures .0) (c .before .before .before .order2 .ensures .1)
 
 pub with-order-spec : {M : Type 1} → statement M
 with-order-spec =

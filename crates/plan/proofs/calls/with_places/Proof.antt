@@ -9,10 +9,10 @@ use Rattle.plan.proofs.calls.with_places.Statement.{statement}
 use Rattle.plan.proofs.calls.with_places.Tie as tie
 
 abbrev Inv-loop : tie.InvT-loop
-Inv-loop way placings links order holders₀ now₀ moved₀ i₀ holders now moved i = Places way placings (stateOf now₀ links order holders₀) (stateOf now links order holders) moved i × (length holders ≡ length holders₀)
+Inv-loop way placings links order holders₀ limits now₀ moved₀ i₀ holders now moved i = Places way placings (stateOf now₀ links order holders₀ limits) (stateOf now links order holders limits) moved i × (length holders ≡ length holders₀)
 
 abbrev μ-loop : tie.MeasureT-loop
-μ-loop way placings links order holders₀ now₀ moved₀ i₀ holders now moved i = placings - i
+μ-loop way placings links order holders₀ limits now₀ moved₀ i₀ holders now moved i = placings - i
 
 loop-holds : tie.Need-loop-holds Inv-loop μ-loop
 loop-holds c = (places-start _ _, search needs)

@@ -22,7 +22,7 @@ unfolding callRefusal conditions soundState
 returns c = list-refused _ _ (λ (s : State). s .links) (unsound-number _ (c .before .is-sound .ensures) (not-true _ (c .if1 .taken))) (λ z. omega arith)
 
 of-link-requires : tie.Need-of-link-requires
-of-link-requires c κs = checked _ _ _ _ _ _ _ (c .before .before .is-sound .ensures) (c .before .if1 .left) .links-long
+of-link-requires c κs = checked _ _ _ _ _ _ _ _ (c .before .before .is-sound .ensures) (c .before .if1 .left) .links-long
 
 same-length-2 : tie.Need-same-length-2
 same-length-2 c = search needs
@@ -53,8 +53,8 @@ mul-links-2 c = search needs
 slice-write-links-2 : tie.Need-slice-write-links-2
 slice-write-links-2 c = simp length-set (omega (arith, link-allowed _ _ _ _ _ _ _ (c .before .of-link .ensures) (c .if2 .left) .6))
 
-add-t23 : tie.Need-add-t23
-add-t23 c = let sound = checked _ _ _ _ _ _ _ (c .before .before .before .before .is-sound .ensures) (c .before .before .before .if1 .left) in omega (arith, sound .few-links)
+add-t24 : tie.Need-add-t24
+add-t24 c = let sound = checked _ _ _ _ _ _ _ _ (c .before .before .before .before .is-sound .ensures) (c .before .before .before .if1 .left) in omega (arith, sound .few-links)
 
 same-length-3 : tie.Need-same-length-3
 same-length-3 c = search needs
@@ -81,6 +81,6 @@ link-spec =
     add-links
     mul-links-2
     slice-write-links-2
-    add-t23
+    add-t24
     same-length-3
     returns-3)

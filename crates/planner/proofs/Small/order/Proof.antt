@@ -20,7 +20,7 @@ unfolding callRefusal conditions soundState
 returns c = list-refused _ _ (λ (s : State). s .order) (unsound-number _ (c .before .is-sound .ensures) (not-true _ (c .if1 .taken))) (λ z. omega arith)
 
 of-order-requires : tie.Need-of-order-requires
-of-order-requires c κs = checked _ _ _ _ _ _ _ (c .before .is-sound .ensures) (c .if1 .left) .few
+of-order-requires c κs = checked _ _ _ _ _ _ _ _ (c .before .is-sound .ensures) (c .if1 .left) .few
 
 same-length-2 : tie.Need-same-length-2
 same-length-2 c = search needs
@@ -32,7 +32,7 @@ returns-2 c = let test = c .before .before in
 
 with-list-requires : tie.Need-with-list-requires
 with-list-requires c κs = let test = c .before .before .before in
-    let sound = checked _ _ _ _ _ _ _ (test .before .is-sound .ensures) (test .if1 .left) in
+    let sound = checked _ _ _ _ _ _ _ _ (test .before .is-sound .ensures) (test .if1 .left) in
     omega (arith, sound .order-long, order-allowed _ _ _ (c .before .before .of-order .ensures) (c .before .if2 .left) .1)
 
 same-length-3 : tie.Need-same-length-3

@@ -3,7 +3,7 @@ use mathlib.Core.Path.{sym, refl}
 use borrow.Author.Tests.{not-true, not-false}
 use lib.Seq.{length-take-le}
 use Rattle.packing.specs.Plant.{firstLinks}
-use Rattle.planner.specs.State.{soundState}
+use Rattle.planner.specs.State.{limitOf, soundState}
 use Rattle.planner.specs.Calls.{conditions, callRefusal, changed}
 use Rattle.planner.proofs.Conditions.{unsound-number, sound-number, place-full, place-next}
 use Rattle.planner.proofs.Outcomes.{place-refused, place-accepted}
@@ -35,9 +35,6 @@ cast-end c = search needs
 mul-end : tie.Need-mul-end
 mul-end c = search needs
 
-bytes-requires : tie.Need-bytes-requires
-bytes-requires c κs = search needs
-
 cast-search-by : tie.Need-cast-search-by
 cast-search-by c = search needs
 
@@ -45,33 +42,30 @@ mul-search-by : tie.Need-mul-search-by
 mul-search-by c = search needs
 
 shared-slice-read-search-by : tie.Need-shared-slice-read-search-by
-shared-slice-read-search-by c = let test = c .before .before in
-    let sound = checked _ _ _ _ _ _ _ (test .before .before .is-sound .ensures) (test .before .if1 .left) in omega (arith, sound .placed, sound .order-long, test .if2 .left)
+shared-slice-read-search-by c = let test = c .before in
+    let sound = checked _ _ _ _ _ _ _ _ (test .before .before .is-sound .ensures) (test .before .if1 .left) in omega (arith, sound .placed, sound .order-long, test .if2 .left)
 
 slice-aggregate-search-by : tie.Need-slice-aggregate-search-by
-slice-aggregate-search-by c = search needs
-
-slice-aggregate-search-by-2 : tie.Need-slice-aggregate-search-by-2
-slice-aggregate-search-by-2 c = let test = c .before .before .before .before in
-    sym (length-take-le _ _ (checked _ _ _ _ _ _ _ (test .before .before .is-sound .ensures) (test .before .if1 .left) .links-long))
+slice-aggregate-search-by c = let test = c .before .before in
+    sym (length-take-le _ _ (checked _ _ _ _ _ _ _ _ (test .before .before .is-sound .ensures) (test .before .if1 .left) .links-long))
 
 search-by-requires : tie.Need-search-by-requires
 search-by-requires c κs = search needs
 
-add-t21 : tie.Need-add-t21
-add-t21 c = let test = c .before .before .before .before .before .before .before .before in
-    let sound = checked _ _ _ _ _ _ _ (test .before .before .is-sound .ensures) (test .before .if1 .left) in omega (arith, sound .placed, sound .few, test .if2 .left)
+add-t20 : tie.Need-add-t20
+add-t20 c = let test = c .before .before .before .before .before .before in
+    let sound = checked _ _ _ _ _ _ _ _ (test .before .before .is-sound .ensures) (test .before .if1 .left) in omega (arith, sound .placed, sound .few, test .if2 .left)
 
 same-length-3 : tie.Need-same-length-3
 same-length-3 c = search needs
 
 returns-3 : tie.Need-returns-3
-unfolding callRefusal conditions soundState changed firstLinks
-returns-3 c = let test = c .before .before .before .before .before .before .before .before in
-    let sound = checked _ _ _ _ _ _ _ (test .before .before .is-sound .ensures) (test .before .if1 .left) in
+unfolding callRefusal conditions soundState changed firstLinks limitOf
+returns-3 c = let test = c .before .before .before .before .before .before in
+    let sound = checked _ _ _ _ _ _ _ _ (test .before .before .is-sound .ensures) (test .before .if1 .left) in
     place-accepted _ _ (sound-number (test .before .before .is-sound .ensures) (not-false _ (test .before .if1 .left)) (place-next _ _ (test .if2 .left))) refl
-    (next-placed _ sound _ _ (test .if2 .left) (c .before .before .before .before .before .before .before .bytes .ensures) (c .before .before .search-by .ensures .1))
-    (next-moved _ sound _ _ (test .if2 .left) (c .before .before .before .before .before .before .before .bytes .ensures) (c .before .before .search-by .ensures .0))
+    (next-placed _ sound _ (test .if2 .left) (c .before .before .search-by .ensures .1))
+    (next-moved _ sound _ (test .if2 .left) (c .before .before .search-by .ensures .0))
 
 pub place-by-spec : {M : Type 1} → statement M
 place-by-spec =
@@ -84,13 +78,11 @@ place-by-spec =
     returns-2
     cast-end
     mul-end
-    bytes-requires
     cast-search-by
     mul-search-by
     shared-slice-read-search-by
     slice-aggregate-search-by
-    slice-aggregate-search-by-2
     search-by-requires
-    add-t21
+    add-t20
     same-length-3
     returns-3)

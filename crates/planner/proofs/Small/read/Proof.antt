@@ -45,7 +45,7 @@ leaders-requires c κs = search needs
 
 slice-aggregate-choke-set : tie.Need-slice-aggregate-choke-set
 slice-aggregate-choke-set c = let test = c .before .before .before .before .before .before .before .before .before in
-    sym (length-take-le _ _ (checked _ _ _ _ _ _ _ (test .before .is-sound .ensures) (test .if1 .left) .links-long))
+    sym (length-take-le _ _ (checked _ _ _ _ _ _ _ _ (test .before .is-sound .ensures) (test .if1 .left) .links-long))
 
 choke-set-requires : tie.Need-choke-set-requires
 choke-set-requires c κs = search needs
@@ -61,7 +61,7 @@ unfolding callRefusal conditions soundState firstLinks written
 returns-3 c = let led = c .before .before .before .before .before .before .before in
     let asked = led .before .before .before in
     let test = asked .before .before .before in
-    let sound = checked _ _ _ _ _ _ _ (test .before .is-sound .ensures) (test .if1 .left) in
+    let sound = checked _ _ _ _ _ _ _ _ (test .before .is-sound .ensures) (test .if1 .left) in
     let allowed = read-allowed _ _ _ (sym (asked .of-read .ensures) ∙ led .before .before .if2 .left) in
     read-accepted _ _ _ (sound-number (test .before .is-sound .ensures) (not-false _ (test .if1 .left)) (asked .of-read .ensures)) (led .before .before .if2 .left) (leaders-placed _ sound _ (allowed .0) (led .leaders .ensures .1))
     (choke-placed _ sound _ (allowed .1) (c .before .before .choke-set .ensures .1))

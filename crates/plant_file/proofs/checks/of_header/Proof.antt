@@ -1,5 +1,5 @@
 -- Each return rewrites by the tests that led there.
-use borrow.Author.Tests.{lt-ltb, le-ltb, eq-eqb, ne-eqb}
+use borrow.Author.Tests.{lt-ltb, le-ltb}
 use Rattle.plant_file.specs.Pre.{headerRefusal}
 use borrow.Author.Needs.{needs}
 use Rattle.plant_file.proofs.checks.of_header.Statement.{statement}
@@ -16,19 +16,22 @@ returns-2 : tie.Need-returns-2
 unfolding headerRefusal
 returns-2 c = simp (le-ltb _ _ (c .before .before .if1 .left), ← c .before .begins-plt .ensures, c .if2 .taken)
 
-number-at-requires : tie.Need-number-at-requires
-number-at-requires c κs = search needs
+version-requires : tie.Need-version-requires
+version-requires c κs = search needs
+
+is-known-requires : tie.Need-is-known-requires
+is-known-requires c κs = search needs
 
 returns-3 : tie.Need-returns-3
 unfolding headerRefusal
-returns-3 c = simp (le-ltb _ _ (c .before .before .before .before .if1 .left), ← c .before .before .before .begins-plt .ensures, c .before .before .if2 .left, ← c .before .number-at .ensures, ne-eqb _ _ (c .if3 .taken))
+returns-3 c = simp (le-ltb _ _ (c .before .before .before .before .before .if1 .left), ← c .before .before .before .before .begins-plt .ensures, c .before .before .before .if2 .left, ← c .before .before .version .ensures, ← c .before .is-known .ensures, c .if3 .taken)
 
 of-sizes-requires : tie.Need-of-sizes-requires
 of-sizes-requires c κs = search needs
 
 returns-4 : tie.Need-returns-4
 unfolding headerRefusal
-returns-4 c = simp (le-ltb _ _ (c .before .before .before .before .before .if1 .left), ← c .before .before .before .before .begins-plt .ensures, c .before .before .before .if2 .left, ← c .before .before .number-at .ensures, eq-eqb _ _ (c .before .if3 .left)) (c .of-sizes .ensures)
+returns-4 c = simp (le-ltb _ _ (c .before .before .before .before .before .before .if1 .left), ← c .before .before .before .before .before .begins-plt .ensures, c .before .before .before .before .if2 .left, ← c .before .before .before .version .ensures, ← c .before .before .is-known .ensures, c .before .if3 .left) (c .of-sizes .ensures)
 
 pub of-header-spec : {M : Type 1} → statement M
 of-header-spec =
@@ -37,7 +40,8 @@ of-header-spec =
     returns
     begins-plt-requires
     returns-2
-    number-at-requires
+    version-requires
+    is-known-requires
     returns-3
     of-sizes-requires
     returns-4)

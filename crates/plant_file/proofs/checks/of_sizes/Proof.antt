@@ -30,31 +30,16 @@ returns-4 : tie.Need-returns-4
 unfolding sizesRefusal
 returns-4 c = simp (← c .before .before .before .before .before .before .gateways .ensures, le-ltb _ _ (c .before .before .before .before .before .if1 .left), ← c .before .before .before .before .limit .ensures, le-ltb _ _ (c .before .before .before .if2 .left), le-ltb _ _ (c .before .before .if3 .left), ← c .before .link-count .ensures, lt-ltb _ _ (c .if4 .taken))
 
-cast-if5 : tie.Need-cast-if5
-cast-if5 c = search needs
-
-mul-if5 : tie.Need-mul-if5
-mul-if5 c = search needs
-
-add-if5 : tie.Need-add-if5
-add-if5 c = search needs
-
-cast-if5-2 : tie.Need-cast-if5-2
-cast-if5-2 c = search needs
-
-mul-if5-2 : tie.Need-mul-if5-2
-mul-if5-2 c = search needs
-
-add-if5-2 : tie.Need-add-if5-2
-add-if5-2 c = search needs
+length-given-requires : tie.Need-length-given-requires
+length-given-requires c κs = search needs
 
 returns-5 : tie.Need-returns-5
 unfolding sizesRefusal
-returns-5 c = simp (← c .before .before .before .before .before .before .before .gateways .ensures, le-ltb _ _ (c .before .before .before .before .before .before .if1 .left), ← c .before .before .before .before .before .limit .ensures, le-ltb _ _ (c .before .before .before .before .if2 .left), le-ltb _ _ (c .before .before .before .if3 .left), ← c .before .before .link-count .ensures, le-ltb _ _ (c .before .if4 .left), ne-eqb _ _ (c .if5 .taken))
+returns-5 c = simp (← c .before .before .before .before .before .before .before .before .gateways .ensures, le-ltb _ _ (c .before .before .before .before .before .before .before .if1 .left), ← c .before .before .before .before .before .before .limit .ensures, le-ltb _ _ (c .before .before .before .before .before .if2 .left), le-ltb _ _ (c .before .before .before .before .if3 .left), ← c .before .before .before .link-count .ensures, le-ltb _ _ (c .before .before .if4 .left), ← c .before .length-given .ensures, ne-eqb _ _ (c .if5 .taken))
 
 returns-6 : tie.Need-returns-6
 unfolding sizesRefusal
-returns-6 c = simp (← c .before .before .before .before .before .before .before .gateways .ensures, le-ltb _ _ (c .before .before .before .before .before .before .if1 .left), ← c .before .before .before .before .before .limit .ensures, le-ltb _ _ (c .before .before .before .before .if2 .left), le-ltb _ _ (c .before .before .before .if3 .left), ← c .before .before .link-count .ensures, le-ltb _ _ (c .before .if4 .left), eq-eqb _ _ (c .if5 .left))
+returns-6 c = simp (← c .before .before .before .before .before .before .before .before .gateways .ensures, le-ltb _ _ (c .before .before .before .before .before .before .before .if1 .left), ← c .before .before .before .before .before .before .limit .ensures, le-ltb _ _ (c .before .before .before .before .before .if2 .left), le-ltb _ _ (c .before .before .before .before .if3 .left), ← c .before .before .before .link-count .ensures, le-ltb _ _ (c .before .before .if4 .left), ← c .before .length-given .ensures, eq-eqb _ _ (c .if5 .left))
 
 pub of-sizes-spec : {M : Type 1} → statement M
 of-sizes-spec =
@@ -67,11 +52,6 @@ of-sizes-spec =
     returns-3
     link-count-requires
     returns-4
-    cast-if5
-    mul-if5
-    add-if5
-    cast-if5-2
-    mul-if5-2
-    add-if5-2
+    length-given-requires
     returns-5
     returns-6)

@@ -3,29 +3,29 @@ use borrow.Author.Needs.{needs}
 use Prim.Native.Nat.{_≤_, _-_}
 use mathlib.Core.Path.{_≡_}
 use lib.ListN.{length}
-use Rattle.edges.proofs.reading.widen.Statement.{statement}
-use Rattle.edges.proofs.reading.widen.Tie as tie
+use Rattle.edges.proofs.parts.widen.Statement.{statement}
+use Rattle.edges.proofs.parts.widen.Tie as tie
 
 abbrev Inv-loop : tie.InvT-loop
-Inv-loop bytes numbers₀ i₀ numbers i = (i ≤ 5) × (length numbers ≡ length numbers₀)
+Inv-loop bytes numbers₀ i₀ numbers i = (i ≤ length numbers₀) × (length numbers ≡ length numbers₀)
 
 abbrev μ-loop : tie.MeasureT-loop
-μ-loop bytes numbers₀ i₀ numbers i = 5 - i
+μ-loop bytes numbers₀ i₀ numbers i = length numbers₀ - i
 
 loop-holds : tie.Need-loop-holds Inv-loop μ-loop
 loop-holds c = search needs
 
-cast-byte : tie.Need-cast-byte Inv-loop μ-loop
-cast-byte c = search needs
-
 byte-requires : tie.Need-byte-requires Inv-loop μ-loop
 byte-requires c κs = search needs
 
-cast-put : tie.Need-cast-put Inv-loop μ-loop
-cast-put c = search needs
+cast-numbers : tie.Need-cast-numbers Inv-loop μ-loop
+cast-numbers c = search needs
 
-put-requires : tie.Need-put-requires Inv-loop μ-loop
-put-requires c κs = search needs
+mul-numbers : tie.Need-mul-numbers Inv-loop μ-loop
+mul-numbers c = search needs
+
+slice-write-numbers : tie.Need-slice-write-numbers Inv-loop μ-loop
+slice-write-numbers c = search needs
 
 add-i : tie.Need-add-i Inv-loop μ-loop
 add-i c = search needs
@@ -43,4 +43,18 @@ returns : tie.Need-returns Inv-loop μ-loop
 returns c = search needs
 
 pub widen-spec : {M : Type 1} → statement M
-widen-spec = tie.close (tie.spec Inv-loop μ-loop loop-holds cast-byte byte-requires cast-put put-requires add-i loop-less loop-again same-length returns)
+widen-spec =
+    tie.close
+    (tie.spec
+    Inv-loop
+    μ-loop
+    loop-holds
+    byte-requires
+    cast-numbers
+    mul-numbers
+    slice-write-numbers
+    add-i
+    loop-less
+    loop-again
+    same-length
+    returns)
