@@ -19,9 +19,10 @@ use Rattle.packing.proofs.Groupings.{Sym, Loopless}
 use Rattle.packing.proofs.Checks.{says-grouping, says-difference, difference-most, covered-alone, alone-below}
 use Rattle.packing.proofs.Below.{grouping-below}
 use Rattle.plant_file.specs.PlantFile.{fileN, fileLinks, fileLimit, fileRefusal}
+use Rattle.plant_file.specs.Limits.{LimitsInRange}
 use Rattle.plant_file.specs.FilePlant.{GroupingOf}
 use Rattle.plant_file.proofs.Accepted.{file-ends}
-use Rattle.plant_file.proofs.GatewayLimits.{file-limits-range}
+use Rattle.plant_file.proofs.GatewayLimits.{limits-in-range}
 use Rattle.checker.specs.Check.{inSet, aloneCount, leadersOff, chokeOff, listsRefusal, checkRefusal}
 use Rattle.checker.specs.Claim.{Accepted, AcceptsExactly, CoversMost, AcceptedCoversMost, Best, OneChokeList}
 
@@ -78,7 +79,8 @@ module _ (file : List ℕ) (z : fileRefusal file ≡ 0) where
   file-loopless x l = not-test (linked (fileLinks file) x x) (λ e. file-ends file z x x e .2 refl)
 
   file-limits : (u : ℕ) → u < fileN file → 1 ≤ fileLimit file u
-  file-limits u l = omega (arith, file-limits-range file z u l .0)
+  unfolding LimitsInRange
+  file-limits u l = omega (arith, limits-in-range file z u l .0)
 
 pub accepted-covers-most : AcceptedCoversMost
 unfolding AcceptedCoversMost aloneCount

@@ -8,9 +8,9 @@ use native.Mathlib.Nat.{not-suc-le-zero, le-antisymm, add-zero, add-suc, suc-add
 use native.Mathlib.Numerals.{add-one}
 use native.Mathlib.Omega.{arith}
 use lib.Dec.{eqb}
-use lib.ListN.{length, getD, set, take, drop, replicate, length-append, length-drop, length-set, replicate-append-replicate, List·getD-append, drop-of-length-le}
-use lib.Seq.{getD-at, drop-cons, set-at, take-at, append-snoc, ext-getD, sets, drop-append-seam, getD-append-seam}
-use borrow.Author.Tests.{eqb-true, eq-eqb}
+use lib.ListN.{length, getD, set, take, drop, replicate, length-append, length-drop, length-set, length-replicate, getD-replicate, replicate-append-replicate, List·getD-append, drop-of-length-le}
+use lib.Seq.{getD-at, getD-set-same, getD-set-other, drop-cons, set-at, take-at, append-snoc, ext-getD, sets, drop-append-seam, getD-append-seam}
+use borrow.Author.Tests.{eqb-true, eqb-false, eq-eqb}
 use Rattle.packing.specs.Count.{pick, sum, count}
 use Rattle.packing.specs.Lists.{listOf, listWhere, written, Ascending, memberOf, Lists}
 use Rattle.packing.specs.Plant.{at}
@@ -182,6 +182,14 @@ module _ (n : ℕ) (front lent : List ℕ) (long : length front ≡ n) where
 -- .. where the front is a list of values
 pub listed-at : (n : ℕ) (f : ℕ → ℕ) (lent : List ℕ) (i : ℕ) → i < n → getD (written n (listOf n f) lent) i 0 ≡ f i
 listed-at n f lent i l = written-at n (listOf n f) lent (listOf-length n f) i l ∙ listOf-at n f i l
+
+-- .. and where it is one value n times
+pub repeated-at : (n x : ℕ) (lent : List ℕ) (i : ℕ) → i < n → getD (written n (replicate n x) lent) i 0 ≡ x
+repeated-at n x lent i l = written-at n (replicate n x) lent (length-replicate n x) i l ∙ getD-replicate n i x 0 l
+
+-- each entry once one is replaced
+pub replaced-at : (l : List ℕ) (u x v : ℕ) → v < length l → getD (set l u x) v 0 ≡ cond (eqb v u) x (getD l v 0)
+replaced-at l u x v h = by-bool (eqb v u) (λ e. rw (e, ← eqb-true v u e) (getD-set-same l v x 0 h)) (λ e. rw e (getD-set-other l u v x 0 (eqb-false v u e)))
 
 -- one list set over another from a place on, and a second behind it, are both set together
 pub sets-append : (l : List ℕ) (i : ℕ) (a b : List ℕ) → sets (sets l i a) (i + length a) b ≡ sets l i (a ++ b)

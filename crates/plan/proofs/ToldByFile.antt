@@ -23,11 +23,12 @@ use Rattle.packing.proofs.Refusals.{refuse-none, first-none}
 use Rattle.plant_file.specs.PlantFile.{fileVersion, fileN, fileT, fileM, fileLinks, fileOrder, fileLimit, fileLimits, linksRefusal, fileRefusal}
 use Rattle.sound.specs.Sound.{isLimit}
 use Rattle.sound.proofs.Meaning.{means-limit}
+use Rattle.plant_file.specs.Limits.{LimitsInRange}
 use Rattle.plant_file.specs.Pre.{headerRefusal}
 use Rattle.plant_file.proofs.LinksByIndex.{links-long, order-long}
 use Rattle.plant_file.proofs.Refusing.{bodyRefusal, file-parts}
 use Rattle.plant_file.proofs.Versions.{limit-other}
-use Rattle.plant_file.proofs.GatewayLimits.{limits-long, limits-at, file-limits-range}
+use Rattle.plant_file.proofs.GatewayLimits.{limits-long, limits-at, limits-in-range}
 use Rattle.plant_file.proofs.Accepted.{LinkAllowed, file-allowed, file-link-allowed}
 use Rattle.plan.specs.Plan.{limitsToSet, callsBy}
 
@@ -80,12 +81,13 @@ set-few : (file : List ℕ) → length (limitsToSet file) ≤ fileN file
 set-few file = by-bool (eqb (fileVersion file) 2) (λ e. rw (set-each file e, limits-long file) (omega arith)) (λ e. rw (set-none file e) (omega arith))
 
 set-range : (file : List ℕ) → fileRefusal file ≡ 0 → (i : ℕ) → i < length (limitsToSet file) → isLimit (at (limitsToSet file) i) ≡ true
+unfolding LimitsInRange
 set-range file z i h = by-bool (eqb (fileVersion file) 2) (λ e. two e) (λ e. absurd (not-suc-le-zero (rw (set-none file e) at h)))
   where
     two : eqb (fileVersion file) 2 ≡ true → isLimit (at (limitsToSet file) i) ≡ true
     two e =
         let below : i < fileN file = rw (set-each file e, limits-long file) at h in
-        let (low, high) = file-limits-range file z i below in rw (set-each file e, limits-at file i below) (means-limit (fileLimit file i) low high)
+        let (low, high) = limits-in-range file z i below in rw (set-each file e, limits-at file i below) (means-limit (fileLimit file i) low high)
 
 module _ (file : List ℕ) (room : ℕ) where
   -- after i links; after the order, with any limits; after k placings

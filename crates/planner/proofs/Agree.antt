@@ -1,18 +1,15 @@
 -- A record run through a list of calls agrees with what the calls tell, and is one made by accepted calls.
 use Prim.Native.Nat.{ℕ, zero, suc, _+_, _*_, _<_, _≤_}
 use mathlib.Core.Path.{_≡_, refl, sym, ap, _∙_, subst, subst⁻¹}
-use mathlib.Core.Bool.{true}
+use mathlib.Core.Bool.{true, cond}
 use mathlib.Core.List.{List, [], _∷_, _++_}
 use native.Mathlib.Omega.{arith}
 use lib.Dec.{eqb}
-use lib.ListN.{length, length-set, replicate, length-replicate, getD-replicate}
-use lib.Seq.{getD-set-same, getD-set-other}
-use borrow.Author.Tests.{eqb-true, eqb-false}
+use lib.ListN.{length, length-set}
 use Rattle.packing.specs.Orders.{upTo}
 use Rattle.packing.specs.Plant.{at, common, firstLinks}
 use Rattle.packing.specs.Refusals.{byNumber}
-use Rattle.packing.proofs.Tests.{by-bool}
-use Rattle.packing.proofs.Lists.{listOf-at, written-at, listed-at}
+use Rattle.packing.proofs.Lists.{listOf-at, written-at, listed-at, repeated-at, replaced-at}
 use Rattle.sound.proofs.Orders.{order-right}
 use Rattle.planner.specs.declared.Small.{Small}
 use Rattle.planner.specs.Refusals.{openRefusal}
@@ -84,7 +81,7 @@ module _ (p : Told) (ls os hs ts : List ℕ) (a : Agrees p (stateTold p ls os hs
       let f = limit-allowed (p .n) (p .placed) u limit refl z in
       record {
         small = refl;
-        limits = λ v l. by-bool (eqb v u) (λ e. rw (e, eqb-true v u e) (getD-set-same ts u limit 0 (omega (arith, a .made .sound .limits-long, f .1)))) (λ e. rw e (getD-set-other ts u v limit 0 (eqb-false v u e) ∙ a .limits v l));
+        limits = λ v l. replaced-at ts u limit v (omega (arith, a .made .sound .limits-long)) ∙ ap (λ (x : ℕ). cond (eqb v u) limit x) (a .limits v l);
         links = a .links;
         room = a .room;
         order = a .order;
@@ -137,7 +134,7 @@ open-agrees n t ls os hs ts z =
     rw z
     (record {
       small = refl;
-      limits = λ u l. written-at n (replicate n t) ts (length-replicate n t) u l ∙ getD-replicate n u t 0 l;
+      limits = repeated-at n t ts;
       links = refl;
       room = refl;
       order = λ i l. listed-at n (λ j. j) os i l ∙ sym (listOf-at n (λ j. j) i l);

@@ -4,7 +4,7 @@ use mathlib.Core.Path.{_≡_, refl, sym, _∙_}
 use mathlib.Core.Bool.{Bool, not}
 use mathlib.Core.List.{List}
 use native.Mathlib.Omega.{arith}
-use lib.ListN.{length, drop, set, replicate, length-replicate, getD-replicate, length-set}
+use lib.ListN.{length, drop, set, replicate, length-replicate, length-set}
 use lib.Seq.{drop-set-lt, getD-set-same, getD-set-other}
 use borrow.Author.Tests.{not-false}
 use Rattle.packing.specs.Lists.{listOf, written}
@@ -14,7 +14,7 @@ use Rattle.packing.specs.Refusals.{byNumber}
 use Rattle.packing.specs.Pairs.{SameGroups}
 use Rattle.packing.proofs.Below.{leads-below, same-itself, same-below}
 use Rattle.packing.proofs.Prefixes.{order-place}
-use Rattle.packing.proofs.Lists.{listOf-length, written-at, written-past, listed-at}
+use Rattle.packing.proofs.Lists.{listOf-length, written-at, written-past, listed-at, repeated-at}
 use Rattle.packing.proofs.Placing.{PlacedIn}
 use Rattle.packing.proofs.Turns.{says-true}
 use Rattle.packing.proofs.Refusals.{by-number, refuse-none, refused}
@@ -45,11 +45,11 @@ open-gives n t ls os hs ts z =
       unlinked = refl;
       unplaced = refl;
       links = refl;
-      order = λ i l. listed-at n (λ j. j) os i l;
+      order = listed-at n (λ j. j) os;
       orderPast = written-past n (listOf n (λ j. j)) os (listOf-length n (λ j. j));
-      holders = λ v l. written-at n (replicate n NONE) hs (length-replicate n NONE) v l ∙ getD-replicate n v NONE 0 l;
+      holders = repeated-at n NONE hs;
       holdersPast = written-past n (replicate n NONE) hs (length-replicate n NONE);
-      limits = λ v l. written-at n (replicate n t) ts (length-replicate n t) v l ∙ getD-replicate n v t 0 l;
+      limits = repeated-at n t ts;
       limitsPast = written-past n (replicate n t) ts (length-replicate n t);
     })
 
@@ -199,13 +199,12 @@ unfolding HeldCovered
 held-covered s f = let sound = facts-sound s f in (sound-grouping sound, leaders-cover sound)
 
 pub read-writes : ReadWrites
-unfolding ReadWrites call callRefusal readLeaders readChoke
-read-writes s leaders choke z =
-    let sound = not-false (soundState s) (refuse-none (not (soundState s)) 26 (conditions s (read leaders choke)) (omega arith) z .0) in (
-      says-sound s .holds sound,
-      λ v l. rw z (listed-at (s .small .n) (leaderList (s .small .n) (s .order) (s .holders)) leaders v l),
-      λ v l. rw z (listed-at (s .small .n) (chokeByte (s .small .n) (linksOf s) (s .holders)) choke v l),
-    )
+unfolding ReadWrites call readLeaders readChoke
+read-writes s leaders choke z = (
+  sound-says s (accepted-sound s (read leaders choke) z .0),
+  λ v l. rw z (listed-at (s .small .n) (leaderList (s .small .n) (s .order) (s .holders)) leaders v l),
+  λ v l. rw z (listed-at (s .small .n) (chokeByte (s .small .n) (linksOf s) (s .holders)) choke v l),
+)
 
 pub read-earlier-leads : ReadEarlierLeads
 unfolding ReadEarlierLeads ReadWrites

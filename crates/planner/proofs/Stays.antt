@@ -2,26 +2,26 @@
 use Prim.Native.Nat.{ℕ, suc, _+_, _*_, _<_, _≤_}
 use mathlib.Core.Path.{_≡_, sym, ap, _∙_}
 use mathlib.Core.Logic.{_⊎_, inl, inr, ⊎-elim}
-use mathlib.Core.Bool.{Bool, false, _||_, false≢true}
+use mathlib.Core.Bool.{Bool, true, false, _||_, false≢true}
 use mathlib.Core.List.{List, [], _∷_, _++_, append-assoc}
 use native.Mathlib.Numerals.{add-one}
 use native.Mathlib.Omega.{arith}
 use lib.Dec.{eqb}
-use lib.ListN.{length, set, take, replicate, length-set, length-replicate, getD-replicate}
-use lib.Seq.{length-take-le, take-suc-set, getD-set-same, getD-set-other}
-use borrow.Author.Tests.{eqb-true, eqb-false, ne-eqb, lt-ltb}
+use lib.ListN.{length, set, take, replicate, length-set, length-replicate}
+use lib.Seq.{length-take-le, take-suc-set}
+use borrow.Author.Tests.{ne-eqb, lt-ltb}
 use Rattle.packing.specs.Lists.{listOf, written}
 use Rattle.packing.specs.Orders.{upTo}
 use Rattle.packing.specs.Plant.{GATEWAYS, LINKS, LOWEST, HIGHEST, NONE, at, firstLinks, linked, joins}
 use Rattle.packing.specs.Holders.{held, holds, Feasible}
 use Rattle.packing.proofs.Tests.{by-bool, clash, or-cases, or-none}
 use Rattle.packing.proofs.Sums.{count-none}
-use Rattle.packing.proofs.Lists.{listOf-length, written-length, written-at, listed-at}
+use Rattle.packing.proofs.Lists.{listOf-length, written-length, written-at, listed-at, repeated-at, replaced-at}
 use Rattle.packing.proofs.Links.{linked-append}
 use Rattle.packing.proofs.Prefixes.{IsOrder, order-place}
 use Rattle.packing.proofs.Placing.{PlacedIn}
 use Rattle.sound.proofs.Meaning.{joined-ends}
-use Rattle.planner.specs.State.{State, withSmall, withHolders, linksOf, limitOf}
+use Rattle.planner.specs.State.{State, stateOf, withSmall, withHolders, linksOf, limitOf}
 use Rattle.planner.specs.declared.Way.{Way}
 use Rattle.planner.specs.Calls.{opened, onePlaced, link, order, setLimit, placeBy, changed}
 use Rattle.planner.specs.Kept.{heldIn}
@@ -51,7 +51,7 @@ sound-open n t ls os hs ts few low high long-order long-holders long-limits =
       order-long = omega (arith, written-length n (listOf n (λ i. i)) os (listOf-length n (λ i. i)) long-order);
       holders-long = omega (arith, written-length n (replicate n NONE) hs (length-replicate n NONE) long-holders);
       limits-long = omega (arith, written-length n (replicate n t) ts (length-replicate n t) long-limits);
-      limits = λ u l. let each = written-at n (replicate n t) ts (length-replicate n t) u l ∙ getD-replicate n u t 0 l in (omega (arith, each), omega (arith, each));
+      limits = λ u l. rw (repeated-at n t ts u l) (low, high);
       ends = λ x y e. absurd (false≢true e);
       order = record { below = λ i l. omega (arith, stands i l); once = λ i j l p e. omega (arith, stands i l, stands j p) };
       range = λ v l. inl (none v l);
@@ -63,7 +63,7 @@ sound-open n t ls os hs ts few low high long-order long-holders long-limits =
     stands i l = listed-at n (λ j. j) os i l
 
     none : (v : ℕ) → v < n → at (written n (replicate n NONE) hs) v ≡ NONE
-    none v l = written-at n (replicate n NONE) hs (length-replicate n NONE) v l ∙ getD-replicate n v NONE 0 l
+    none = repeated-at n NONE hs
 
 length-first : (m : ℕ) (ls : List ℕ) → 2 * m ≤ length ls → length (firstLinks m ls) ≡ 2 * m
 unfolding firstLinks
@@ -91,27 +91,38 @@ module _ {s : State} (sound : SoundState s) where
   none-held : s .small .k ≡ 0 → (v : ℕ) → v < s .small .n → at (s .holders) v ≡ NONE
   none-held z v l = let p = order-place (sound .order) v l in rw (p .2) at (sound .free (p .0) (omega arith) (p .1))
 
-  -- an accepted link
-  pub sound-link : (a b : ℕ) → s .small .k ≡ 0 → a < s .small .n → b < s .small .n → (a ≡ b → ⊥) → (s .small .m ≡ LINKS → ⊥) → 2 * s .small .m + 2 ≤ length (s .links) → SoundState (changed s (link a b))
-  unfolding changed limitOf
-  sound-link a b z below-a below-b apart few-more room =
+  -- Before the first placing links, order and limits may be any that a sound record may have: nobody is held, so the holders are along any links and within any limits.
+  sound-unplaced : s .small .k ≡ 0 → (m : ℕ) (ls os ts : List ℕ) → m ≤ LINKS → 2 * m ≤ length ls
+      → ((x y : ℕ) → linked (firstLinks m ls) x y ≡ true → (x < s .small .n) × (y < s .small .n) × (x ≡ y → ⊥))
+      → s .small .n ≤ length os → IsOrder (s .small .n) (at os)
+      → s .small .n ≤ length ts → ((u : ℕ) → u < s .small .n → (LOWEST ≤ at ts u) × (at ts u ≤ HIGHEST))
+      → SoundState (stateOf (record { n = s .small .n; t = s .small .t; m = m; k = s .small .k }) ls os (s .holders) ts)
+  sound-unplaced z m ls os ts few-links links-long ends order-long right limits-long limits =
       record {
         few = sound .few;
         low = sound .low;
         high = sound .high;
-        few-links = omega (arith, sound .few-links);
+        few-links = few-links;
         placed = sound .placed;
-        links-long = simp length-set (omega arith);
-        order-long = sound .order-long;
+        links-long = links-long;
+        order-long = order-long;
         holders-long = sound .holders-long;
-        limits-long = sound .limits-long;
-        limits = sound .limits;
-        ends = λ x y e. ⊎-elim (sound .ends x y) (joined-ends (s .small .n) a b below-a below-b apart x y) (or-cases (linked (linksOf s) x y) (joins a b x y) (sym (appended x y) ∙ e));
-        order = sound .order;
+        limits-long = limits-long;
+        limits = limits;
+        ends = ends;
+        order = right;
         range = sound .range;
-        feasible = unheld-feasible (s .small .n) (limitOf s) (linked (linksOf (changed s (link a b)))) (s .holders) (sound .few) (none-held z);
-        free = sound .free;
+        feasible = unheld-feasible (s .small .n) (at ts) (linked (firstLinks m ls)) (s .holders) (sound .few) (none-held z);
+        free = λ i p l. none-held z (at os i) (right .below i l);
       }
+
+  -- an accepted link
+  pub sound-link : (a b : ℕ) → s .small .k ≡ 0 → a < s .small .n → b < s .small .n → (a ≡ b → ⊥) → (s .small .m ≡ LINKS → ⊥) → 2 * s .small .m + 2 ≤ length (s .links) → SoundState (changed s (link a b))
+  unfolding changed
+  sound-link a b z below-a below-b apart few-more room =
+      sound-unplaced z (s .small .m + 1) (set (set (s .links) (2 * s .small .m) a) (2 * s .small .m + 1) b) (s .order) (s .limits) (omega (arith, sound .few-links)) (simp length-set (omega arith))
+      (λ x y e. ⊎-elim (sound .ends x y) (joined-ends (s .small .n) a b below-a below-b apart x y) (or-cases (linked (linksOf s) x y) (joins a b x y) (sym (appended x y) ∙ e)))
+      (sound .order-long) (sound .order) (sound .limits-long) (sound .limits)
     where
       appended : (x y : ℕ) → linked (linksOf (changed s (link a b))) x y ≡ (linked (linksOf s) x y || joins a b x y)
       appended x y =
@@ -121,54 +132,21 @@ module _ {s : State} (sound : SoundState s) where
   pub sound-order : (numbers : List ℕ) → s .small .k ≡ 0 → length numbers ≡ s .small .n → IsOrder (s .small .n) (at numbers) → SoundState (changed s (order numbers))
   unfolding changed
   sound-order numbers z long right =
-      record {
-        few = sound .few;
-        low = sound .low;
-        high = sound .high;
-        few-links = sound .few-links;
-        placed = sound .placed;
-        links-long = sound .links-long;
-        order-long = omega (arith, sound .order-long, written-length (s .small .n) numbers (s .order) long (sound .order-long));
-        holders-long = sound .holders-long;
-        limits-long = sound .limits-long;
-        limits = sound .limits;
-        ends = sound .ends;
-        order = record { below = λ i l. rw (same i l) (right .below i l); once = λ i j p q e. right .once i j p q (sym (same i p) ∙ e ∙ same j q) };
-        range = sound .range;
-        feasible = sound .feasible;
-        free = λ i p l. none-held z (at (written (s .small .n) numbers (s .order)) i) (rw (same i l) (right .below i l));
-      }
+      sound-unplaced z (s .small .m) (s .links) (written (s .small .n) numbers (s .order)) (s .limits) (sound .few-links) (sound .links-long) (sound .ends)
+      (omega (arith, sound .order-long, written-length (s .small .n) numbers (s .order) long (sound .order-long)))
+      (record { below = λ i l. rw (same i l) (right .below i l); once = λ i j p q e. right .once i j p q (sym (same i p) ∙ e ∙ same j q) })
+      (sound .limits-long) (sound .limits)
     where
       same : (i : ℕ) → i < s .small .n → at (written (s .small .n) numbers (s .order)) i ≡ at numbers i
       same = written-at (s .small .n) numbers (s .order) long
 
-  -- an accepted limit: nobody is held, so any limits are held to
+  -- an accepted limit
   pub sound-limit : (u limit : ℕ) → s .small .k ≡ 0 → LOWEST ≤ limit → limit ≤ HIGHEST → SoundState (changed s (setLimit u limit))
   unfolding changed
   sound-limit u limit z low high =
-      record {
-        few = sound .few;
-        low = sound .low;
-        high = sound .high;
-        few-links = sound .few-links;
-        placed = sound .placed;
-        links-long = sound .links-long;
-        order-long = sound .order-long;
-        holders-long = sound .holders-long;
-        limits-long = rw length-set (sound .limits-long);
-        limits = limits;
-        ends = sound .ends;
-        order = sound .order;
-        range = sound .range;
-        feasible = unheld-feasible (s .small .n) (at (set (s .limits) u limit)) (linked (linksOf s)) (s .holders) (sound .few) (none-held z);
-        free = sound .free;
-      }
-    where
-      limits : (v : ℕ) → v < s .small .n → (LOWEST ≤ at (set (s .limits) u limit) v) × (at (set (s .limits) u limit) v ≤ HIGHEST)
-      limits v l =
-          by-bool (eqb v u)
-          (λ e. rw (eqb-true v u e, getD-set-same (s .limits) u limit 0 (omega (arith, sound .limits-long, eqb-true v u e))) (low, high))
-          (λ e. rw (getD-set-other (s .limits) u v limit 0 (eqb-false v u e)) (sound .limits v l))
+      sound-unplaced z (s .small .m) (s .links) (s .order) (set (s .limits) u limit) (sound .few-links) (sound .links-long) (sound .ends) (sound .order-long) (sound .order)
+      (rw length-set (sound .limits-long))
+      (λ v l. rw (replaced-at (s .limits) u limit v (omega (arith, sound .limits-long))) (by-bool (eqb v u) (λ e. rw e (low, high)) (λ e. rw e (sound .limits v l))))
 
   module _ (next : s .small .k ≡ s .small .n → ⊥) where
     -- Any way of placing the next.

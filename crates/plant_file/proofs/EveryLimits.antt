@@ -5,11 +5,10 @@ use mathlib.Core.Logic.{inr}
 use mathlib.Core.List.{List, [], _∷_}
 use native.Mathlib.Omega.{arith}
 use lib.ListN.{length}
-use borrow.Author.Tests.{ne-eqb}
 use Rattle.packing.specs.Plant.{at}
-use Rattle.plant_file.specs.PlantFile.{effectiveLimit}
 use Rattle.plant_file.specs.Encode.{pairsOf}
 use Rattle.plant_file.specs.EveryPlant.{PairsInRange, EveryLimits}
+use Rattle.plant_file.proofs.GatewayLimits.{limit-written}
 use Rattle.plant_file.proofs.EveryPlant.{file-of-two}
 
 pairs-long : (l : List ℕ) → length (pairsOf l) ≡ 2 * length l
@@ -34,14 +33,9 @@ pairs-below (x ∷ l) h zero = omega arith
 pairs-below (x ∷ l) h (suc zero) = omega (arith, h 0 (omega arith))
 pairs-below (x ∷ l) h (suc (suc i)) = pairs-below l (λ v k. h (suc v) (omega arith)) i
 
--- a limit byte that is not 0 counts as written
-as-written : (t kind limit : ℕ) → 2 ≤ limit → effectiveLimit t kind limit ≡ limit
-unfolding effectiveLimit
-as-written t kind limit h = rw (ne-eqb limit 0 (λ e. omega arith))
-
 pub every-limits : EveryLimits
 unfolding EveryLimits
-every-limits n t m links order limits plant long range = file-of-two n t m links order plant (pairsOf limits) good (at limits) (λ v l. rw (pairs-limit limits v) (as-written t _ (at limits v) (range v l .0)))
+every-limits n t m links order limits plant long range = file-of-two n t m links order plant (pairsOf limits) good (at limits) (λ v l. rw (pairs-limit limits v) (limit-written t _ (at limits v) (λ e. omega (arith, range v l .0))))
   where
     good : PairsInRange n (pairsOf limits)
     good =

@@ -36,12 +36,17 @@ kinds-take t =
       sixteen = λ kind h k. rw (ne-eqb kind 0 (omega arith), le-ltb kind 32 (omega arith), le-ltb kind 128 (omega arith), le-ltb kind 192 (omega arith));
     }
 
+-- a limit byte that is not 0 counts as written
+pub limit-written : (t kind limit : ℕ) → (limit ≡ 0 → ⊥) → effectiveLimit t kind limit ≡ limit
+unfolding effectiveLimit
+limit-written t kind limit h = rw (ne-eqb limit 0 h)
+
 pub limit-said : (file : List ℕ) (v : ℕ) → LimitSaid file v
 unfolding effectiveLimit
 limit-said file v =
     record {
       one = λ e. limit-other file (is-one file e) v;
-      written = λ e low high. limit-two file (is-two file e) v ∙ rw (ne-eqb (limitByte file v) 0 (omega arith));
+      written = λ e low high. limit-two file (is-two file e) v ∙ limit-written (fileT file) (kindByte file v) (limitByte file v) (λ z. omega arith);
       byKind = λ e z. limit-two file (is-two file e) v ∙ rw z;
     }
 
@@ -79,9 +84,6 @@ said-range file r a v l =
     (λ e. rw (limit-two file e v) (pair-range (fileT file) (kindByte file v) (limitByte file v) r (all-elim (fileN file) (λ v. limitAllowed (limitByte file v)) (sym (allowed-two file e) ∙ a) v l)))
     (λ e. rw (limit-other file e v) r)
 
-pub file-limits-range : (file : List ℕ) → fileRefusal file ≡ 0 → (v : ℕ) → v < fileN file → (LOWEST ≤ fileLimit file v) × (fileLimit file v ≤ HIGHEST)
-file-limits-range file z = let a = file-allowed file z in said-range file (a .least, a .most) (a .limits)
-
 pub limits-in-range : LimitsInRange
 unfolding LimitsInRange
-limits-in-range = file-limits-range
+limits-in-range file z = let a = file-allowed file z in said-range file (a .least, a .most) (a .limits)
