@@ -1,7 +1,7 @@
 -- The calls that a file stands for, one after the other: the loops, and the whole.
-use Prim.Native.Nat.{ℕ, suc, _+_, _*_, _<_, _≤_}
+use Prim.Native.Nat.{ℕ, _+_, _*_, _<_, _≤_}
 use mathlib.Core.Path.{_≡_, refl, sym, ap, _∙_}
-use mathlib.Core.List.{List, []}
+use mathlib.Core.List.{List, [], _∷_}
 use native.Mathlib.Numerals.{add-one}
 use native.Mathlib.Omega.{arith}
 use lib.ListN.{length, take, drop, replicate, length-replicate, drop-of-length-le}
@@ -9,14 +9,13 @@ use lib.Seq.{drop-cons}
 use borrow.Author.Tests.{le-leb}
 use Rattle.packing.specs.Plant.{GATEWAYS, ENDS, at}
 use Rattle.packing.specs.Lists.{written}
-use Rattle.packing.proofs.Flat.{pair-at}
 use Rattle.packing.proofs.Lists.{written-room, written-front}
 use Rattle.planner.specs.declared.Small.{Small}
 use Rattle.planner.specs.declared.Answer.{Answer}
 use Rattle.planner.specs.declared.PlaceAnswer.{PlaceAnswer}
 use Rattle.planner.specs.declared.Way.{Way}
 use Rattle.planner.specs.State.{State, stateOf}
-use Rattle.planner.specs.Calls.{answerOf, openCall, link, order, setLimit, placeBy, call, callMoves, placeAnswerOf, readLeaders, readChoke}
+use Rattle.planner.specs.Calls.{Call, answerOf, openCall, link, order, setLimit, placeBy, call, callMoves, placeAnswerOf, readLeaders, readChoke}
 use Rattle.planner.specs.Run.{afterOpen, run, runMoves, linkCalls, limitCalls, placeCallsBy}
 use Rattle.planner.specs.Claims.{madeBy, movesBy}
 use Rattle.planner.proofs.MovedSums.{moves-last, moves-fit}
@@ -29,13 +28,13 @@ use Rattle.plant_file.specs.declared.reader.Step.the-variants.{Link, End}
 use Rattle.plant_file.specs.PlantFile.{fileVersion, fileN, fileT, fileM, fileLinks, fileOrder, fileLimit, fileLimits, fileRefusal}
 use Rattle.plant_file.specs.Reader.{linkAt}
 use Rattle.plant_file.specs.Load.{orderWritten}
-use Rattle.plant_file.proofs.LinksByIndex.{links-long, order-long, step-at}
+use Rattle.plant_file.proofs.LinksByIndex.{order-long, step-at}
 use Rattle.plant_file.proofs.Versions.{read-two, read-other}
 use Rattle.plant_file.proofs.GatewayLimits.{limits-long, limits-at}
 use Rattle.plant_file.proofs.Accepted.{file-allowed}
 use Rattle.plan.specs.Plan.{limitsToSet, callsBy, stateBy, fileMovesBy}
 use Rattle.plan.specs.Pre.{linkStep}
-use Rattle.plan.proofs.ToldByFile.{twice, set-each, set-none}
+use Rattle.plan.proofs.ToldByFile.{linksFrom, links-next, set-each, set-none}
 
 -- one link
 module _ (s : Small) (ls os hs ts : List ℕ) where
@@ -46,26 +45,30 @@ module _ (s : Small) (ls os hs ts : List ℕ) where
       → stateOf (r .small) ls' os hs ts ≡ linkStep x (stateOf s ls os hs ts)
   link-made {a = a} {b = b} e f g = rw (e, f, g) (link-state (stateOf s ls os hs ts) a b)
 
--- the first i links are called: what the rest makes of the record
-pub record Linking (file : List ℕ) (first now : State) (i : ℕ) : Type 0 where
-  pub upto : i ≤ fileM file
-  pub rest : run now (linkCalls (drop (2 * i) (fileLinks file))) ≡ run first (linkCalls (fileLinks file))
+-- The calls of a list, one after the other: i of count are made, and those from i on make of the record what all make of the first.
+pub record InTurn (from : ℕ → List Call) (count : ℕ) (first now : State) (i : ℕ) : Type 0 where
+  pub upto : i ≤ count
+  pub rest : run now (from i) ≡ run first (from 0)
 
-module _ (file : List ℕ) {first : State} where
-  pub linking-start : Linking file first first 0
-  linking-start = record { upto = omega arith; rest = refl }
+module _ (from : ℕ → List Call) (count : ℕ) {first : State} where
+  pub calls-start : InTurn from count first first 0
+  calls-start = record { upto = omega arith; rest = refl }
 
-  pub linking-turn : {now next : State} {i : ℕ} → Linking file first now i → i < fileM file → next ≡ linkStep (linkAt file i) now → Linking file first next (i + 1)
-  unfolding linkCalls run
-  linking-turn {now} {next} {i} k l e =
-      record { upto = omega arith; rest = rw (e, step-at file i l, twice i) (rw (pair-at (fileLinks file) (2 * i) (omega (arith, links-long file))) at (k .rest)) }
+  pub calls-next : {now next : State} {i : ℕ} {c : Call} → InTurn from count first now i → i < count → from i ≡ c ∷ from (i + 1) → next ≡ call now c .state → InTurn from count first next (i + 1)
+  unfolding run
+  calls-next {now} k l is e = record { upto = omega arith; rest = rw e (sym (ap (run now) is) ∙ k .rest) }
 
-  pub linking-end : {now : State} {i : ℕ} → Linking file first now i → fileM file ≤ i → now ≡ run first (linkCalls (fileLinks file))
-  unfolding linkCalls run
-  linking-end {now} {i} k l = rw (none (omega (arith, links-long file))) at (k .rest)
+  pub calls-end : {now : State} {i : ℕ} → InTurn from count first now i → count ≤ i → from count ≡ [] → now ≡ run first (from 0)
+  unfolding run
+  calls-end {now} {i} k l none = sym (ap (run now) (ap from (last (k .upto) l) ∙ none)) ∙ k .rest
     where
-      none : length (fileLinks file) ≤ 2 * i → drop (2 * i) (fileLinks file) ≡ []
-      none h = drop-of-length-le (fileLinks file) h
+      last : i ≤ count → count ≤ i → i ≡ count
+      last p q = omega arith
+
+-- those for the links
+pub linking-next : (file : List ℕ) {first now next : State} {i : ℕ} → InTurn (linksFrom file) (fileM file) first now i → i < fileM file → next ≡ linkStep (linkAt file i) now
+    → InTurn (linksFrom file) (fileM file) first next (i + 1)
+linking-next file {i = i} k l e = calls-next (linksFrom file) (fileM file) k l (links-next file i l) (e ∙ rw (step-at file i l))
 
 -- the order as it is taken from the file, and its call
 module _ (file : List ℕ) (z : fileRefusal file ≡ 0) {n : ℕ} (is : n ≡ fileN file) {lent l : List ℕ} (blank : lent ≡ replicate GATEWAYS 0) (taken : l ≡ orderWritten file lent) where
@@ -89,33 +92,23 @@ module _ (file : List ℕ) (z : fileRefusal file ≡ 0) {n : ℕ} (is : n ≡ fi
       → stateOf (r .small) ls os' hs ts ≡ call (stateOf s ls os hs ts) (order (fileOrder file)) .state
   ordered s ls os hs ts g h = rw (g, h, front-is) (order-state (stateOf s ls os hs ts) (fileOrder file))
 
--- the limits of the first v gateways are set: what the rest makes of the record
-pub record Limiting (file : List ℕ) (first now : State) (v : ℕ) : Type 0 where
-  pub upto : v ≤ fileN file
-  pub rest : run now (limitCalls v (drop v (fileLimits file))) ≡ run first (limitCalls 0 (fileLimits file))
+-- those for the limits, from gateway v on
+abbrev pub limitsFrom : List ℕ → ℕ → List Call
+limitsFrom file v = limitCalls v (drop v (fileLimits file))
 
-module _ (file : List ℕ) {first : State} where
-  pub limiting-start : Limiting file first first 0
-  limiting-start = record { upto = omega arith; rest = refl }
+limits-next : (file : List ℕ) (v : ℕ) → v < fileN file → limitsFrom file v ≡ setLimit v (fileLimit file v) ∷ limitsFrom file (v + 1)
+unfolding limitCalls
+limits-next file v l = rw (drop-cons (fileLimits file) v 0 (rw (limits-long file) l), limits-at file v l, add-one v)
 
-  pub limiting-turn : {s : Small} {ls os hs ts ts' : List ℕ} {v limit : ℕ} {r : Answer} → Limiting file first (stateOf s ls os hs ts) v → v < fileN file → limit ≡ fileLimit file v
-      → r ≡ answerOf (call (stateOf s ls os hs ts) (setLimit v limit)) → ts' ≡ call (stateOf s ls os hs ts) (setLimit v limit) .state .limits
-      → Limiting file first (stateOf (r .small) ls os hs ts') (v + 1)
-  unfolding limitCalls run
-  limiting-turn {s} {ls} {os} {hs} {ts} {ts'} {v} {limit} {r} k l is e f = record { upto = omega arith; rest = rw (next, add-one v) later }
-    where
-      next : stateOf (r .small) ls os hs ts' ≡ call (stateOf s ls os hs ts) (setLimit v (at (fileLimits file) v)) .state
-      next = rw (e, f, is, ← limits-at file v l) (limit-state (stateOf s ls os hs ts) v (at (fileLimits file) v))
+pub limits-last : (file : List ℕ) → limitsFrom file (fileN file) ≡ []
+unfolding limitCalls
+limits-last file = rw (drop-of-length-le (fileLimits file) {i = fileN file} (omega (arith, limits-long file)))
 
-      later : run (call (stateOf s ls os hs ts) (setLimit v (at (fileLimits file) v)) .state) (limitCalls (suc v) (drop (suc v) (fileLimits file))) ≡ run first (limitCalls 0 (fileLimits file))
-      later = rw (drop-cons (fileLimits file) v 0 (rw (limits-long file) l)) at (k .rest)
-
-  pub limiting-end : {now : State} {v : ℕ} → Limiting file first now v → fileN file ≤ v → now ≡ run first (limitCalls 0 (fileLimits file))
-  unfolding limitCalls run
-  limiting-end {now} {v} k l = rw (none (omega (arith, limits-long file))) at (k .rest)
-    where
-      none : length (fileLimits file) ≤ v → drop v (fileLimits file) ≡ []
-      none h = drop-of-length-le (fileLimits file) h
+pub limiting-next : (file : List ℕ) {first : State} {s : Small} {ls os hs ts ts' : List ℕ} {v limit : ℕ} {r : Answer} → InTurn (limitsFrom file) (fileN file) first (stateOf s ls os hs ts) v → v < fileN file
+    → limit ≡ fileLimit file v → r ≡ answerOf (call (stateOf s ls os hs ts) (setLimit v limit)) → ts' ≡ call (stateOf s ls os hs ts) (setLimit v limit) .state .limits
+    → InTurn (limitsFrom file) (fileN file) first (stateOf (r .small) ls os hs ts') (v + 1)
+limiting-next file {s = s} {ls} {os} {hs} {ts} {v = v} k l is e f =
+    calls-next (limitsFrom file) (fileN file) k l (limits-next file v l) (rw (e, f, is) (limit-state (stateOf s ls os hs ts) v (fileLimit file v)))
 
 -- .. by the version
 module _ (file : List ℕ) (first : State) {version : ℕ} (is : version ≡ fileVersion file) where

@@ -33,8 +33,20 @@ use Rattle.plant_file.proofs.Accepted.{LinkAllowed, file-allowed, file-link-all
 use Rattle.plan.specs.Plan.{limitsToSet, callsBy}
 
 -- a link more is two numbers more
-pub twice : (i : ℕ) → 2 * (i + 1) ≡ 2 * i + 2
+twice : (i : ℕ) → 2 * (i + 1) ≡ 2 * i + 2
 twice i = omega arith
+
+-- the calls for the links from link i on: the first of them, and that there is none after the last
+abbrev pub linksFrom : List ℕ → ℕ → List Call
+linksFrom file i = linkCalls (drop (2 * i) (fileLinks file))
+
+pub links-next : (file : List ℕ) (i : ℕ) → i < fileM file → linksFrom file i ≡ link (at (fileLinks file) (2 * i)) (at (fileLinks file) (2 * i + 1)) ∷ linksFrom file (i + 1)
+unfolding linkCalls
+links-next file i l = rw (pair-at (fileLinks file) (2 * i) (omega (arith, links-long file)), twice i)
+
+pub links-last : (file : List ℕ) → linksFrom file (fileM file) ≡ []
+unfolding linkCalls
+links-last file = rw (drop-of-length-le (fileLinks file) {i = 2 * fileM file} (omega (arith, links-long file)))
 
 one-more : (file : List ℕ) (i : ℕ) → i < fileM file → take (2 * (i + 1)) (fileLinks file) ≡ take (2 * i) (fileLinks file) ++ (at (fileLinks file) (2 * i) ∷ at (fileLinks file) (2 * i + 1) ∷ [])
 one-more file i l = rw (twice i) (take-add (2 * i) 2 (fileLinks file) ∙ rw (pair-at (fileLinks file) (2 * i) (omega (arith, links-long file))))
@@ -124,19 +136,16 @@ module _ (file : List ℕ) (room : ℕ) where
   read-accepted k leaders choke p q = rw (or-none _ _ (le-ltb (length leaders) (fileN file) p) (le-ltb (length choke) (fileN file) q))
 
   module _ (z : fileRefusal file ≡ 0) (long : 2 * fileM file ≤ room) where
-    links-tell : (j i : ℕ) (rest : List Call) → i + j ≡ fileM file → tell (linksTold i) (linkCalls (drop (2 * i) (fileLinks file)) ++ rest) ≡ tell (linksTold (fileM file)) rest
-    unfolding linkCalls accepted
-    links-tell zero i rest e = rw (last, none)
+    links-tell : (j i : ℕ) (rest : List Call) → i + j ≡ fileM file → tell (linksTold i) (linksFrom file i ++ rest) ≡ tell (linksTold (fileM file)) rest
+    unfolding accepted
+    links-tell zero i rest e = rw (last, links-last file)
       where
         last : i ≡ fileM file
         last = omega arith
-
-        none : drop (2 * fileM file) (fileLinks file) ≡ []
-        none = drop-of-length-le (fileLinks file) {i = 2 * fileM file} (omega (arith, links-long file))
     links-tell (suc j) i rest e =
-        rw (pair-at (fileLinks file) (2 * i) (omega (arith, links-long file)))
+        rw (links-next file i (omega arith))
         (tells-one (linksTold i) _ _ (link-accepted i (omega arith) (omega (arith, file-allowed file z .links-few)) (file-link-allowed file z i (omega arith)))
-        ∙ rw (← one-more file i (omega arith), ← twice i) (links-tell j (i + 1) rest (omega arith)))
+        ∙ rw (← one-more file i (omega arith)) (links-tell j (i + 1) rest (omega arith)))
 
     order-accepted : refuses (linksTold (fileM file)) (order (fileOrder file)) ≡ 0
     unfolding refuses orderConditions

@@ -10,7 +10,7 @@ use borrow.Author.Tests.{eqb-false, ne-eqb, lt-ltb, le-ltb, leb-true, not-true}
 use Rattle.packing.specs.Plant.{LOWEST, HIGHEST, at}
 use Rattle.packing.proofs.Tests.{by-bool, and-l, and-r, all-elim}
 use Rattle.packing.proofs.Lists.{listOf-length, listOf-at}
-use Rattle.plant_file.specs.PlantFile.{fileVersion, fileN, fileT, kindByte, limitByte, limitOfKind, effectiveLimit, fileLimit, fileLimits, limitAllowed, limitsAllowed, fileRefusal}
+use Rattle.plant_file.specs.PlantFile.{fileVersion, fileN, fileT, kindByte, limitByte, limitOfKind, effectiveLimit, fileLimit, fileLimits, limitAllowed, limitsAllowed}
 use Rattle.plant_file.specs.Limits.{KindsTake, LimitSaid, LimitsSaid, LimitsInRange}
 use Rattle.plant_file.proofs.Versions.{limit-two, limit-other, allowed-two, is-one, is-two}
 use Rattle.plant_file.proofs.Accepted.{file-allowed}

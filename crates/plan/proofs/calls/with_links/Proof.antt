@@ -4,12 +4,14 @@ use mathlib.Core.Path.{_≡_}
 use native.Mathlib.Omega.{arith}
 use lib.ListN.{length}
 use Rattle.planner.specs.State.{stateOf}
-use Rattle.plan.proofs.CallsInTurn.{Linking, linking-start, linking-turn, linking-end}
+use Rattle.plant_file.specs.PlantFile.{fileM}
+use Rattle.plan.proofs.ToldByFile.{linksFrom, links-last}
+use Rattle.plan.proofs.CallsInTurn.{InTurn, calls-start, linking-next, calls-end}
 use Rattle.plan.proofs.calls.with_links.Statement.{statement}
 use Rattle.plan.proofs.calls.with_links.Tie as tie
 
 abbrev Inv-loop : tie.InvT-loop
-Inv-loop file links₀ order holders limits m now₀ i₀ links now i = Linking file (stateOf now₀ links₀ order holders limits) (stateOf now links order holders limits) i × (length links ≡ length links₀)
+Inv-loop file links₀ order holders limits m now₀ i₀ links now i = InTurn (linksFrom file) (fileM file) (stateOf now₀ links₀ order holders limits) (stateOf now links order holders limits) i × (length links ≡ length links₀)
 
 abbrev μ-loop : tie.MeasureT-loop
 μ-loop file links₀ order holders limits m now₀ i₀ links now i = m - i
@@ -21,7 +23,7 @@ cast-m : tie.Need-cast-m Inv-loop μ-loop
 cast-m c = search needs
 
 loop-holds : tie.Need-loop-holds Inv-loop μ-loop
-loop-holds c = (linking-start _, search needs)
+loop-holds c = (calls-start _ _, search needs)
 
 with-link-requires : tie.Need-with-link-requires Inv-loop μ-loop
 with-link-requires c κs = search needs
@@ -33,13 +35,13 @@ loop-less : tie.Need-loop-less Inv-loop μ-loop
 loop-less c = search needs
 
 loop-again : tie.Need-loop-again Inv-loop μ-loop
-loop-again c = (linking-turn _ (c .before .before .before .before .before .loop .inv .0) (omega arith) (c .before .before .with-link .ensures), search needs)
+loop-again c = (linking-next _ (c .before .before .before .before .before .loop .inv .0) (omega arith) (c .before .before .with-link .ensures), search needs)
 
 same-length : tie.Need-same-length Inv-loop μ-loop
 same-length c = search needs
 
 returns : tie.Need-returns Inv-loop μ-loop
-returns c = linking-end _ (c .before .loop .inv .0) (omega arith)
+returns c = calls-end _ _ (c .before .loop .inv .0) (omega arith) (links-last _)
 
 pub with-links-spec : {M : Type 1} → statement M
 with-links-spec =
