@@ -1,0 +1,2 @@
+-- The index of links: what it holds, and what the functions that fill it require and leave.
+pub mod Index
