@@ -9,3 +9,4 @@ pub mod Twice
 pub mod Ascending
 pub mod ChokePre
 pub mod ReachedPre
+pub mod Dead
