@@ -8,8 +8,10 @@ ghost use mathlib.Core.Bool.{cond};
 ghost use lib.Dec.{eqb};
 ghost use lib.ListN.{take};
 ghost use Rattle.packing.specs.Plant.{NONE, at, neighbours};
+ghost use Rattle.chains.specs.Index.{Index};
 ghost use Rattle.search.specs.Search as model;
 ghost use Rattle.search.specs.Search.{more};
+ghost use Rattle.search.specs.Dead.{walkPast};
 ghost use Rattle.search.specs.Pre.{ForEach, ForSome, Is, Ready, Walkable};
 
 // The other end of the link a-b where x is an end of it; else none.
@@ -48,50 +50,52 @@ fn look(
     Walked::RanOut(join(&rows[u as usize], queue, tail))
 }
 
-// Goes through x's links in order of arrival.
+// Goes through x's links in order of arrival, along its chain.
 fn visit(
     limits: &[u8],
     x: u16,
     links: &[u16],
+    next: &[u16],
     rows: &Rows,
     queue: &mut [u16],
     tail: usize,
     from: &mut [u16],
 ) -> Walked
-    requires { ⌜ ForSome (now rows) (λ n hs. Ready n x hs (now queue) tail (now from)) ⌝ }
+    requires { ⌜ Index (now links) (now next) × ForSome (now rows) (λ n hs. Ready n x hs (now queue) tail (now from)) ⌝ }
     ensures { λ r. ⌜ ForEach (now (rows .entry)) (λ n hs. Ready n x hs (now (queue .entry)) tail (now (from .entry))) (λ n hs. Is r (now (queue .exit)) (now (from .exit)) (model.visit n (at (now (limits .entry))) hs x (neighbours (now (links .entry)) x) (more (take tail (now (queue .entry))) (now (from .entry))))) ⌝ }
 {
     let mut end = tail;
-    let mut i: usize = 0;
-    while i + 1 < links.len() {
-        let u = other_end(links[i], links[i + 1], x);
+    let mut i = chains::first_link(next, x);
+    while i != lists::NONE {
+        let u = chains::across(links, x, i);
         let w = look(limits, x, u, rows, queue, end, from);
         match w {
             Walked::Found(y, z) => return Walked::Found(y, z),
             Walked::RanOut(e) => end = e,
         }
-        i += 2;
+        i = chains::next_link(links, next, x, i);
     }
     Walked::RanOut(end)
 }
 
-// The search from the first `tail` of the queue, nobody seen yet. A limit of 0 leaves nobody a place free.
+// The search from the first `tail` of the queue, past those that are marked. A limit of 0 leaves nobody a place free.
 pub(crate) fn walk(
     limits: &[u8],
     links: &[u16],
+    next: &[u16],
     rows: &Rows,
     queue: &mut [u16],
     tail: usize,
     from: &mut [u16],
 ) -> Walked
-    requires { ⌜ ForSome (now rows) (λ n hs. Walkable n hs (now queue) tail (now from)) ⌝ }
-    ensures { λ r. ⌜ ForEach (now (rows .entry)) (λ n hs. Walkable n hs (now (queue .entry)) tail (now (from .entry))) (λ n hs. Is r (now (queue .exit)) (now (from .exit)) (model.walk n (at (now (limits .entry))) (now (links .entry)) hs (take tail (now (queue .entry))))) ⌝ }
+    requires { ⌜ Index (now links) (now next) × ForSome (now rows) (λ n hs. Walkable n hs (now queue) tail (now from)) ⌝ }
+    ensures { λ r. ⌜ ForEach (now (rows .entry)) (λ n hs. Walkable n hs (now (queue .entry)) tail (now (from .entry))) (λ n hs. Is r (now (queue .exit)) (now (from .exit)) (walkPast n (at (now (limits .entry))) (now (links .entry)) hs (take tail (now (queue .entry))) (now (from .entry)))) ⌝ }
 {
     let mut end = tail;
     let mut head: usize = 0;
     while head < end {
         let x = queue[head];
-        let w = visit(limits, x, links, rows, queue, end, from);
+        let w = visit(limits, x, links, next, rows, queue, end, from);
         match w {
             Walked::Found(y, z) => return Walked::Found(y, z),
             Walked::RanOut(e) => end = e,
