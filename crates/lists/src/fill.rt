@@ -7,7 +7,7 @@ ghost use Rattle.packing.specs.Lists.{written};
 ghost use Rattle.packing.specs.Orders.{upTo};
 
 // 0, 1, .., n - 1
-pub(crate) fn with_places(n: usize, list: &mut [u16])
+pub fn with_places(n: usize, list: &mut [u16])
     requires { ⌜ (n ≤ GATEWAYS) × (n ≤ length (now list)) ⌝ }
     ensures { λ _. ⌜ now (list .exit) ≡ written n (upTo n) (now (list .entry)) ⌝ }
 {
@@ -19,19 +19,19 @@ pub(crate) fn with_places(n: usize, list: &mut [u16])
 }
 
 // 65535 in each of the first n places
-pub(crate) fn with_none(n: usize, list: &mut [u16])
+pub fn with_none(n: usize, list: &mut [u16])
     requires { ⌜ n ≤ length (now list) ⌝ }
     ensures { λ _. ⌜ now (list .exit) ≡ written n (replicate n NONE) (now (list .entry)) ⌝ }
 {
     let mut i: usize = 0;
     while i < n {
-        list[i] = lists::NONE;
+        list[i] = crate::NONE;
         i += 1;
     }
 }
 
 // one byte in each of the first n places
-pub(crate) fn with_byte(n: usize, byte: u8, list: &mut [u8])
+pub fn with_byte(n: usize, byte: u8, list: &mut [u8])
     requires { ⌜ n ≤ length (now list) ⌝ }
     ensures { λ _. ⌜ now (list .exit) ≡ written n (replicate n byte) (now (list .entry)) ⌝ }
 {
@@ -43,7 +43,7 @@ pub(crate) fn with_byte(n: usize, byte: u8, list: &mut [u8])
 }
 
 // another list's numbers
-pub(crate) fn with_list(numbers: &[u16], list: &mut [u16])
+pub fn with_list(numbers: &[u16], list: &mut [u16])
     requires { ⌜ length (now numbers) ≤ length (now list) ⌝ }
     ensures { λ _. ⌜ now (list .exit) ≡ written (length (now (numbers .entry))) (now (numbers .entry)) (now (list .entry)) ⌝ }
 {
