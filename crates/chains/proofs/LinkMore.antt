@@ -1,15 +1,18 @@
 -- One link more: no links at first, the ends of the next one hung, and the loop over a list of links.
-use Prim.Native.Nat.{ℕ, _+_, _*_, _<_, _≤_}
+use Prim.Native.Nat.{ℕ, zero, suc, _+_, _*_, _<_, _≤_}
 use mathlib.Core.Path.{_≡_, refl, sym, ap, _∙_}
 use mathlib.Core.Logic.{inl, inr}
-use mathlib.Core.List.{List}
+use mathlib.Core.Bool.{true, _&&_}
+use mathlib.Core.List.{List, [], _∷_}
 use native.Mathlib.Numerals.{add-one}
 use native.Mathlib.Omega.{arith}
+use lib.Dec.{eqb}
 use lib.ListN.{length, set, replicate, length-set, length-replicate}
 use lib.Seq.{getD-set-same, getD-set-other}
-use Rattle.packing.specs.Plant.{NONE, GATEWAYS, ENDS, at}
+use borrow.Author.Tests.{eq-eqb}
+use Rattle.packing.specs.Plant.{NONE, GATEWAYS, ENDS, at, joins, linked}
 use Rattle.packing.specs.Lists.{listOf}
-use Rattle.packing.proofs.Tests.{below-suc}
+use Rattle.packing.proofs.Tests.{below-suc, and-i, or-l, or-r}
 use Rattle.packing.proofs.Lists.{listOf-length}
 use Rattle.chains.specs.Index.{SLOTS, rootOf}
 use Rattle.chains.specs.Build.{Joining, Hung, Built, Ready, Adding}
@@ -97,3 +100,21 @@ add-ready ls m a b d =
 pub next-ready : (ls : List ℕ) (m : ℕ) {next last : List ℕ} → Joining ls → Built ls m next last → 2 * m + 1 < length ls → Ready ls m next last
 unfolding Joining
 next-ready ls m joining b h = record { built = b; more = h; two = joining m h }
+
+-- .. as those of a list do whose linked gateways differ and are below n
+linked-own : (ls : List ℕ) (i : ℕ) → 2 * i + 1 < length ls → linked ls (at ls (2 * i)) (at ls (2 * i + 1)) ≡ true
+unfolding linked
+linked-own [] i h = absurd (omega arith)
+linked-own (a ∷ []) i h = absurd (omega arith)
+linked-own (a ∷ b ∷ rest) zero h = or-l (joins a b a b) (linked rest a b) (or-l (eqb a a && eqb b b) _ (and-i (eqb a a) (eqb b b) (eq-eqb a a refl) (eq-eqb b b refl)))
+linked-own (a ∷ b ∷ rest) (suc i) h = rw (two, three) (or-r (joins a b (at rest (2 * i)) (at rest (2 * i + 1))) _ (linked-own rest i (omega arith)))
+  where
+    two : 2 * suc i ≡ suc (suc (2 * i))
+    two = omega arith
+
+    three : suc (suc (2 * i)) + 1 ≡ suc (suc (2 * i + 1))
+    three = omega arith
+
+pub joining-linked : (n : ℕ) (ls : List ℕ) → n ≤ GATEWAYS → ((x y : ℕ) → linked ls x y ≡ true → (x < n) × (y < n) × (x ≡ y → ⊥)) → Joining ls
+unfolding Joining
+joining-linked n ls few ends i h = let (first, second, differ) = ends _ _ (linked-own ls i h) in record { first = omega (arith, few, first); second = omega (arith, few, second); differ = differ }
