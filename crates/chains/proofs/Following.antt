@@ -1,33 +1,31 @@
 -- Following a chain: from each of x's links to the next, the neighbours of x in order of arrival.
-use Prim.Native.Nat.{ℕ, _+_, _-_, _*_, _<_, _≤_}
-use mathlib.Core.Path.{_≡_, refl, sym, ap, _∙_}
+use Prim.Native.Nat.{ℕ, _+_, _*_, _<_, _≤_}
+use mathlib.Core.Path.{_≡_, refl, ap, _∙_}
 use mathlib.Core.Logic.{_⊎_, inl, inr, ⊎-elim}
-use mathlib.Core.Bool.{true, false, cond}
+use mathlib.Core.Bool.{false}
 use mathlib.Core.List.{List, [], _∷_}
 use native.Mathlib.Omega.{arith}
 use lib.Dec.{eqb}
-use lib.ListN.{length, drop, length-drop}
+use lib.ListN.{length, drop}
 use borrow.Author.Tests.{eqb-false, eq-eqb}
-use Rattle.packing.specs.Plant.{NONE, GATEWAYS, ENDS, at, neighbours}
+use Rattle.packing.specs.Plant.{NONE, GATEWAYS, at, neighbours}
 use Rattle.packing.proofs.Tests.{by-bool}
-use Rattle.packing.proofs.Flat.{pair-at}
-use Rattle.chains.specs.Index.{SLOTS, rootOf, slotOf, across, Incident, NextLink, Index}
+use Rattle.packing.proofs.Flat.{pair-at, pair-end}
+use Rattle.chains.specs.Index.{rootOf, slotOf, across, Incident, Index}
 
 -- a chain is at its end, or at a link of x
 abbrev pub Standing : List ℕ → ℕ → ℕ → Type 0
 Standing ls x i = (i ≡ NONE) ⊎ Incident ls x i
 
 -- no links are left past the end
-past : (ls : List ℕ) (i x : ℕ) → length ls ≤ i → neighbours (drop i ls) x ≡ []
+pub past : (ls : List ℕ) (i x : ℕ) → length ls ≤ i + 1 → neighbours (drop i ls) x ≡ []
 unfolding neighbours
-past ls i x h = none (drop i ls) (length-drop i ls ∙ zero h)
+past ls i x h = none (drop i ls) (pair-end ls i h)
   where
-    zero : length ls ≤ i → length ls - i ≡ 0
-    zero l = omega arith
-
-    none : (l : List ℕ) → length l ≡ 0 → neighbours l x ≡ []
+    none : (l : List ℕ) → length l ≤ 1 → neighbours l x ≡ []
     none [] e = refl
-    none (a ∷ l) e = absurd (omega arith)
+    none (a ∷ []) e = refl
+    none (a ∷ b ∷ l) e = absurd (omega arith)
 
 -- link i is x's, so the links from it on give its other end first
 link-across : (ls : List ℕ) (x i : ℕ) → Incident ls x i → neighbours (drop (2 * i) ls) x ≡ across ls x i ∷ neighbours (drop (2 * (i + 1)) ls) x

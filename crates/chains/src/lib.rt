@@ -1,4 +1,7 @@
 // The index of links: each gateway's links in order of arrival, as a chain.
+pub mod build;
+pub mod follow;
+
 ghost use mathlib.Core.Path.{_≡_};
 ghost use Prim.Native.Nat.{_+_, _*_, _<_, _≤_};
 ghost use lib.ListN.{length};
