@@ -35,3 +35,5 @@ pub mod ChokeLaws
 pub mod FromOne
 pub mod ReachedTests
 pub mod ChokeExamples
+pub mod Without
+pub mod DeadWalk
