@@ -37,3 +37,5 @@ pub mod ReachedTests
 pub mod ChokeExamples
 pub mod Without
 pub mod DeadWalk
+pub mod Dead
+pub mod DeadShift
