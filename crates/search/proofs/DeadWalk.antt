@@ -20,7 +20,7 @@ use Rattle.search.specs.Pre.{Going, Startable}
 use Rattle.search.specs.Dead.{walkPast}
 use Rattle.search.proofs.Queue.{heldBy-out}
 use Rattle.search.proofs.Without.{without, without-append, without-in, without-out, without-all, without-none, without-length}
-use Rattle.search.proofs.States.{unseen-below, seen-other, look-seen, look-free, look-full, look-cases, visit-found, visit-going, turns-found, turns-out, turns-step, going-start}
+use Rattle.search.proofs.States.{unseen-below, seen-other, look-seen, look-free, look-full, look-cases, visit-found, visit-going, never-both, turns-found, turns-out, turns-step, going-start}
 
 -- what the search past the dead needs of them and R
 pub record Passable (n : ℕ) (limit : ℕ → ℕ) (ls hs dead : List ℕ) (R : ℕ → Bool) : Type 0 where
@@ -355,3 +355,25 @@ module _ {n : ℕ} {limit : ℕ → ℕ} {ls hs dead : List ℕ} {R : ℕ → Bo
   walks-both start s out =
       onward n n 0 0 [] start start start (replicate n NONE) dead (record { whole = refl; whole' = sym (without-none R start out); here = refl; here' = refl }) (going-start s)
       (alike-start (b .marks)) (omega arith) (omega arith)
+
+  -- where the search past the dead found a place free, and where it ran out
+  pub passed-found : {start : List ℕ} {u x : ℕ} {past : List ℕ} → Startable n hs start → ((y : ℕ) → memberOf start y ≡ true → R y ≡ false) → walkPast n limit ls hs start dead ≡ found u x past
+      → (from : List ℕ) × (walk n limit ls hs start ≡ found u x from) × Alike n dead from past × (seen dead u ≡ false)
+  passed-found {start} {u} {x} {past} s out e =
+      ⊎-elim
+      (λ r.
+      let same : r .u ≡ u = cc in
+      let same' : r .x ≡ x = cc in
+      let marks : r .past ≡ past = cc in
+      (r .from, (rw (same, same') at (r .plain)), (rw marks at (r .alike)), (rw same at (r .live))))
+      (λ r. absurd (never-both e (r .passed)))
+      (walks-both start s out)
+
+  pub passed-more : {start queue past : List ℕ} → Startable n hs start → ((y : ℕ) → memberOf start y ≡ true → R y ≡ false) → walkPast n limit ls hs start dead ≡ more queue past
+      → (whole : List ℕ) × (from : List ℕ) × (walk n limit ls hs start ≡ more whole from) × Alike n dead from past
+  passed-more {start} {queue} {past} s out e =
+      ⊎-elim (λ r. absurd (never-both (r .passed) e))
+      (λ r.
+      let marks : r .past ≡ past = cc in
+      (r .joined, r .from, r .plain, (rw marks at (r .alike))))
+      (walks-both start s out)

@@ -39,3 +39,5 @@ pub mod Without
 pub mod DeadWalk
 pub mod Dead
 pub mod DeadShift
+pub mod DeadOut
+pub mod DeadPlacing
