@@ -21,7 +21,7 @@ module _
     (new-out : (x : ℕ) → new x ≡ true → memberOf start x ≡ true)
   where
     -- who is seen past the dead is dead or seen
-    seen-either : {A : Type 0} (u : ℕ) → seen past u ≡ true → (seen dead u ≡ true → A) → (seen from u ≡ true → A) → A
+    pub seen-either : {A : Type 0} (u : ℕ) → seen past u ≡ true → (seen dead u ≡ true → A) → (seen from u ≡ true → A) → A
     seen-either u e dies sees = by-bool (seen dead u) dies (λ f. sees (ap (λ (k : ℕ). not (eqb k NONE)) (sym (a .same u f)) ∙ e))
 
     seen-past : (u : ℕ) → seen from u ≡ true → seen past u ≡ true

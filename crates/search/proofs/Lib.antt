@@ -41,3 +41,4 @@ pub mod Dead
 pub mod DeadShift
 pub mod DeadOut
 pub mod DeadPlacing
+pub mod DeadChoke
