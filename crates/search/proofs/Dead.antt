@@ -1,14 +1,14 @@
 -- Dead gateways: nobody is dead at first; a search past them starts in a state with room, and leaves R out.
-use Prim.Native.Nat.{ℕ, _+_, _<_, _≤_}
-use mathlib.Core.Path.{_≡_, refl, sym, ap, _∙_}
-use mathlib.Core.Bool.{Bool, true, false, _&&_, _||_}
+use Prim.Native.Nat.{ℕ, _<_, _≤_}
+use mathlib.Core.Path.{_≡_, refl}
+use mathlib.Core.Bool.{Bool, true, false, _&&_}
 use mathlib.Core.List.{List, [], _∷_}
 use native.Mathlib.Omega.{arith}
 use lib.ListN.{length, replicate, length-replicate}
 use borrow.Author.Tests.{ltb-true}
-use Rattle.packing.specs.Plant.{NONE, at, linked}
+use Rattle.packing.specs.Plant.{NONE, at}
 use Rattle.packing.specs.Holders.{held, holds}
-use Rattle.packing.proofs.Tests.{clash, and-l, and-r, and-i, or-l, or-r, or-none, or-cases, not-test}
+use Rattle.packing.proofs.Tests.{clash, and-l, and-r, and-i, or-none, not-test}
 use Rattle.packing.proofs.Sums.{count-mono}
 use Rattle.search.specs.Search.{seen}
 use Rattle.search.specs.Pre.{waiting, Going, Startable, Placeable}
@@ -32,8 +32,8 @@ dead-none n limit ls hs =
     }
 
 -- a search past the dead has room in its queue: fewer wait than are held
-pub past-going : {n : ℕ} {hs start dead : List ℕ} → Startable n hs start → length dead ≡ n → Going n hs start dead
-past-going {n} {hs} {start} {dead} s long =
+pub past-going-start : {n : ℕ} {hs start dead : List ℕ} → Startable n hs start → length dead ≡ n → Going n hs start dead
+past-going-start {n} {hs} {start} {dead} s long =
     record {
       few = s .few;
       marks = long;
@@ -41,8 +41,8 @@ past-going {n} {hs} {start} {dead} s long =
       below = s .below;
     }
 
-pub past-going-one : {n : ℕ} {hs dead : List ℕ} {v : ℕ} → Placeable n hs v → length dead ≡ n → Going n hs (v ∷ []) dead
-past-going-one p long = past-going (placeable-startable p) long
+pub past-going : {n : ℕ} {hs dead : List ℕ} {v : ℕ} → Placeable n hs v → length dead ≡ n → Going n hs (v ∷ []) dead
+past-going p long = past-going-start (placeable-startable p) long
 
 module _ {n : ℕ} {limit : ℕ → ℕ} {ls hs : List ℕ} {left : ℕ → Bool} {dead : List ℕ} (d : Dead n limit ls hs left dead) where
   -- who is held by one that is not dead is not in R

@@ -1,19 +1,20 @@
 -- The dead are the choke set: a search that takes nothing, past the dead, from those without holder that are not yet left, marks just the choke set. Where there are none, the dead are the choke set.
-use Prim.Native.Nat.{ℕ, _<_}
+use Prim.Native.Nat.{ℕ, _<_, _≤_}
 use mathlib.Core.Path.{_≡_, ap, _∙_}
-use mathlib.Core.Logic.{_⊎_, ⊎-elim}
-use mathlib.Core.Bool.{Bool, true, false, _&&_, _||_}
-use mathlib.Core.List.{List}
+use mathlib.Core.Logic.{_⊎_, inl, ⊎-elim}
+use mathlib.Core.Bool.{Bool, true, false, _&&_, _||_, false≢true}
+use mathlib.Core.List.{List, []}
 use native.Mathlib.Omega.{arith}
 use Rattle.packing.specs.Lists.{memberOf}
-use Rattle.packing.specs.Plant.{at, common}
-use Rattle.packing.specs.Holders.{held, holds}
+use Rattle.packing.specs.Plant.{GATEWAYS, at, common}
+use Rattle.packing.specs.Holders.{held}
 use Rattle.packing.proofs.Tests.{or-cases, or-l, or-r, iff-test}
+use Rattle.packing.proofs.Sums.{count-bound}
 use Rattle.search.specs.Search.{Search, more, seen, walk}
 use Rattle.search.specs.Pre.{Startable}
 use Rattle.search.specs.ChokeSet.{seenIn, walkSaw, walkQueued, withoutHolder, inChoke}
 use Rattle.search.specs.Dead.{walkPast, deadHold, Dead}
-use Rattle.search.proofs.States.{never-both}
+use Rattle.search.proofs.States.{never-both, turns-out}
 use Rattle.search.proofs.Reach.{walk-exhausted, walk-runs-out}
 use Rattle.search.proofs.Unheld.{unheld-in, unheld-out, unheld-startable}
 use Rattle.search.proofs.ChokeLaws.{walk-closed, walk-least}
@@ -69,3 +70,17 @@ module _
     pub past-choke-seen : (u : ℕ) → u < n → seenIn (walkPast n (common 0) ls hs start dead) u ≡ inChoke n ls hs u
     unfolding seenIn
     past-choke-seen u l = ap (λ (r : Search). seenIn r u) (past-choke .ends) ∙ past-choke .saw u l
+
+-- where all without holder are left, the dead are the choke set
+pub dead-choke : {n : ℕ} {limit : ℕ → ℕ} {ls hs : List ℕ} {left : ℕ → Bool} {dead : List ℕ} → Dead n limit ls hs left dead → n ≤ GATEWAYS → ((x : ℕ) → x < n → held n (at hs) x ≡ false → left x ≡ true)
+    → (u : ℕ) → u < n → seen dead u ≡ inChoke n ls hs u
+unfolding memberOf
+dead-choke {n} {ls = ls} {hs} {dead = dead} d few all u l =
+    let s : Startable n hs [] = record { few = few; below = λ i k. absurd (omega arith); room = omega (arith, count-bound n (held n (at hs))) } in
+    let c = past-choke d s (λ x m. absurd (false≢true m)) (λ x k h. inl (all x k h)) in
+    let out : walkPast n (common 0) ls hs [] dead ≡ more [] dead = turns-out n n (common 0) ls hs 0 [] dead (omega arith) in
+    let same : c .marks ≡ dead = marks-same (c .ends) out in
+    rw same at (c .saw u l)
+  where
+    marks-same : {r : Search} {queue queue' marks marks' : List ℕ} → r ≡ more queue marks → r ≡ more queue' marks' → marks ≡ marks'
+    marks-same p q = cc

@@ -9,15 +9,15 @@ use native.Mathlib.Omega.{arith}
 use lib.Dec.{eqb}
 use lib.ListN.{length, set, length-set}
 use lib.Seq.{getD-set-same, getD-set-other}
-use borrow.Author.Tests.{eqb-true, eqb-false, eq-eqb, ne-eqb, ltb-true}
+use borrow.Author.Tests.{eqb-true, eqb-false}
 use Rattle.packing.specs.Plant.{at, linked}
 use Rattle.packing.specs.Holders.{held}
 use Rattle.packing.proofs.Tests.{by-bool, clash, not-test}
-use Rattle.search.specs.Search.{found, seen, walk, shift}
+use Rattle.search.specs.Search.{seen, shift}
 use Rattle.search.specs.Pre.{Placeable, takings}
-use Rattle.search.proofs.States.{seen-marked, seen-kept, seen-cases, mark-keeps, gateway-some, unseen-below, placeable-startable}
+use Rattle.search.proofs.States.{seen-marked, seen-kept, seen-cases, mark-keeps, gateway-some, unseen-below}
 use Rattle.search.proofs.Walking.{Stopped}
-use Rattle.search.proofs.Reach.{Reached, SeenFrom, queued-cases, reached-stops}
+use Rattle.search.proofs.Reach.{Reached, SeenFrom, queued-cases}
 use Rattle.search.proofs.Placing.{alone}
 use Rattle.search.proofs.DeadWalk.{Passable, Alike}
 
