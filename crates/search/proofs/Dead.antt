@@ -14,7 +14,7 @@ use Rattle.search.specs.Search.{seen}
 use Rattle.search.specs.Pre.{waiting, Going, Startable, Placeable}
 use Rattle.search.specs.Dead.{deadHold, Dead}
 use Rattle.search.proofs.States.{unseen-start, placeable-startable}
-use Rattle.search.proofs.DeadWalk.{Passable}
+use Rattle.search.proofs.DeadLooks.{Passable}
 
 -- nobody is dead where nobody is left
 pub dead-none : (n : ℕ) (limit : ℕ → ℕ) (ls hs : List ℕ) → Dead n limit ls hs (λ x. false) (replicate n NONE)

@@ -19,7 +19,8 @@ use Rattle.search.proofs.Reach.{walk-exhausted, walk-runs-out}
 use Rattle.search.proofs.Unheld.{unheld-in, unheld-out, unheld-startable}
 use Rattle.search.proofs.ChokeLaws.{walk-closed, walk-least}
 use Rattle.search.proofs.Dead.{unheld-outside, dead-passable}
-use Rattle.search.proofs.DeadWalk.{Passable, Alike, walks-both}
+use Rattle.search.proofs.DeadLooks.{Passable, Alike}
+use Rattle.search.proofs.DeadWalk.{walks-both}
 use Rattle.search.proofs.DeadOut.{out-closed, out-owned, out-least}
 
 -- the search runs out, and has marked the choke set

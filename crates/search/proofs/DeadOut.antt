@@ -12,7 +12,7 @@ use Rattle.packing.proofs.Tests.{by-bool, and-l, and-r, and-i, or-cases, or-l, 
 use Rattle.search.specs.Search.{seen}
 use Rattle.search.specs.Dead.{deadHold, Dead}
 use Rattle.search.proofs.Reach.{Exhausted}
-use Rattle.search.proofs.DeadWalk.{Alike}
+use Rattle.search.proofs.DeadLooks.{Alike}
 
 -- new are those that it started from
 module _

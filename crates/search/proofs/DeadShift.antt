@@ -19,7 +19,7 @@ use Rattle.search.proofs.States.{seen-marked, seen-kept, seen-cases, ma
 use Rattle.search.proofs.Walking.{Stopped}
 use Rattle.search.proofs.Reach.{Reached, SeenFrom, queued-cases}
 use Rattle.search.proofs.Placing.{alone}
-use Rattle.search.proofs.DeadWalk.{Passable, Alike}
+use Rattle.search.proofs.DeadLooks.{Passable, Alike}
 
 -- w is seen, and not dead
 pub record Live (dead from : List ℕ) (w : ℕ) : Type 0 where

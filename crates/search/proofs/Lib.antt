@@ -35,8 +35,9 @@ pub mod ChokeLaws
 pub mod FromOne
 pub mod ReachedTests
 pub mod ChokeExamples
--- Laws of dead gateways: lists with some left out, the search past the dead beside 01's, its shift, what it leaves where it ran out, placing, and the choke set.
+-- Laws of dead gateways: lists with some left out, the looks and the search past the dead beside 01's, its shift, what it leaves where it ran out, placing, and the choke set.
 pub mod Without
+pub mod DeadLooks
 pub mod DeadWalk
 pub mod Dead
 pub mod DeadShift
