@@ -35,7 +35,7 @@ fn settle(
     v: u16,
     limits: &[u8],
     links: &[u16],
-    rows: &Rows,
+    rows: &mut Rows,
     holders: &mut [u16],
     queue: &mut [u16],
     from: &mut [u16],
@@ -47,7 +47,7 @@ fn settle(
     queue[0] = v;
     let w = walk::walk(limits, links, rows, queue, 1, from);
     match w {
-        Walked::Found(u, x) => shift_back(n, v, u, x, from, holders),
+        Walked::Found(u, x) => shift_back(n, v, u, x, from, rows, holders),
         Walked::RanOut(_) => 0,
     }
 }
@@ -58,7 +58,7 @@ fn place_unheld(n: u16, v: u16, limits: &[u8], links: &[u16], holders: &mut [u16
     ensures holders { λ _. ⌜ now (holders .exit) ≡ placedHolders n (at (now (limits .entry))) (now (links .entry)) (now (holders .entry)) v ⌝ }
     ensures moved { λ r. ⌜ r ≡ moved n (at (now (holders .entry))) (at (placedHolders n (at (now (limits .entry))) (now (links .entry)) (now (holders .entry)) v)) ⌝ }
 {
-    let rows = gather(n, holders);
+    let mut rows = gather(n, holders);
     let mut queue = lists::marks::zeros();
     let mut from = lists::marks::nones();
     let end = n as usize;
@@ -67,7 +67,7 @@ fn place_unheld(n: u16, v: u16, limits: &[u8], links: &[u16], holders: &mut [u16
         v,
         limits,
         links,
-        &rows,
+        &mut rows,
         holders,
         &mut queue,
         &mut from[..end],
