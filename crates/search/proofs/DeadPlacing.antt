@@ -1,28 +1,31 @@
 -- Placing past the dead: the holders after it and the number moved are those of 01's search. Who is kept leaves the dead as they are; who is left adds what its search saw.
-use Prim.Native.Nat.{ℕ}
+use Prim.Native.Nat.{ℕ, _<_, _≤_}
 use mathlib.Core.Path.{_≡_, refl, sym, _∙_}
 use mathlib.Core.Logic.{⊎-elim}
 use mathlib.Core.Bool.{Bool, true, false, _||_}
 use mathlib.Core.List.{List, [], _∷_}
 use native.Mathlib.Omega.{arith}
 use lib.Dec.{eqb}
+use lib.ListN.{set}
 use borrow.Author.Tests.{eqb-true, eq-eqb}
 use Rattle.packing.specs.Lists.{memberOf}
-use Rattle.packing.specs.Plant.{at, linked}
-use Rattle.packing.specs.Holders.{Feasible}
+use Rattle.packing.specs.Plant.{GATEWAYS, HIGHEST, at, linked}
+use Rattle.packing.specs.Holders.{holds, Feasible}
 use Rattle.packing.specs.Moved.{moved}
 use Rattle.packing.proofs.Tests.{clash, or-cases, not-test}
 use Rattle.packing.proofs.Lists.{member-at}
 use Rattle.search.specs.Search.{found, more, seen, walk, shift, settled, placedHolders}
 use Rattle.search.specs.Pre.{Placeable, takings}
+use Rattle.search.specs.RowPre.{RowsFit}
 use Rattle.search.specs.Dead.{walkPast, deadHold, Dead}
 use Rattle.search.proofs.States.{by-state, placeable-startable}
 use Rattle.search.proofs.Reach.{reached-stops, walk-exhausted}
 use Rattle.search.proofs.Placing.{alone, place-is}
 use Rattle.search.proofs.Least.{found-moved}
+use Rattle.search.proofs.RowShift.{found-rows, fits-read}
 use Rattle.search.proofs.Dead.{unheld-outside, dead-passed}
 use Rattle.search.proofs.DeadWalk.{passed-found, passed-more}
-use Rattle.search.proofs.DeadShift.{Shiftable, shift-live, shift-past, takings-past, found-shiftable}
+use Rattle.search.proofs.DeadShift.{Shiftable, holder-live, shiftable-next, shift-live, shift-past, takings-past, found-shiftable}
 use Rattle.search.proofs.DeadKept.{Untouched, untouched-taken, dead-kept}
 use Rattle.search.proofs.DeadOut.{seen-either, out-closed, out-owned, out-least}
 
@@ -40,12 +43,15 @@ module _ {n : ℕ} {limit : ℕ → ℕ} {ls hs : List ℕ} {left : ℕ → Bool
       shiftable : Shiftable n v dead from (deadHold n hs left dead) hs u x
       shifts : shift n v past u x hs ≡ shift n v from u x hs
       takes : takings n v past u x hs ≡ takings n v from u x hs
+      -- .. by marks that are the same wherever the shift reads them
+      reads : (hs' : List ℕ) (u' x' : ℕ) → Shiftable n v dead from (deadHold n hs left dead) hs' u' x' → (x' ≡ v → ⊥)
+          → (at past (at hs' x') ≡ at from (at hs' x')) × Shiftable n v dead from (deadHold n hs left dead) (set hs' x' u') (at hs' x') (at from (at hs' x'))
 
     plain : Plain
     plain =
         let (from, ends, alike, live) = passed-found (dead-passed d) (placeable-startable p) start-out e in
         let s = found-shiftable limit ls (dead-passed d) p (reached-stops n limit ls hs (v ∷ []) (placeable-startable p) ends) live in
-        record { from = from; ends = ends; shiftable = s; shifts = shift-past alike n hs u x s; takes = takings-past alike n hs u x s }
+        record { from = from; ends = ends; shiftable = s; shifts = shift-past alike n hs u x s; takes = takings-past alike n hs u x s; reads = λ l w y q other. (alike .same (at l y) (holder-live q other .alive), shiftable-next q other) }
 
     -- .. so the holders after it are
     placed-shift : placedHolders n limit ls hs v ≡ shift n v (plain .from) u x hs
@@ -54,6 +60,11 @@ module _ {n : ℕ} {limit : ℕ → ℕ} {ls hs : List ℕ} {left : ℕ → Bool
 
     pub past-takings : takings n v past u x hs ≡ moved n (at hs) (at (placedHolders n limit ls hs v))
     past-takings = rw placed-shift (plain .takes ∙ found-moved limit ls p (plain .ends))
+
+    -- .. and the rows are kept through the shift
+    pub past-fits : ((w : ℕ) → w < n → limit w ≤ HIGHEST) → (at hs v < GATEWAYS → holds n (at hs) (at hs v) ≤ HIGHEST) → RowsFit n n v past u x hs
+    past-fits most its =
+        fits-read n v (plain .from) past (Shiftable n v dead (plain .from) (deadHold n hs left dead)) (plain .reads) n hs u x (plain .shiftable) (found-rows ls hs p most its (plain .ends))
 
   -- where it ran out, so did 01's
   past-unchanged : {queue past : List ℕ} → walkPast n limit ls hs (v ∷ []) dead ≡ more queue past → placedHolders n limit ls hs v ≡ hs

@@ -38,11 +38,11 @@ pub record Shiftable (n v : ℕ) (dead from : List ℕ) (R : ℕ → Bool) (hs :
 
 module _ {n v : ℕ} {dead from : List ℕ} {R : ℕ → Bool} where
   -- x's old holder, where x is not v
-  holder-live : {hs : List ℕ} {u x : ℕ} → Shiftable n v dead from R hs u x → (x ≡ v → ⊥) → Live dead from (at hs x)
+  pub holder-live : {hs : List ℕ} {u x : ℕ} → Shiftable n v dead from R hs u x → (x ≡ v → ⊥) → Live dead from (at hs x)
   holder-live s other = ⊎-elim (λ e. absurd (other e)) (λ l. l) (s .here)
 
   -- .. takes the gateway that it was seen from
-  shiftable-next : {hs : List ℕ} {u x : ℕ} → Shiftable n v dead from R hs u x → (x ≡ v → ⊥) → Shiftable n v dead from R (set hs x u) (at hs x) (at from (at hs x))
+  pub shiftable-next : {hs : List ℕ} {u x : ℕ} → Shiftable n v dead from R hs u x → (x ≡ v → ⊥) → Shiftable n v dead from R (set hs x u) (at hs x) (at from (at hs x))
   shiftable-next {hs} {u} {x} s other =
       let old = holder-live s other in
       record {

@@ -1,4 +1,4 @@
--- Laws of the search: of lists and states; of the table of what is held (Rows, SameTable, Moves); of the loops (Gathering, Joining, Looks, Turns, and the rounds of Shifting);
+-- Laws of the search: of lists and states; of the table of what is held (Rows, SameTable, Moves), and of a table that is kept (RowMoves, RowShift); of the loops (Gathering, RowSteps, Joining, Looks, Turns, and the rounds of Shifting);
 -- of what holds through a walk and what it reaches (Walking, Reach), what a shift leaves, what placing does, and what it does not depend on (Repeats, Limits);
 -- of the number moved: cuts of the queue, that no other holders differ at fewer gateways, and the statements (Cuts, Least, Moved).
 -- Laws of the choke set: of the lists and the loops that write them (Unheld, Seen), and of the walk itself. Tested has what the public calls test.
@@ -11,6 +11,8 @@ pub mod TableExamples
 pub mod SameTable
 pub mod Moves
 pub mod Gathering
+pub mod RowSteps
+pub mod RowMoves
 pub mod Joining
 pub mod Results
 pub mod Looks
@@ -21,6 +23,7 @@ pub mod Reach
 pub mod Taken
 pub mod Shifting
 pub mod Placing
+pub mod RowShift
 pub mod Cuts
 pub mod Least
 pub mod Tested
@@ -45,3 +48,4 @@ pub mod DeadKept
 pub mod DeadOut
 pub mod DeadPlacing
 pub mod DeadChoke
+pub mod DeadStep

@@ -32,7 +32,7 @@ take-replicate (suc n) zero a h = absurd (omega arith)
 take-replicate (suc n) (suc m) a h = ap {B = List ℕ} (λ l. a ∷ l) (take-replicate n m a (omega arith))
 
 -- a default does not matter below the length
-default-below : {A : Type 0} (l : List A) (i : ℕ) (a b : A) → i < length l → getD l i a ≡ getD l i b
+pub default-below : {A : Type 0} (l : List A) (i : ℕ) (a b : A) → i < length l → getD l i a ≡ getD l i b
 default-below [] i a b h = absurd (omega arith)
 default-below (x ∷ l) zero a b h = refl
 default-below (x ∷ l) (suc i) a b h = default-below l i a b (omega arith)

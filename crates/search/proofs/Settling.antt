@@ -12,6 +12,7 @@ use Rattle.search.specs.declared.Walked.{Walked}
 use Rattle.search.specs.declared.Walked.the-variants.{Found, RanOut}
 use Rattle.search.specs.Table.{heldTable}
 use Rattle.search.specs.Dead.{walkPast}
+use Rattle.search.specs.RowPre.{RowsKept}
 use Rattle.search.specs.Pre.{takings, TableOf, ForSome, ForEach, Is, Workspace, Walkable, Placeable, Settleable, Outcome}
 use Rattle.search.proofs.Rows.{take-replicate}
 use Rattle.search.proofs.States.{by-state, going-start, placeable-startable}
@@ -46,23 +47,24 @@ module _
     pub settle-walked : Is w queue' from' (walkPast n limit ls hs (v ∷ []) from)
     settle-walked = rw (first-set queue v (omega (arith, s .places, s .free .inside))) at (d n hs (settle-table s) (settle-walkable s))
 
-    pub settle-kept : {u x r : ℕ} {hs' : List ℕ} → w ≡ Found u x → hs' ≡ shift n v from' u x hs → r ≡ takings n v from' u x hs
-        → Outcome n v hs (walkPast n limit ls hs (v ∷ []) from) r hs' from'
+    pub settle-kept : {u x r : ℕ} {hs' : List ℕ} (rows' : List (List ℕ)) → w ≡ Found u x
+        → (hs' ≡ shift n v from' u x hs) × ((r ≡ takings n v from' u x hs) × RowsKept n v from' u x hs rows rows')
+        → Outcome n v hs (walkPast n limit ls hs (v ∷ []) from) r hs' from' rows rows'
     unfolding Outcome
-    settle-kept {u} {x} q e g = let is : Is (Found u x) queue' from' (walkPast n limit ls hs (v ∷ []) from) = rw q at settle-walked in rw (found-state is) (e, g)
+    settle-kept {u} {x} rows' q shifted = let is : Is (Found u x) queue' from' (walkPast n limit ls hs (v ∷ []) from) = rw q at settle-walked in rw (found-state is) (shifted .0, shifted .1 .0, shifted .1 .1)
 
-    pub settle-left : {tail : ℕ} → w ≡ RanOut tail → Outcome n v hs (walkPast n limit ls hs (v ∷ []) from) 0 hs from'
+    pub settle-left : {tail : ℕ} → w ≡ RanOut tail → Outcome n v hs (walkPast n limit ls hs (v ∷ []) from) 0 hs from' rows rows
     unfolding Outcome
-    settle-left {tail} q = let is : Is (RanOut tail) queue' from' (walkPast n limit ls hs (v ∷ []) from) = rw q at settle-walked in rw (more-state is) (refl, refl, refl)
+    settle-left {tail} q = let is : Is (RanOut tail) queue' from' (walkPast n limit ls hs (v ∷ []) from) = rw q at settle-walked in rw (more-state is) (refl, refl, refl, refl)
 
 -- From marks of nobody it is 01's search.
-pub unmarked-outcome : {n : ℕ} (limit : ℕ → ℕ) (ls : List ℕ) {hs from : List ℕ} (hs' from' : List ℕ) {v : ℕ} (r : ℕ) → Placeable n hs v → from ≡ replicate n NONE
-    → Outcome n v hs (walkPast n limit ls hs (v ∷ []) from) r hs' from'
+pub unmarked-outcome : {n : ℕ} (limit : ℕ → ℕ) (ls : List ℕ) {hs from : List ℕ} (hs' from' : List ℕ) (rows rows' : List (List ℕ)) {v : ℕ} (r : ℕ) → Placeable n hs v → from ≡ replicate n NONE
+    → Outcome n v hs (walkPast n limit ls hs (v ∷ []) from) r hs' from' rows rows'
     → (hs' ≡ placedHolders n limit ls hs v) × (r ≡ moved n (at hs) (at (placedHolders n limit ls hs v)))
 unfolding placedHolders settled Outcome walk
-unmarked-outcome {n} limit ls {hs} hs' from' {v} r p none o =
-    by-state (walk n limit ls hs (v ∷ [])) (λ u x f e. let (h, m) = rw (none, e) at o in rw e (h, m ∙ found-moved limit ls p e))
-    (λ q f e. let (h, m, same) = rw (none, e) at o in rw e (h, m ∙ sym (moved-none n (at hs))))
+unmarked-outcome {n} limit ls {hs} hs' from' rows rows' {v} r p none o =
+    by-state (walk n limit ls hs (v ∷ [])) (λ u x f e. let (h, m, _) = rw (none, e) at o in rw e (h, m ∙ found-moved limit ls p e))
+    (λ q f e. let (h, m, _, _) = rw (none, e) at o in rw e (h, m ∙ sym (moved-none n (at hs))))
 
 -- The arrays to work in: zeros for the queue, and the first n of the marks of nobody.
 module _ {n : ℕ} {all : List ℕ} (unseen : all ≡ replicate GATEWAYS NONE) where

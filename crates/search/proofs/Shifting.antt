@@ -100,7 +100,7 @@ module _ (n : ℕ) (ls : List ℕ) (v : ℕ) (from : List ℕ) (inside : v < n) 
       (d .0, d .1, rw same (d .2), rw same (d .3), rw same (chain-kept hs x u j c k (at from (at hs y)) (omega arith) (d .4)))
 
   -- .. as the chain from the next one does
-  chain-next : (hs : List ℕ) (x u k : ℕ) → Chain hs (suc k) x → Chain (set hs x u) k (at from (at hs x))
+  pub chain-next : (hs : List ℕ) (x u k : ℕ) → Chain hs (suc k) x → Chain (set hs x u) k (at from (at hs x))
   unfolding Chain
   chain-next hs x u k c = chain-kept hs x u (suc k) (unfold Chain in c) k (at from (at hs x)) (omega arith) (c .4)
 

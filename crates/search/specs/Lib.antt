@@ -10,3 +10,4 @@ pub mod Ascending
 pub mod ChokePre
 pub mod ReachedPre
 pub mod Dead
+pub mod RowPre

@@ -10,6 +10,7 @@ use Rattle.packing.specs.Plant.{NONE, GATEWAYS, HIGHEST, at}
 use Rattle.packing.specs.Holders.{held, holds}
 use Rattle.search.specs.Search.{Search, found, more, seen, shift}
 use Rattle.search.specs.Table.{heldTable}
+use Rattle.search.specs.RowPre.{RowsKept}
 use Rattle.search.specs.declared.Walked.{Walked}
 use Rattle.search.specs.declared.Walked.the-variants.{Found, RanOut}
 
@@ -118,7 +119,7 @@ pub record Settleable (n : ℕ) (hs : List ℕ) (v : ℕ) (rows : List (List ℕ
   pub places : n ≤ length queue
   pub going : Going n hs (v ∷ []) from
 
--- what a search for v's holder leaves, by how it ends: r is the number moved, hs' the holders and from' the marks then
-unfoldable pub Outcome : ℕ → ℕ → List ℕ → Search → ℕ → List ℕ → List ℕ → Type 0
-Outcome n v hs (found u x from) r hs' from' = (hs' ≡ shift n v from u x hs) × (r ≡ takings n v from u x hs)
-Outcome n v hs (more queue from) r hs' from' = (hs' ≡ hs) × (r ≡ 0) × (from' ≡ from)
+-- what a search for v's holder leaves, by how it ends: r is the number moved, hs' the holders, from' the marks and rows' the rows then
+unfoldable pub Outcome : ℕ → ℕ → List ℕ → Search → ℕ → List ℕ → List ℕ → List (List ℕ) → List (List ℕ) → Type 0
+Outcome n v hs (found u x from) r hs' from' rows rows' = (hs' ≡ shift n v from u x hs) × (r ≡ takings n v from u x hs) × RowsKept n v from u x hs rows rows'
+Outcome n v hs (more queue from) r hs' from' rows rows' = (hs' ≡ hs) × (r ≡ 0) × (from' ≡ from) × (rows' ≡ rows)

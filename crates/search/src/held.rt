@@ -1,15 +1,17 @@
-// What each gateway holds, gathered before the search into a table of rows (02, change 3). The search goes by the table alone.
+// What each gateway holds, gathered before the search into a table of rows (02, change 3), and kept while gateways get other holders. The search goes by the table alone.
 ghost use mathlib.Core.Path.{_≡_};
-ghost use lib.ListN.{replicate};
+ghost use mathlib.Core.List.{_++_};
+ghost use lib.ListN.{getD, replicate, take, drop};
 ghost use Rattle.packing.specs.Plant.{GATEWAYS, HIGHEST, NONE};
 ghost use Rattle.search.specs.Table.{heldTable};
 ghost use Rattle.search.specs.Pre.{Joinable, Joined, rowHasPlace};
+ghost use Rattle.search.specs.RowPre.{entered, movedUp, without, leftRow, joinedRow, movedRows};
 
 // The places of a row: as many as the highest limit.
 const ROW: usize = 16;
 
 // A row for each number below 1,024.
-pub(crate) type Rows = [[u16; ROW]; lists::PLACES];
+pub type Rows = [[u16; ROW]; lists::PLACES];
 
 // Rows with nobody in them.
 fn empty_rows() -> Rows
@@ -19,7 +21,7 @@ fn empty_rows() -> Rows
 }
 
 // One pass over the holders: v takes the next place in the row of its holder.
-pub(crate) fn gather(n: u16, holders: &[u16]) -> Rows
+pub fn gather(n: u16, holders: &[u16]) -> Rows
     ensures { λ r. ⌜ r ≡ heldTable n (now (holders .entry)) ⌝ }
 {
     let mut rows = empty_rows();
@@ -68,4 +70,88 @@ pub(crate) fn join(row: &[u16], queue: &mut [u16], tail: usize) -> usize
         i += 1;
     }
     end
+}
+
+// The number at place i of a row, and 65535 past its end.
+fn number(row: &[u16], i: usize) -> u16
+    ensures { λ r. ⌜ r ≡ getD (now (row .entry)) i NONE ⌝ }
+{
+    if row.len() <= i {
+        return lists::NONE;
+    }
+    row[i]
+}
+
+// x joins a row in its place: at each place the smaller number stays and the larger goes on.
+fn enter(row: &mut [u16], x: u16)
+    ensures { λ _. ⌜ now (row .exit) ≡ entered x (now (row .entry)) ⌝ }
+{
+    let mut carried = x;
+    let mut i: usize = 0;
+    while i < row.len() {
+        if carried == lists::NONE {
+            return;
+        }
+        let here = row[i];
+        if carried < here {
+            row[i] = carried;
+            carried = here;
+        }
+        i += 1;
+    }
+}
+
+// Those behind a place move up, as far as anybody stands there.
+fn move_up(row: &mut [u16], place: usize)
+    ensures { λ _. ⌜ now (row .exit) ≡ take place (now (row .entry)) ++ movedUp (drop place (now (row .entry))) ⌝ }
+{
+    let mut i = place;
+    while i < row.len() {
+        let next = number(row, i + 1);
+        row[i] = next;
+        if next == lists::NONE {
+            return;
+        }
+        i += 1;
+    }
+}
+
+// x leaves a row, if it stands in it.
+fn leave(row: &mut [u16], x: u16)
+    ensures { λ _. ⌜ now (row .exit) ≡ without x (now (row .entry)) ⌝ }
+{
+    let mut i: usize = 0;
+    while i < row.len() {
+        if row[i] == x {
+            move_up(row, i);
+            return;
+        }
+        i += 1;
+    }
+}
+
+// x leaves the row of u.
+fn leave_row(rows: &mut Rows, x: u16, u: u16)
+    ensures { λ _. ⌜ now (rows .exit) ≡ leftRow x u (now (rows .entry)) ⌝ }
+{
+    if u < lists::GATEWAYS {
+        leave(&mut rows[u as usize], x);
+    }
+}
+
+// x joins the row of u.
+fn join_row(rows: &mut Rows, x: u16, u: u16)
+    ensures { λ _. ⌜ now (rows .exit) ≡ joinedRow x u (now (rows .entry)) ⌝ }
+{
+    if u < lists::GATEWAYS {
+        enter(&mut rows[u as usize], x);
+    }
+}
+
+// x is held by u, and no more by its old holder. A number past the table has no row.
+pub(crate) fn move_row(rows: &mut Rows, x: u16, old: u16, u: u16)
+    ensures { λ _. ⌜ now (rows .exit) ≡ movedRows x old u (now (rows .entry)) ⌝ }
+{
+    leave_row(rows, x, old);
+    join_row(rows, x, u);
 }

@@ -1,7 +1,8 @@
 // Finds a holder for a gateway (01, "Placing"), on plain lists and numbers. The choke set, which takes the same walk, is module choke; who the walk from one gateway reaches, module reached.
 mod bytes;
 pub mod choke;
-mod held;
+pub mod held;
+pub mod past;
 pub mod reached;
 mod shift;
 mod start;
@@ -32,25 +33,25 @@ pub struct Placed {
     pub moved: u16,
 }
 
-// Places v past those that are marked, with the table of the holders, and a queue to work in. Returns how many have another holder afterwards; 0 where v is left, and then the marks stay.
+// Places v past those that are marked, with the table of the holders, and a queue to work in. Returns how many have another holder afterwards: none where v is left, and only then the marks are of use.
 fn settle(
     n: u16,
     v: u16,
     limits: &[u8],
     links: &[u16],
     next: &[u16],
-    rows: &Rows,
+    rows: &mut Rows,
     holders: &mut [u16],
     queue: &mut [u16],
     from: &mut [u16],
 ) -> u16
     requires { ⌜ Index (now links) (now next) × Settleable n (now holders) v (now rows) (now queue) (now from) ⌝ }
-    ensures { λ r. ⌜ Outcome n v (now (holders .entry)) (walkPast n (at (now (limits .entry))) (now (links .entry)) (now (holders .entry)) (v ∷ []) (now (from .entry))) r (now (holders .exit)) (now (from .exit)) ⌝ }
+    ensures { λ r. ⌜ Outcome n v (now (holders .entry)) (walkPast n (at (now (limits .entry))) (now (links .entry)) (now (holders .entry)) (v ∷ []) (now (from .entry))) r (now (holders .exit)) (now (from .exit)) (now (rows .entry)) (now (rows .exit)) ⌝ }
 {
     queue[0] = v;
     let w = walk::walk(limits, links, next, rows, queue, 1, from);
     match w {
-        Walked::Found(u, x) => shift_back(n, v, u, x, from, holders),
+        Walked::Found(u, x) => shift_back(n, v, u, x, from, rows, holders),
         Walked::RanOut(_) => 0,
     }
 }
@@ -68,7 +69,7 @@ fn place_unheld(
     ensures holders { λ _. ⌜ now (holders .exit) ≡ placedHolders n (at (now (limits .entry))) (now (links .entry)) (now (holders .entry)) v ⌝ }
     ensures moved { λ r. ⌜ r ≡ moved n (at (now (holders .entry))) (at (placedHolders n (at (now (limits .entry))) (now (links .entry)) (now (holders .entry)) v)) ⌝ }
 {
-    let rows = gather(n, holders);
+    let mut rows = gather(n, holders);
     let mut queue = lists::marks::zeros();
     let mut from = lists::marks::nones();
     let end = n as usize;
@@ -78,7 +79,7 @@ fn place_unheld(
         limits,
         links,
         next,
-        &rows,
+        &mut rows,
         holders,
         &mut queue,
         &mut from[..end],

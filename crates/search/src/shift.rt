@@ -1,12 +1,24 @@
 // "u takes x. If x is not v, x's old holder lets x go and takes the gateway it was seen from, and so on until v has a holder."
+use crate::held::Rows;
+use crate::held::move_row;
 ghost use mathlib.Core.Path.{_≡_};
 ghost use Rattle.search.specs.Search.{shift};
 ghost use Rattle.search.specs.Pre.{takings};
+ghost use Rattle.search.specs.RowPre.{RowsKept};
 
-// Returns how many were taken.
-pub(crate) fn shift_back(n: u16, v: u16, u: u16, x: u16, from: &[u16], holders: &mut [u16]) -> u16
+// Each that is taken leaves the row of its old holder and joins that of its new one. Returns how many were taken.
+pub(crate) fn shift_back(
+    n: u16,
+    v: u16,
+    u: u16,
+    x: u16,
+    from: &[u16],
+    rows: &mut Rows,
+    holders: &mut [u16],
+) -> u16
     ensures holders { λ _. ⌜ now (holders .exit) ≡ shift n v (now (from .entry)) u x (now (holders .entry)) ⌝ }
     ensures count { λ r. ⌜ r ≡ takings n v (now (from .entry)) u x (now (holders .entry)) ⌝ }
+    ensures rows { λ _. ⌜ RowsKept n v (now (from .entry)) u x (now (holders .entry)) (now (rows .entry)) (now (rows .exit)) ⌝ }
 {
     let mut taker = u;
     let mut taken = x;
@@ -14,6 +26,7 @@ pub(crate) fn shift_back(n: u16, v: u16, u: u16, x: u16, from: &[u16], holders: 
     while k < n {
         let old = lists::entry(holders, taken);
         lists::put(holders, taken, taker);
+        move_row(rows, taken, old, taker);
         if taken == v {
             return k + 1;
         }

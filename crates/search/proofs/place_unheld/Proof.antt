@@ -36,7 +36,7 @@ returns : tie.Need-returns
 returns c = let called = c .before .before .before .before in
     let marks = called .before .before .before .before .before in
     let start = marks .before .before .before .before .before .before .before .before in
-    unmarked-outcome _ _ _ _ _ (start .pre .1) (workspace (marks .nones .ensures) (marks .before .zeros .ensures) (start .pre .1 .few) .unseen) (called .settle .ensures)
+    unmarked-outcome _ _ _ _ _ _ _ (start .pre .1) (workspace (marks .nones .ensures) (marks .before .zeros .ensures) (start .pre .1 .few) .unseen) (called .settle .ensures)
 
 pub place-unheld-spec : {M : Type 1} → statement M
 place-unheld-spec =

@@ -1,23 +1,26 @@
 use borrow.Author.Needs.{needs}
 use Prim.Native.Nat.{_-_}
-use Rattle.search.proofs.Shifting.{Rounds, rounds-start, rounds-turn, rounds-done, rounds-end}
+use Rattle.search.proofs.RowShift.{RowRounds, row-rounds-start, row-rounds-turn, row-rounds-done, row-rounds-end}
 use Rattle.search.proofs.shift.shift_back.Statement.{statement}
 use Rattle.search.proofs.shift.shift_back.Tie as tie
 
 abbrev Inv-loop : tie.InvT-loop
-Inv-loop n v u x from holders₀ taker₀ taken₀ k₀ holders taker taken k = Rounds n v u x from holders₀ holders taker taken k
+Inv-loop n v u x from rows₀ holders₀ taker₀ taken₀ k₀ rows holders taker taken k = RowRounds n v u x from holders₀ rows₀ holders rows taker taken k
 
 abbrev μ-loop : tie.MeasureT-loop
-μ-loop n v u x from holders₀ taker₀ taken₀ k₀ holders taker taken k = n - k
+μ-loop n v u x from rows₀ holders₀ taker₀ taken₀ k₀ rows holders taker taken k = n - k
 
 loop-holds : tie.Need-loop-holds Inv-loop μ-loop
-loop-holds c = rounds-start _ _ _ _ _ _
+loop-holds c = row-rounds-start _ _ _ _ _ _ _
 
 entry-requires : tie.Need-entry-requires Inv-loop μ-loop
 entry-requires c κs = search needs
 
 put-requires : tie.Need-put-requires Inv-loop μ-loop
 put-requires c κs = search needs
+
+move-row-requires : tie.Need-move-row-requires Inv-loop μ-loop
+move-row-requires c κs = search needs
 
 add-result : tie.Need-add-result Inv-loop μ-loop
 add-result c = search needs
@@ -26,10 +29,11 @@ same-length : tie.Need-same-length Inv-loop μ-loop
 same-length c = search needs
 
 returns : tie.Need-returns Inv-loop μ-loop
-returns c = let put = c .before .before .before in
+returns c = let moved = c .before in
+    let put = moved .before .before .before .before in
     let entry = put .before .before in
     let turn = entry .before .before in
-    rounds-done _ _ _ _ _ _ (turn .before .loop .inv) (turn .loop-test .taken) (put .put .ensures) (c .if1 .taken)
+    row-rounds-done _ _ _ _ _ _ _ (turn .before .loop .inv) (turn .loop-test .taken) (entry .entry .ensures) (put .put .ensures) (moved .move-row .ensures) (c .if1 .taken)
 
 entry-requires-2 : tie.Need-entry-requires-2 Inv-loop μ-loop
 entry-requires-2 c κs = search needs
@@ -41,16 +45,17 @@ loop-less : tie.Need-loop-less Inv-loop μ-loop
 loop-less c = search needs
 
 loop-again : tie.Need-loop-again Inv-loop μ-loop
-loop-again c = let put = c .before .before .before .before in
+loop-again c = let moved = c .before .before in
+    let put = moved .before .before .before .before in
     let entry = put .before .before in
     let turn = entry .before .before in
-    rounds-turn _ _ _ _ _ _ (turn .before .loop .inv) (turn .loop-test .taken) (entry .entry .ensures) (put .put .ensures) (c .before .if1 .left) (c .entry2 .ensures)
+    row-rounds-turn _ _ _ _ _ _ _ (turn .before .loop .inv) (turn .loop-test .taken) (entry .entry .ensures) (put .put .ensures) (moved .move-row .ensures) (c .before .if1 .left) (c .entry2 .ensures)
 
 same-length-2 : tie.Need-same-length-2 Inv-loop μ-loop
 same-length-2 c = search needs
 
 returns-2 : tie.Need-returns-2 Inv-loop μ-loop
-returns-2 c = rounds-end _ _ _ _ _ _ (c .before .loop .inv) (c .loop-test .left)
+returns-2 c = row-rounds-end _ _ _ _ _ _ _ (c .before .loop .inv) (c .loop-test .left)
 
 pub shift-back-spec : {M : Type 1} → statement M
 shift-back-spec =
@@ -61,6 +66,7 @@ shift-back-spec =
     loop-holds
     entry-requires
     put-requires
+    move-row-requires
     add-result
     same-length
     returns

@@ -1,0 +1,114 @@
+-- The table through a shift: each round moves one gateway from one row to another. And that a search for v that found a place free gives a shift that keeps the table.
+use Prim.Native.Nat.{ℕ, zero, suc, _+_, _-_, _<_, _≤_}
+use mathlib.Core.Path.{_≡_, refl, sym, ap, _∙_}
+use mathlib.Core.Bool.{Bool}
+use mathlib.Core.List.{List, [], _∷_}
+use native.Mathlib.Nat.{sub-zero}
+use native.Mathlib.Omega.{arith}
+use lib.Dec.{eqb}
+use lib.ListN.{length, set, length-set}
+use borrow.Author.Tests.{eqb-true, eq-eqb, ltb-true}
+use Rattle.packing.specs.Count.{pick}
+use Rattle.packing.specs.Plant.{GATEWAYS, HIGHEST, at}
+use Rattle.packing.specs.Holders.{holds}
+use Rattle.packing.proofs.Tests.{by-bool}
+use Rattle.search.specs.Search.{found, walk, shift}
+use Rattle.search.specs.Table.{heldTable}
+use Rattle.search.specs.Pre.{takings, Placeable}
+use Rattle.search.specs.RowPre.{movedRows, RowsFit, RowsKept}
+use Rattle.search.proofs.RowMoves.{table-moved}
+use Rattle.search.proofs.Taken.{taken-other, taken-holds}
+use Rattle.search.proofs.Shifting.{Rounds, rounds-start, rounds-turn, rounds-done, rounds-end, Chain, chain-next}
+use Rattle.search.proofs.Placing.{FoundFrom, walk-found}
+
+-- after k rounds the rows are the table still, where the shift's rounds fit, and those that are left fit
+pub record RowRounds (n v u x : ℕ) (from hs₀ : List ℕ) (rows₀ : List (List ℕ)) (hs : List ℕ) (rows : List (List ℕ)) (taker taken k : ℕ) : Type 0 where
+  pub rounds : Rounds n v u x from hs₀ hs taker taken k
+  pub kept : n ≤ GATEWAYS → n ≤ length hs₀ → RowsFit n n v from u x hs₀ → rows₀ ≡ heldTable n hs₀ → RowsFit (n - k) n v from taker taken hs × (rows ≡ heldTable n hs)
+
+module _ (n v u x : ℕ) (from hs₀ : List ℕ) (rows₀ : List (List ℕ)) where
+  pub row-rounds-start : RowRounds n v u x from hs₀ rows₀ hs₀ rows₀ u x 0
+  row-rounds-start = record { rounds = rounds-start n v u x from hs₀; kept = λ few long fits is. (rw sub-zero fits, is) }
+
+  module _
+      {hs : List ℕ} {rows : List (List ℕ)} {taker taken k : ℕ} (r : RowRounds n v u x from hs₀ rows₀ hs rows taker taken k) (l : k < n)
+      {old : ℕ} {hs' : List ℕ} {rows' : List (List ℕ)} (was : old ≡ at hs taken) (now : hs' ≡ set hs taken taker) (moved : rows' ≡ movedRows taken old taker rows)
+    where
+      -- the rows after one more round, and the rounds then left
+      one-more : n ≤ GATEWAYS → n ≤ length hs₀ → RowsFit n n v from u x hs₀ → rows₀ ≡ heldTable n hs₀
+          → (rows' ≡ heldTable n hs') × ((taken ≡ v → ⊥) → RowsFit (n - (k + 1)) n v from (at hs taken) (at from (at hs taken)) (set hs taken taker))
+      unfolding RowsFit
+      one-more few long fits is =
+          let before = r .kept few long fits is in
+          let next : n - k ≡ suc (n - (k + 1)) = omega arith in
+          let round = rw next at (before .0) in
+          (rw (moved, was, now) (table-moved n hs taken taker few (rw (r .rounds .same) long) (round .0) (round .1) (before .1)), round .2)
+
+      pub row-rounds-turn : {taken' : ℕ} → (taken ≡ v → ⊥) → taken' ≡ at from old → RowRounds n v u x from hs₀ rows₀ hs' rows' old taken' (k + 1)
+      row-rounds-turn go next =
+          record {
+            rounds = rounds-turn n v u x from hs₀ (r .rounds) l was now go next;
+            kept = λ few long fits is. let m = one-more few long fits is in (rw (next, was, now) (m .1 go), m .0);
+          }
+
+      pub row-rounds-done : taken ≡ v → (hs' ≡ shift n v from u x hs₀) × ((k + 1 ≡ takings n v from u x hs₀) × RowsKept n v from u x hs₀ rows₀ rows')
+      unfolding RowsKept
+      row-rounds-done done =
+          let e = rounds-done n v u x from hs₀ (r .rounds) l now done in
+          (e .0, (e .1, λ few long fits is. one-more few long fits is .0 ∙ ap (heldTable n) (e .0)))
+
+  pub row-rounds-end : {hs : List ℕ} {rows : List (List ℕ)} {taker taken k : ℕ} → RowRounds n v u x from hs₀ rows₀ hs rows taker taken k → n ≤ k
+      → (hs ≡ shift n v from u x hs₀) × ((k ≡ takings n v from u x hs₀) × RowsKept n v from u x hs₀ rows₀ rows)
+  unfolding RowsKept
+  row-rounds-end r l =
+      let e = rounds-end n v u x from hs₀ (r .rounds) l in
+      (e .0, (e .1, λ few long fits is. r .kept few long fits is .1 ∙ ap (heldTable n) (e .0)))
+
+-- Along a chain each that is taken has a holder, but v. Who holds no more than a row has places, holds no more in any round: each taker has a place free when it takes.
+module _ (n : ℕ) (ls : List ℕ) (v : ℕ) (from : List ℕ) (inside : v < n) (Few : ℕ → Type 0) (below : (w : ℕ) → w < n → Few w) where
+  chain-fits : (fuel k : ℕ) (hs : List ℕ) (u x : ℕ) → n ≤ length hs → u < n → Chain n ls v from inside hs k x → ((w : ℕ) → Few w → holds n (at hs) w ≤ HIGHEST)
+      → (at hs v < GATEWAYS → Few (at hs v)) → holds n (at hs) u < HIGHEST → RowsFit fuel n v from u x hs
+  unfolding RowsFit Chain
+  chain-fits zero k hs u x long l c few its free = tt
+  chain-fits (suc fuel) zero hs u x long l c few its free = (rw c inside, λ q. few (at hs x) (rw c (its (rw c at q))), λ go. absurd (go c))
+  chain-fits (suc fuel) (suc k) hs u x long l c few its free =
+      let old : at hs x < n = ltb-true _ _ (c .2) in (
+        c .1,
+        λ q. few (at hs x) (below (at hs x) old),
+        λ go. chain-fits fuel k (set hs x u) (at hs x) (at from (at hs x)) (rw length-set long) old (chain-next n ls v from inside hs x u k c)
+            (λ w f. within w (few w f)) (λ q. rw (taken-other n hs x u long (c .1) v (λ e. c .0 (sym e))) (its (rw (taken-other n hs x u long (c .1) v (λ e. c .0 (sym e))) at q))) freed,
+      )
+    where
+      one : (w : ℕ) → pick (eqb w w) 1 ≡ 1
+      one w = ap (λ (b : Bool). pick b 1) (eq-eqb w w refl)
+
+      within : (w : ℕ) → holds n (at hs) w ≤ HIGHEST → holds n (at (set hs x u)) w ≤ HIGHEST
+      within w f = by-bool (eqb u w) (λ q. rw (← eqb-true u w q) (omega (arith, taken-holds n hs x u long (c .1) u, one u))) (λ q. omega (arith, taken-holds n hs x u long (c .1) w, ap (λ (b : Bool). pick b 1) q))
+
+      freed : holds n (at (set hs x u)) (at hs x) < HIGHEST
+      freed =
+          by-bool (eqb u (at hs x)) (λ q. let same : u ≡ at hs x = eqb-true u (at hs x) q in omega (arith, taken-holds n hs x u long (c .1) (at hs x), one (at hs x), ap (λ (b : Bool). pick b 1) q, rw same at free))
+          (λ q. omega (arith, taken-holds n hs x u long (c .1) (at hs x), one (at hs x), ap (λ (b : Bool). pick b 1) q, few (at hs x) (below (at hs x) (ltb-true _ _ (c .2)))))
+
+-- So it is for the shift of a search for v that found a place free, by whatever marks it found it: nobody has a limit above sixteen, and v's old holder, where it is a number below 1,024, holds no more either.
+module _
+    {n : ℕ} {limit : ℕ → ℕ} (ls hs : List ℕ) {v : ℕ} (p : Placeable n hs v) (most : (w : ℕ) → w < n → limit w ≤ HIGHEST)
+    (its : at hs v < GATEWAYS → holds n (at hs) (at hs v) ≤ HIGHEST)
+  where
+    pub found-fits : {u x : ℕ} {from : List ℕ} → FoundFrom n limit ls hs v (p .inside) u x from → RowsFit n n v from u x hs
+    found-fits {u} {x} {from} f =
+        chain-fits n ls v from (p .inside) (λ w. holds n (at hs) w ≤ HIGHEST) (p .within) n (f .steps) hs u x (p .holders) (f .below) (f .chain) (λ w q. q) its (omega (arith, f .free, most u (f .below)))
+
+    pub found-rows : {u x : ℕ} {from : List ℕ} → walk n limit ls hs (v ∷ []) ≡ found u x from → RowsFit n n v from u x hs
+    found-rows e = found-fits (walk-found limit ls p e)
+
+-- .. and for the shift by other marks, where those that it reads are the same: S says so of each round
+module _
+    (n v : ℕ) (from past : List ℕ) (S : List ℕ → ℕ → ℕ → Type 0)
+    (step : (hs : List ℕ) (u x : ℕ) → S hs u x → (x ≡ v → ⊥) → (at past (at hs x) ≡ at from (at hs x)) × S (set hs x u) (at hs x) (at from (at hs x)))
+  where
+    pub fits-read : (fuel : ℕ) (hs : List ℕ) (u x : ℕ) → S hs u x → RowsFit fuel n v from u x hs → RowsFit fuel n v past u x hs
+    unfolding RowsFit
+    fits-read zero hs u x s f = tt
+    fits-read (suc fuel) hs u x s f =
+        (f .0, f .1, λ other. let (same, next) = step hs u x s other in rw same (fits-read fuel (set hs x u) (at hs x) (at from (at hs x)) next (f .2 other)))

@@ -1,0 +1,16 @@
+use borrow.Author.Needs.{needs}
+use Rattle.search.proofs.RowSteps.{moved-rows}
+use Rattle.search.proofs.held.move_row.Statement.{statement}
+use Rattle.search.proofs.held.move_row.Tie as tie
+
+leave-row-requires : tie.Need-leave-row-requires
+leave-row-requires c κs = search needs
+
+join-row-requires : tie.Need-join-row-requires
+join-row-requires c κs = search needs
+
+returns : tie.Need-returns
+returns c = moved-rows _ _ _ _ (c .before .before .leave-row .ensures) (c .join-row .ensures)
+
+pub move-row-spec : {M : Type 1} → statement M
+move-row-spec = tie.close (tie.spec leave-row-requires join-row-requires returns)
