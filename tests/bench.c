@@ -20,15 +20,20 @@ enum { SMALL_PLANTS = 2000, RANDOM_PLANTS = 3000 };
 
 static struct plant plant;
 
-/* What was timed before, to see how the time grows; and the highest ratios met. */
+/* What was timed before, to see how the time grows. */
 struct before {
     int size; /* gateways and links; 0 for none */
     struct timing timing;
 };
 
-static struct {
-    double to_plain, to_flow;
-} highest;
+/* The highest ratio met, and on which plant. */
+struct highest {
+    double ratio;
+    const char *name;
+    int n, m;
+};
+
+static struct highest to_plain, to_flow;
 
 static void print_head(void)
 {
@@ -56,24 +61,30 @@ static void print_line(const char *name, const struct before *b, const struct ti
     printf(" %6.1f\n", 1e9 * t->call / (plant.n + plant.m));
 }
 
-static void keep_highest(const struct timing *t)
+static void keep_highest(struct highest *h, double ratio, const char *name)
 {
-    if (t->call / t->plain > highest.to_plain)
-        highest.to_plain = t->call / t->plain;
-    if (t->call / t->flow > highest.to_flow)
-        highest.to_flow = t->call / t->flow;
+    if (ratio > h->ratio)
+        *h = (struct highest){ratio, name, plant.n, plant.m};
 }
 
-static bool show(const struct kind *k, struct rng *r, int n, enum links links, struct before *b)
+static void print_highest(const char *words, const struct highest *h)
 {
+    printf("%s at most %.3f: %s, %d gateways, %d links\n", words, h->ratio, h->name, h->n, h->m);
+}
+
+/* Each plant has random numbers of its own, so that it is the same whichever others are timed. */
+static bool show(const struct kind *k, int n, enum links links, struct before *b)
+{
+    struct rng r = {(uint64_t)n};
     struct timing t;
-    k->make(&plant, r, n, links);
+    k->make(&plant, &r, n, links);
     if (!timing_all(&plant, &t)) {
         printf("%s, %d gateways: the answers differ\n", k->name, n);
         return false;
     }
     print_line(k->name, b, &t);
-    keep_highest(&t);
+    keep_highest(&to_plain, t.call / t.plain, k->name);
+    keep_highest(&to_flow, t.call / t.flow, k->name);
     b->size = plant.n + plant.m;
     b->timing = t;
     return true;
@@ -81,18 +92,18 @@ static bool show(const struct kind *k, struct rng *r, int n, enum links links, s
 
 static bool table(int most)
 {
-    struct rng r = {8};
     print_head();
     for (int i = 0; i < kind_count; i++) {
         struct before b = {0};
         for (int n = 64; n <= most; n *= 4)
-            if (!show(&kinds[i], &r, n, USUAL, &b))
+            if (!show(&kinds[i], n, USUAL, &b))
                 return false;
-        if (most >= MAX_GATEWAYS && kinds[i].has_most && !show(&kinds[i], &r, MAX_GATEWAYS, MOST_OF_ALL, &b))
+        if (most >= MAX_GATEWAYS && kinds[i].has_most && !show(&kinds[i], MAX_GATEWAYS, MOST_OF_ALL, &b))
             return false;
     }
     printf("growth: over the line before, of gateways and links together and of the times\n");
-    printf("call to plain C at most %.2f, call to flow at most %.3f\n", highest.to_plain, highest.to_flow);
+    print_highest("call to plain C", &to_plain);
+    print_highest("call to flow", &to_flow);
     return true;
 }
 

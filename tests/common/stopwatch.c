@@ -27,7 +27,8 @@ static double one_turn(void (*work)(void), double share)
 void stopwatch(int count, void (*const *works)(void), int rounds, double share, double *seconds)
 {
     for (int round = 0; round < rounds; round++) {
-        for (int i = 0; i < count; i++) {
+        for (int j = 0; j < count; j++) {
+            int i = round % 2 == 0 ? j : count - 1 - j;
             double taken = one_turn(works[i], share);
             if (round == 0 || taken < seconds[i])
                 seconds[i] = taken;
