@@ -1,20 +1,18 @@
 -- What is built is the index of the links so far.
-use Prim.Native.Nat.{ℕ, zero, suc, _+_, _-_, _*_, _<_, _≤_}
+use Prim.Native.Nat.{ℕ, zero, suc, _+_, _-_, _*_, _/_, _<_, _≤_}
 use mathlib.Core.Path.{_≡_, refl, sym, _∙_}
 use mathlib.Core.Logic.{_⊎_, inl, inr, ⊎-elim}
 use mathlib.Core.List.{List}
 use native.Mathlib.Nat.{add-zero}
 use native.Mathlib.Omega.{arith}
-use lib.Dec.{eqb}
 use lib.ListN.{length, take, drop}
 use lib.Seq.{getD-take, length-take-le}
-use borrow.Author.Tests.{eqb-true, eqb-false, ne-eqb}
+use borrow.Author.Tests.{ne-eqb}
 use Rattle.packing.specs.Plant.{GATEWAYS, ENDS, at, neighbours}
-use Rattle.packing.proofs.Tests.{by-bool}
 use Rattle.packing.proofs.Flat.{pair-at}
-use Rattle.chains.specs.Index.{rootOf, slotOf, Incident, NextLink, Index}
-use Rattle.chains.specs.Build.{JoinsTwo, Absent, FirstEnd, NextEnd, Hung, Built}
-use Rattle.chains.proofs.Following.{past}
+use Rattle.chains.specs.Index.{rootOf, EndOf, NextEnd, Index}
+use Rattle.chains.specs.Build.{JoinsTwo, Absent, FirstEnd, FirstOrNone, Hung, Built}
+use Rattle.chains.proofs.Following.{past, mates}
 
 -- only the first e ends count
 pub hung-same : (ls ls' : List ℕ) {e : ℕ} {next last : List ℕ} → ((i : ℕ) → i < e → at ls i ≡ at ls' i) → Hung ls e next last → Hung ls' e next last
@@ -28,10 +26,10 @@ hung-same ls ls' {e} same d =
     absent : {x k i : ℕ} → ((j : ℕ) → j < i → j < e) → Absent ls x k i → Absent ls' x k i
     absent low a j l h q = a j l h (same j (low j h) ∙ q)
 
-    follows : {x k j : ℕ} → NextEnd ls e x k j → NextEnd ls' e x k j
+    follows : {x k j : ℕ} → FirstOrNone ls e x k j → FirstOrNone ls' e x k j
     follows =
         ⊎-elim (λ a. inl (a .0, absent (λ i l. l) (a .1)))
-        (λ a. let f = a .1 in inr (a .0, record { from = f .from; below = f .below; here = sym (same (a .0) (f .below)) ∙ f .here; before = absent (λ i l. omega (arith, l, f .below)) (f .before); link = f .link }))
+        (λ f. inr (record { from = f .from; below = f .below; here = sym (same _ (f .below)) ∙ f .here; before = absent (λ i l. omega (arith, l, f .below)) (f .before) }))
 
 module _ (ls : List ℕ) (x : ℕ) where
   -- d links from link i on that are not x's
@@ -51,34 +49,25 @@ module _ (ls : List ℕ) (x : ℕ) where
   skip-to : (i k : ℕ) → i ≤ k → 2 * k ≤ length ls → Absent ls x (2 * i) (2 * k) → neighbours (drop (2 * i) ls) x ≡ neighbours (drop (2 * k) ls) x
   skip-to i k l h a = let on : i + (k - i) ≡ k = omega arith in rw on at (skip (k - i) i (rw on h) (rw on a))
 
-  -- the link of x's first end from link i on is x's first link from link i on
-  next-is : (m i j : ℕ) → 2 * m ≤ length ls → length ls ≤ 2 * m + 1 → length ls ≤ ENDS → i ≤ m → NextEnd ls (2 * m) x (2 * i) j → NextLink ls x i j
-  next-is m i j p q few l =
-      ⊎-elim (λ a. record { rest = skip-to i m l p (a .1) ∙ past ls (2 * m) x q ∙ sym (past ls (2 * j) x (omega (arith, a .0, few))); link = inl (a .0) })
-      (λ a. found (a .0) (a .1))
-    where
-      found : (e : ℕ) → FirstEnd ls (2 * m) x (2 * i) j e → NextLink ls x i j
-      found e f =
-          let place : (2 * j ≤ e) × (e ≤ 2 * j + 1) = ⊎-elim (λ r. (omega (arith, r), omega (arith, r))) (λ r. (omega (arith, r), omega (arith, r))) (f .link) in
-          let on : i ≤ j = omega (arith, f .from, place .1) in
-          let inside : 2 * j + 1 < length ls = omega (arith, f .below, place .0) in
-          record {
-            rest = skip-to i j on (omega (arith, inside)) (λ k a b. f .before k a (omega (arith, b, place .0)));
-            link = inr (on, record { inside = inside; end = ⊎-elim (λ r. inl (rw r at (f .here))) (λ r. inr (rw r at (f .here))) (f .link) });
-          }
+  -- x's first end from link i on is that of x's first link from link i on
+  next-is : (m i e : ℕ) → 2 * m ≤ length ls → length ls ≤ 2 * m + 1 → length ls ≤ ENDS → i ≤ m → FirstOrNone ls (2 * m) x (2 * i) e → NextEnd ls x i e
+  next-is m i e p q few l =
+      ⊎-elim (λ a. record { rest = skip-to i m l p (a .1) ∙ past ls (2 * m) x q ∙ sym (past ls (2 * (e / 2)) x (omega (arith, a .0, few))); end = inl (a .0) })
+      (λ f.
+      let on : i ≤ e / 2 = omega (arith, f .from) in
+      let inside : 2 * (e / 2) + 1 < length ls = omega (arith, f .below) in
+      record { rest = skip-to i (e / 2) on (omega (arith, inside)) (λ k a b. f .before k a (omega (arith, b))); end = inr (f .from, record { inside = inside; here = f .here }) })
 
-  -- link i has x as its first end only
-  past-mate : (e i : ℕ) {j : ℕ} → (at ls (2 * i + 1) ≡ x → ⊥) → NextEnd ls e x (2 * i + 1) j → NextEnd ls e x (2 * (i + 1)) j
+  -- a link has x as its first end only
+  past-mate : (e i : ℕ) {j : ℕ} → (at ls (2 * i + 1) ≡ x → ⊥) → FirstOrNone ls e x (2 * i + 1) j → FirstOrNone ls e x (2 * (i + 1)) j
   past-mate e i n =
       ⊎-elim (λ a. inl (a .0, λ k l. a .1 k (omega (arith, l))))
-      (λ a.
-      let f = a .1 in
-      let on : 2 * i + 1 ≡ a .0 → ⊥ = λ r. n (rw r (f .here)) in
-      inr (a .0, record { from = omega (arith, f .from, on); below = f .below; here = f .here; before = λ k l. f .before k (omega (arith, l)); link = f .link }))
+      (λ f.
+      let on : 2 * i + 1 ≡ _ → ⊥ = λ r. n (rw r (f .here)) in
+      inr (record { from = omega (arith, f .from, on); below = f .below; here = f .here; before = λ k l. f .before k (omega (arith, l)) }))
 
 -- the index of a list whose links are all in it
 pub built-whole : (ls : List ℕ) (m : ℕ) {next last : List ℕ} → Built ls m next last → length ls ≤ 2 * m + 1 → Index ls next
-unfolding slotOf
 built-whole ls m {next} b q =
     record {
       long = b .long;
@@ -87,15 +76,15 @@ built-whole ls m {next} b q =
       later = later;
     }
   where
-    later : (x i : ℕ) → x < GATEWAYS → Incident ls x i → NextLink ls x (i + 1) (at next (slotOf ls x i))
-    later x i h c =
-        let less : i < m = omega (arith, c .inside) in
-        next-is ls x m (i + 1) _ (b .room) q (b .long) (omega (arith, less))
-        (by-bool (eqb (at ls (2 * i)) x)
-        (λ e.
-        let here : at ls (2 * i) ≡ x = eqb-true (at ls (2 * i)) x e in
-        rw e (past-mate ls x (2 * m) i (λ r. b .joining i less .differ (here ∙ sym r)) (b .hung .chain x (2 * i) (2 * i + 1) h (inr (omega (arith, less), here, refl)))))
-        (λ e. rw e (b .hung .chain x (2 * i + 1) (2 * (i + 1)) h (inr (omega (arith, less), ⊎-elim (λ r. absurd (eqb-false (at ls (2 * i)) x e r)) (λ r. r) (c .end), omega arith)))))
+    later : (x e : ℕ) → x < GATEWAYS → EndOf ls x e → NextEnd ls x (e / 2 + 1) (at next e)
+    later x e h c =
+        let less : e / 2 < m = omega (arith, c .inside) in
+        next-is ls x m (e / 2 + 1) _ (b .room) q (b .long) (omega (arith, less))
+        (⊎-elim
+        (λ k.
+        let here : at ls (2 * (e / 2)) ≡ x = rw (← k .0) (c .here) in
+        past-mate ls x (2 * m) (e / 2) (λ r. b .joining (e / 2) less .differ (here ∙ sym r)) (b .hung .chain x e (2 * (e / 2) + 1) h (inr (omega (arith, less, k .0), c .here, omega (arith, k .0)))))
+        (λ k. b .hung .chain x e (2 * (e / 2 + 1)) h (inr (omega (arith, less, k .0), c .here, omega (arith, k .0)))) (mates e))
 
 two-same : (ls ls' : List ℕ) (i : ℕ) → at ls (2 * i) ≡ at ls' (2 * i) → at ls (2 * i + 1) ≡ at ls' (2 * i + 1) → JoinsTwo ls i → JoinsTwo ls' i
 two-same ls ls' i e f j = record { first = rw e at (j .first); second = rw f at (j .second); differ = rw (e, f) at (j .differ) }

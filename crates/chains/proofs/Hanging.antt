@@ -1,5 +1,5 @@
--- Hanging one end more: the place that was the last of its gateway's chain gets its link, and it is the last place itself.
-use Prim.Native.Nat.{ℕ, _+_, _*_, _<_, _≤_}
+-- Hanging one end more: the place that was the last of its gateway's chain gets it, and it is the last place itself.
+use Prim.Native.Nat.{ℕ, _+_, _<_, _≤_}
 use mathlib.Core.Path.{_≡_, refl, sym, _∙_}
 use mathlib.Core.Logic.{_⊎_, inl, inr, ⊎-elim}
 use mathlib.Core.List.{List}
@@ -15,7 +15,7 @@ use Rattle.packing.specs.Lists.{listOf}
 use Rattle.packing.proofs.Tests.{by-bool, below-suc}
 use Rattle.packing.proofs.Lists.{listOf-at}
 use Rattle.chains.specs.Index.{SLOTS, rootOf}
-use Rattle.chains.specs.Build.{Stands, Absent, NextEnd, LastPlace, Hung}
+use Rattle.chains.specs.Build.{Stands, Absent, FirstOrNone, LastPlace, Hung}
 
 -- no end is hung: each chain is its root
 pub hung-start : (ls : List ℕ) {next last : List ℕ} → next ≡ replicate SLOTS NONE → last ≡ listOf GATEWAYS rootOf → Hung ls 0 next last
@@ -46,10 +46,10 @@ module _ (ls : List ℕ) where
       by-bool (ltb s t) (λ l. absurd (none t (omega (arith, a .2, ltb-true s t l)) (b .0) (b .1)))
       (λ l. by-bool (ltb t s) (λ q. absurd (none' s (omega (arith, b .2, ltb-true t s q)) (a .0) (a .1))) (λ q. omega (arith, ltb-false s t l, ltb-false t s q)))) st') st
 
--- End e, of link m, is y's; t is the last place of y's chain.
+-- End e is y's; t is the last place of y's chain.
 module _
-    (ls : List ℕ) (e m y t : ℕ) {next last : List ℕ} (d : Hung ls e next last) (few : e < ENDS) (places : length next ≡ SLOTS) (gateways : length last ≡ GATEWAYS)
-    (here : at ls e ≡ y) (below : y < GATEWAYS) (there : at last y ≡ t) (link : (e ≡ 2 * m) ⊎ (e ≡ 2 * m + 1))
+    (ls : List ℕ) (e y t : ℕ) {next last : List ℕ} (d : Hung ls e next last) (few : e < ENDS) (places : length next ≡ SLOTS) (gateways : length last ≡ GATEWAYS)
+    (here : at ls e ≡ y) (below : y < GATEWAYS) (there : at last y ≡ t)
   where
     last-of : LastPlace ls e y t
     last-of = rw there at (d .tail y below)
@@ -61,8 +61,8 @@ module _
     pub last-inside : t < SLOTS
     last-inside = ⊎-elim (λ a. omega (arith, a .0)) (λ a. omega (arith, a .0)) (last-of .1)
 
-    other : (s : ℕ) → (s ≡ t → ⊥) → at (set next t m) s ≡ at next s
-    other s n = getD-set-other next t s m 0 n
+    other : (s : ℕ) → (s ≡ t → ⊥) → at (set next t e) s ≡ at next s
+    other s n = getD-set-other next t s e 0 n
 
     -- no end of x is added
     still : {x k : ℕ} → (y ≡ x → ⊥) → Absent ls x k e → Absent ls x k (e + 1)
@@ -72,24 +72,24 @@ module _
     later k l x i a b q = omega (arith, l, a, b)
 
     -- a place of a chain other than t: what it had is still right
-    kept : (x s k : ℕ) → (s ≡ t → ⊥) → Stands ls e x s k → NextEnd ls e x k (at next s) → NextEnd ls (e + 1) x k (at (set next t m) s)
+    kept : (x s k : ℕ) → (s ≡ t → ⊥) → Stands ls e x s k → FirstOrNone ls e x k (at next s) → FirstOrNone ls (e + 1) x k (at (set next t e) s)
     kept x s k n st old =
         rw (other s n)
         (⊎-elim
         (λ a. inl (a .0, by-bool (eqb y x) (λ q. let is : y ≡ x = eqb-true y x q in absurd (n (last-one ls st (a .1) (rw is at last-of)))) (λ q. still (eqb-false y x q) (a .1))))
-        (λ a. inr (a .0, record { from = a .1 .from; below = omega (arith, a .1 .below); here = a .1 .here; before = a .1 .before; link = a .1 .link })) old)
+        (λ a. inr (record { from = a .from; below = omega (arith, a .below); here = a .here; before = a .before })) old)
 
-    chained : (x s k : ℕ) → x < GATEWAYS → Stands ls (e + 1) x s k → NextEnd ls (e + 1) x k (at (set next t m) s)
+    chained : (x s k : ℕ) → x < GATEWAYS → Stands ls (e + 1) x s k → FirstOrNone ls (e + 1) x k (at (set next t e) s)
     chained x s k h st = by-bool (eqb s t) (λ q. at-last (eqb-true s t q)) (λ q. elsewhere (eqb-false s t q) st)
       where
-        at-last : s ≡ t → NextEnd ls (e + 1) x k (at (set next t m) s)
+        at-last : s ≡ t → FirstOrNone ls (e + 1) x k (at (set next t e) s)
         at-last q =
             let (k', st', none) = last-of in
             let (same, from) = stands-one ls (omega (arith, few)) (omega (arith, few)) (rw q at st) st' in
-            rw (q, getD-set-same next t m 0 (rw places last-inside), same, from)
-            (inr (e, record { from = ⊎-elim (λ a. omega (arith, a .1)) (λ a. omega (arith, a .0, a .2)) st'; below = omega arith; here = here; before = none; link = link }))
+            rw (q, getD-set-same next t e 0 (rw places last-inside), same, from)
+            (inr (record { from = ⊎-elim (λ a. omega (arith, a .1)) (λ a. omega (arith, a .0, a .2)) st'; below = omega arith; here = here; before = none }))
 
-        elsewhere : (s ≡ t → ⊥) → Stands ls (e + 1) x s k → NextEnd ls (e + 1) x k (at (set next t m) s)
+        elsewhere : (s ≡ t → ⊥) → Stands ls (e + 1) x s k → FirstOrNone ls (e + 1) x k (at (set next t e) s)
         elsewhere n =
             ⊎-elim (λ a. kept x s k n (inl a) (d .chain x s k h (inl a)))
             (λ a.
@@ -104,7 +104,7 @@ module _
         let (k, st, none) = d .tail x h in
         rw (getD-set-other last y x e 0 (eqb-false x y q)) (k, ⊎-elim inl (λ a. inr (omega (arith, a .0), a .1, a .2)) st, still (λ r. eqb-false x y q (sym r)) none))
 
-    pub hung-more : Hung ls (e + 1) (set next t m) (set last y e)
+    pub hung-more : Hung ls (e + 1) (set next t e) (set last y e)
     hung-more =
         record {
           chain = chained;

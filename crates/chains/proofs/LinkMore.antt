@@ -1,7 +1,6 @@
 -- One link more: no links at first, the ends of the next one hung, and the loop over a list of links.
 use Prim.Native.Nat.{ℕ, zero, suc, _+_, _*_, _<_, _≤_}
 use mathlib.Core.Path.{_≡_, refl, sym, ap, _∙_}
-use mathlib.Core.Logic.{inl, inr}
 use mathlib.Core.Bool.{true, _&&_}
 use mathlib.Core.List.{List, [], _∷_}
 use native.Mathlib.Numerals.{add-one}
@@ -36,37 +35,37 @@ module _ (ls : List ℕ) (m : ℕ) {next last : List ℕ} (r : Ready ls m next l
   few : 2 * m + 1 < ENDS
   few = omega (arith, r .more, r .built .long)
 
-  first-hung : Hung ls (2 * m + 1) (set next (at last (at ls (2 * m))) m) (set last (at ls (2 * m)) (2 * m))
+  first-hung : Hung ls (2 * m + 1) (set next (at last (at ls (2 * m))) (2 * m)) (set last (at ls (2 * m)) (2 * m))
   first-hung =
-      hung-more ls (2 * m) m (at ls (2 * m)) (at last (at ls (2 * m))) (r .built .hung) (omega (arith, few)) (r .built .places) (r .built .gateways) refl (r .two .first) refl (inl refl)
+      hung-more ls (2 * m) (at ls (2 * m)) (at last (at ls (2 * m))) (r .built .hung) (omega (arith, few)) (r .built .places) (r .built .gateways) refl (r .two .first) refl
 
   pub first-places : (at ls (2 * m) < length last) × (at last (at ls (2 * m)) < length next)
   first-places =
-      (rw (r .built .gateways) (r .two .first), rw (r .built .places) (last-inside ls (2 * m) m (at ls (2 * m)) (at last (at ls (2 * m))) (r .built .hung) (omega (arith, few)) (r .built .places) (r .built .gateways) refl (r .two .first) refl (inl refl)))
+      (rw (r .built .gateways) (r .two .first), rw (r .built .places) (last-inside ls (2 * m) (at ls (2 * m)) (at last (at ls (2 * m))) (r .built .hung) (omega (arith, few)) (r .built .places) (r .built .gateways) refl (r .two .first) refl))
 
-  module _ {next' last' : List ℕ} (e : next' ≡ set next (at last (at ls (2 * m))) m) (f : last' ≡ set last (at ls (2 * m)) (2 * m)) where
+  module _ {next' last' : List ℕ} (e : next' ≡ set next (at last (at ls (2 * m))) (2 * m)) (f : last' ≡ set last (at ls (2 * m)) (2 * m)) where
     hung' : Hung ls (2 * m + 1) next' last'
     hung' = rw (e, f) first-hung
 
     places' : length next' ≡ SLOTS
-    places' = ap length e ∙ length-set next _ m ∙ r .built .places
+    places' = ap length e ∙ length-set next _ (2 * m) ∙ r .built .places
 
     gateways' : length last' ≡ GATEWAYS
     gateways' = ap length f ∙ length-set last _ (2 * m) ∙ r .built .gateways
 
     pub second-places : (at ls (2 * m + 1) < length last') × (at last' (at ls (2 * m + 1)) < length next')
     second-places =
-        (rw gateways' (r .two .second), rw places' (last-inside ls (2 * m + 1) m (at ls (2 * m + 1)) (at last' (at ls (2 * m + 1))) hung' few places' gateways' refl (r .two .second) refl (inr refl)))
+        (rw gateways' (r .two .second), rw places' (last-inside ls (2 * m + 1) (at ls (2 * m + 1)) (at last' (at ls (2 * m + 1))) hung' few places' gateways' refl (r .two .second) refl))
 
-    pub both-hung : {next'' last'' : List ℕ} → next'' ≡ set next' (at last' (at ls (2 * m + 1))) m → last'' ≡ set last' (at ls (2 * m + 1)) (2 * m + 1) → Built ls (m + 1) next'' last''
+    pub both-hung : {next'' last'' : List ℕ} → next'' ≡ set next' (at last' (at ls (2 * m + 1))) (2 * m + 1) → last'' ≡ set last' (at ls (2 * m + 1)) (2 * m + 1) → Built ls (m + 1) next'' last''
     both-hung g h =
         record {
           long = r .built .long;
           room = omega (arith, r .more);
-          places = ap length g ∙ length-set next' _ m ∙ places';
+          places = ap length g ∙ length-set next' _ (2 * m + 1) ∙ places';
           gateways = ap length h ∙ length-set last' _ (2 * m + 1) ∙ gateways';
           joining = λ i l. below-suc i m (rw (add-one m) at l) (λ q. rw q (r .two)) (r .built .joining i);
-          hung = rw (two, g, h) (hung-more ls (2 * m + 1) m (at ls (2 * m + 1)) (at last' (at ls (2 * m + 1))) hung' few places' gateways' refl (r .two .second) refl (inr refl));
+          hung = rw (two, g, h) (hung-more ls (2 * m + 1) (at ls (2 * m + 1)) (at last' (at ls (2 * m + 1))) hung' few places' gateways' refl (r .two .second) refl);
         }
       where
         two : 2 * (m + 1) ≡ 2 * m + 1 + 1

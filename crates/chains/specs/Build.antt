@@ -25,25 +25,24 @@ Stands ls e x s k = ((s ≡ rootOf x) × (k ≡ 0)) ⊎ ((s < e) × (at ls s ≡
 abbrev pub Absent : List ℕ → ℕ → ℕ → ℕ → Type 0
 Absent ls x k e = (i : ℕ) → k ≤ i → i < e → at ls i ≡ x → ⊥
 
--- i is x's first end from k up to e, and an end of link j
-pub record FirstEnd (ls : List ℕ) (e x k j i : ℕ) : Type 0 where
+-- i is x's first end from k up to e
+pub record FirstEnd (ls : List ℕ) (e x k i : ℕ) : Type 0 where
   pub from : k ≤ i
   pub below : i < e
   pub here : at ls i ≡ x
   pub before : Absent ls x k i
-  pub link : (i ≡ 2 * j) ⊎ (i ≡ 2 * j + 1)
 
--- j is the link of x's first end from k up to e, or 65535 where there is none
-abbrev pub NextEnd : List ℕ → ℕ → ℕ → ℕ → ℕ → Type 0
-NextEnd ls e x k j = ((j ≡ NONE) × Absent ls x k e) ⊎ ((i : ℕ) × FirstEnd ls e x k j i)
+-- i is x's first end from k up to e, or 65535 where there is none
+abbrev pub FirstOrNone : List ℕ → ℕ → ℕ → ℕ → ℕ → Type 0
+FirstOrNone ls e x k i = ((i ≡ NONE) × Absent ls x k e) ⊎ FirstEnd ls e x k i
 
 -- s is the last place of x's chain
 abbrev pub LastPlace : List ℕ → ℕ → ℕ → ℕ → Type 0
 LastPlace ls e x s = (k : ℕ) × Stands ls e x s k × Absent ls x k e
 
--- the first e ends of ls are in the chains: each place of a chain has the link that comes next, last has each gateway's last place, and the places of later ends are unused
+-- the first e ends of ls are in the chains: each place of a chain has the end that comes next, last has each gateway's last place, and the places of later ends are unused
 pub record Hung (ls : List ℕ) (e : ℕ) (next last : List ℕ) : Type 0 where
-  pub chain : (x s k : ℕ) → x < GATEWAYS → Stands ls e x s k → NextEnd ls e x k (at next s)
+  pub chain : (x s k : ℕ) → x < GATEWAYS → Stands ls e x s k → FirstOrNone ls e x k (at next s)
   pub tail : (x : ℕ) → x < GATEWAYS → LastPlace ls e x (at last x)
   pub unused : (s : ℕ) → e ≤ s → s < ENDS → at next s ≡ NONE
 

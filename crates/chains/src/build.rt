@@ -1,4 +1,4 @@
-// Building the index, link by link. last has the place of the index where each gateway's next link is to be written: its root at first, then the place of its last end, so that an empty chain is no case apart.
+// Building the index, link by link. last has the place of the index where each gateway's next end is to be written: its root at first, then the place of its last end, so that an empty chain is no case apart.
 use crate::SLOTS;
 use lists::ENDS;
 use lists::PLACES;
@@ -30,14 +30,14 @@ pub fn roots() -> [u16; PLACES]
     last
 }
 
-// Hangs an end of link m to the chain of x.
-fn hang(x: u16, m: u16, end: u16, next: &mut [u16], last: &mut [u16])
+// Hangs an end to the chain of x.
+fn hang(x: u16, end: u16, next: &mut [u16], last: &mut [u16])
     requires { ⌜ (x < length (now last)) × (at (now last) x < length (now next)) ⌝ }
-    ensures next { λ _. ⌜ now (next .exit) ≡ set (now (next .entry)) (at (now (last .entry)) x) m ⌝ }
+    ensures next { λ _. ⌜ now (next .exit) ≡ set (now (next .entry)) (at (now (last .entry)) x) end ⌝ }
     ensures last { λ _. ⌜ now (last .exit) ≡ set (now (last .entry)) x end ⌝ }
 {
     let place = last[x as usize];
-    next[place as usize] = m;
+    next[place as usize] = end;
     last[x as usize] = end;
 }
 
@@ -49,8 +49,8 @@ fn hang_link(links: &[u16], m: u16, next: &mut [u16], last: &mut [u16])
     let place = 2 * (m as usize);
     let a = links[place];
     let b = links[place + 1];
-    hang(a, m, 2 * m, next, last);
-    hang(b, m, 2 * m + 1, next, last);
+    hang(a, 2 * m, next, last);
+    hang(b, 2 * m + 1, next, last);
 }
 
 // Writes the ends of link m to their places among the links, and hangs it.

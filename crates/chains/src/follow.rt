@@ -9,12 +9,12 @@ pub fn is_there(links: &[u16], next: &[u16], x: u16, y: u16) -> bool
     requires { ⌜ Index (now links) (now next) × (x < GATEWAYS) ⌝ }
     ensures { λ r. ⌜ r ≡ linked (now (links .entry)) x y ⌝ }
 {
-    let mut i = crate::first_link(next, x);
-    while i != lists::NONE {
-        if crate::across(links, x, i) == y {
+    let mut e = crate::first_end(next, x);
+    while e != lists::NONE {
+        if crate::across(links, e) == y {
             return true;
         }
-        i = crate::next_link(links, next, x, i);
+        e = crate::next_end(next, e);
     }
     false
 }
