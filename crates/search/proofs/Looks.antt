@@ -1,8 +1,8 @@
 -- Looks from a gateway: the three ways of one by the table, and the loop over the gateway's links.
-use Prim.Native.Nat.{ℕ, _-_, _*_, _<_, _≤_}
+use Prim.Native.Nat.{ℕ, _-_, _*_, _/_, _<_, _≤_}
 use mathlib.Core.Path.{_≡_, refl, sym, ap, _∙_}
 use mathlib.Core.Bool.{Bool, true, false}
-use mathlib.Core.List.{List}
+use mathlib.Core.List.{List, _∷_}
 use native.Mathlib.Omega.{arith}
 use lib.ListN.{length, set, take, drop}
 use lib.Seq.{length-take-le}
@@ -10,8 +10,8 @@ use borrow.Author.Tests.{eq-eqb, ne-eqb, ltb-true, ltb-false}
 use Rattle.packing.specs.Plant.{NONE, GATEWAYS, at, neighbours}
 use Rattle.packing.specs.Holders.{holds}
 use Rattle.packing.proofs.Tests.{not-i, not-i-false}
-use Rattle.chains.specs.Index.{rootOf, slotOf, across, Incident, Index}
-use Rattle.chains.proofs.Following.{Standing, chain-first, chain-next, chain-end, chain-there}
+use Rattle.chains.specs.Index.{rootOf, mate, Index}
+use Rattle.chains.proofs.Following.{Standing, chain-first, chain-next, chain-end, chain-there, chain-places}
 use Rattle.search.specs.Search.{found, more, seen, look, visit}
 use Rattle.search.specs.declared.Walked.{Walked}
 use Rattle.search.specs.declared.Walked.the-variants.{Found, RanOut}
@@ -57,16 +57,16 @@ module _
           let full : t ≤ holds n (at hs) u = ltb-false _ _ (sym (table-place h (r .going .few) look-below t) ∙ sym place ∙ taken) in
           more-is (look-full n limit hs x u (take tail queue) from unseen (omega arith) ∙ rw (j .state, mark, table-holds h (r .going .few) look-below)) (j .within)
 
--- with the holders hs, what the links from link i on give is what all give
-pub record Visited (n : ℕ) (limit : ℕ → ℕ) (x : ℕ) (ls hs queue₀ : List ℕ) (tail : ℕ) (from₀ queue from : List ℕ) (end i : ℕ) : Type 0 where
+-- with the holders hs, what the links from that of the end at place e on give is what all give
+pub record Visited (n : ℕ) (limit : ℕ → ℕ) (x : ℕ) (ls hs queue₀ : List ℕ) (tail : ℕ) (from₀ queue from : List ℕ) (end e : ℕ) : Type 0 where
   pub ready : Ready n x hs queue end from
-  pub rest : visit n limit hs x (neighbours (drop (2 * i) ls) x) (more (take end queue) from) ≡ visit n limit hs x (neighbours ls x) (more (take tail queue₀) from₀)
+  pub rest : visit n limit hs x (neighbours (drop (2 * (e / 2)) ls) x) (more (take end queue) from) ≡ visit n limit hs x (neighbours ls x) (more (take tail queue₀) from₀)
 
 -- .. and so with all that the table is of
-pub record Visiting (limit : ℕ → ℕ) (x : ℕ) (ls : List ℕ) (rows : List (List ℕ)) (queue₀ : List ℕ) (tail : ℕ) (from₀ queue from : List ℕ) (end i : ℕ) : Type 0 where
-  pub standing : Standing ls x i
+pub record Visiting (limit : ℕ → ℕ) (x : ℕ) (ls : List ℕ) (rows : List (List ℕ)) (queue₀ : List ℕ) (tail : ℕ) (from₀ queue from : List ℕ) (end e : ℕ) : Type 0 where
+  pub standing : Standing ls x e
   pub same : (length queue ≡ length queue₀) × (length from ≡ length from₀)
-  pub each : ForEach rows (λ n hs. Ready n x hs queue₀ tail from₀) (λ n hs. Visited n limit x ls hs queue₀ tail from₀ queue from end i)
+  pub each : ForEach rows (λ n hs. Ready n x hs queue₀ tail from₀) (λ n hs. Visited n limit x ls hs queue₀ tail from₀ queue from end e)
 
 -- x, which may look, has a chain
 pub ready-below : {rows : List (List ℕ)} {x : ℕ} {queue : List ℕ} {tail : ℕ} {from : List ℕ} → ForSome rows (λ n hs. Ready n x hs queue tail from) → x < GATEWAYS
@@ -79,33 +79,29 @@ module _
     below : x < GATEWAYS
     below = ready-below some
 
-    pub visit-start : {i : ℕ} → i ≡ at next (rootOf x) → Visiting limit x ls rows queue₀ tail from₀ queue₀ from₀ tail i
-    visit-start {i} e =
-        rw e
+    pub visit-start : {e : ℕ} → e ≡ at next (rootOf x) → Visiting limit x ls rows queue₀ tail from₀ queue₀ from₀ tail e
+    visit-start {e} q =
+        rw q
         (record {
           standing = chain-first d below .1;
           same = (refl, refl);
           each = λ n hs t r. record { ready = r; rest = ap (λ (us : List ℕ). visit n limit hs x us (more (take tail queue₀) from₀)) (sym (chain-first d below .0)) };
         })
 
-    module _ {queue from : List ℕ} {end i : ℕ} (v : Visiting limit x ls rows queue₀ tail from₀ queue from end i) where
+    module _ {queue from : List ℕ} {end e : ℕ} (v : Visiting limit x ls rows queue₀ tail from₀ queue from end e) where
       -- x may go on looking
       pub visit-ready : ForSome rows (λ n hs. Ready n x hs queue end from)
       visit-ready = some-then some (λ n hs t r. v .each n hs t r .ready)
 
-      pub visit-there : (i ≡ NONE → ⊥) → Incident ls x i
-      visit-there l = chain-there d below (v .standing) l
-
-      -- the index has a place for each end
-      pub visit-slots : length ls ≤ length next
-      visit-slots = omega (arith, d .long, d .places)
+      pub visit-places : (e ≡ NONE → ⊥) → (mate e < length ls) × (e < length next)
+      visit-places l = chain-places d below (v .standing) l
 
     module _
-        {queue from queue' from' : List ℕ} {end i u : ℕ} {w : Walked} (v : Visiting limit x ls rows queue₀ tail from₀ queue from end i) (l : i ≡ NONE → ⊥)
-        (e : u ≡ across ls x i) (looks : ForEach rows (λ n hs. Ready n x hs queue end from) (λ n hs. Is w queue' from' (look n limit hs x u (take end queue) from)))
+        {queue from queue' from' : List ℕ} {end e u : ℕ} {w : Walked} (v : Visiting limit x ls rows queue₀ tail from₀ queue from end e) (l : e ≡ NONE → ⊥)
+        (is-u : u ≡ at ls (mate e)) (looks : ForEach rows (λ n hs. Ready n x hs queue end from) (λ n hs. Is w queue' from' (look n limit hs x u (take end queue) from)))
       where
-        there : Incident ls x i
-        there = visit-there v l
+        after : (neighbours (drop (2 * (e / 2)) ls) x ≡ at ls (mate e) ∷ neighbours (drop (2 * (at next e / 2)) ls) x) × Standing ls x (at next e) × (e < at next e)
+        after = chain-next d below (chain-there d below (v .standing) l)
 
         module _ {n : ℕ} {hs : List ℕ} (t : TableOf n hs rows) (r : Ready n x hs queue₀ tail from₀) where
           ready : Ready n x hs queue end from
@@ -114,17 +110,17 @@ module _
           looked : Is w queue' from' (look n limit hs x u (take end queue) from)
           looked = looks n hs t ready
 
-          step : visit n limit hs x (neighbours (drop (2 * at next (slotOf ls x i)) ls) x) (look n limit hs x u (take end queue) from)
+          step : visit n limit hs x (neighbours (drop (2 * (at next e / 2)) ls) x) (look n limit hs x u (take end queue) from)
               ≡ visit n limit hs x (neighbours ls x) (more (take tail queue₀) from₀)
           unfolding visit
-          step = rw e (rw (chain-next d below there .0) at (v .each n hs t r .rest))
+          step = rw is-u (rw (after .0) at (v .each n hs t r .rest))
 
-        pub visit-turn : {end' i' : ℕ} → w ≡ RanOut end' → (length queue' ≡ length queue) × (length from' ≡ length from) → i' ≡ at next (slotOf ls x i)
-            → (Visiting limit x ls rows queue₀ tail from₀ queue' from' end' i') × (NONE - i' < NONE - i)
+        pub visit-turn : {end' e' : ℕ} → w ≡ RanOut end' → (length queue' ≡ length queue) × (length from' ≡ length from) → e' ≡ at next e
+            → (Visiting limit x ls rows queue₀ tail from₀ queue' from' end' e') × (NONE - e' < NONE - e)
         visit-turn {end'} q long f = (
           rw f
               (record {
-                standing = chain-next d below there .1;
+                standing = after .1;
                 same = (long .0 ∙ v .same .0, long .1 ∙ v .same .1);
                 each = λ n hs t r.
                     let is : Is (RanOut end') queue' from' (look n limit hs x u (take end queue) from) = rw q at (looked t r) in
@@ -140,18 +136,18 @@ module _
                       rest = rw same at (step t r);
                     };
               }),
-          omega (arith, f, chain-next d below there .2, there .inside, d .long),
+          omega (arith, f, after .2, visit-places v l .1, d .places),
         )
 
         pub visit-ends : {y z : ℕ} → w ≡ Found y z
             → ForEach rows (λ n hs. Ready n x hs queue₀ tail from₀) (λ n hs. Is (Found y z) queue' from' (visit n limit hs x (neighbours ls x) (more (take tail queue₀) from₀)))
         visit-ends {y} {z} q n hs t r =
             let is : Is (Found y z) queue' from' (look n limit hs x u (take end queue) from) = rw q at (looked t r) in
-            let rest : List ℕ = neighbours (drop (2 * at next (slotOf ls x i)) ls) x in
+            let rest : List ℕ = neighbours (drop (2 * (at next e / 2)) ls) x in
             found-is (sym (step t r) ∙ ap (visit n limit hs x rest) (found-state is) ∙ visit-found n limit hs x rest)
 
-    pub visit-out : {queue from : List ℕ} {end i : ℕ} → Visiting limit x ls rows queue₀ tail from₀ queue from end i → i ≡ NONE
+    pub visit-out : {queue from : List ℕ} {end e : ℕ} → Visiting limit x ls rows queue₀ tail from₀ queue from end e → e ≡ NONE
         → ForEach rows (λ n hs. Ready n x hs queue₀ tail from₀) (λ n hs. Is (RanOut end) queue from (visit n limit hs x (neighbours ls x) (more (take tail queue₀) from₀)))
     unfolding visit
-    visit-out {queue} {from} {end} {i} v l n hs t r =
+    visit-out {queue} {from} {end} {e} v l n hs t r =
         let done = v .each n hs t r in more-is (sym (rw (chain-end d below l) at (done .rest))) (done .ready .within)

@@ -65,15 +65,15 @@ fn visit(
     ensures { λ r. ⌜ ForEach (now (rows .entry)) (λ n hs. Ready n x hs (now (queue .entry)) tail (now (from .entry))) (λ n hs. Is r (now (queue .exit)) (now (from .exit)) (model.visit n (at (now (limits .entry))) hs x (neighbours (now (links .entry)) x) (more (take tail (now (queue .entry))) (now (from .entry))))) ⌝ }
 {
     let mut end = tail;
-    let mut i = chains::first_link(next, x);
-    while i != lists::NONE {
-        let u = chains::across(links, x, i);
+    let mut e = chains::first_end(next, x);
+    while e != lists::NONE {
+        let u = chains::across(links, e);
         let w = look(limits, x, u, rows, queue, end, from);
         match w {
             Walked::Found(y, z) => return Walked::Found(y, z),
-            Walked::RanOut(e) => end = e,
+            Walked::RanOut(t) => end = t,
         }
-        i = chains::next_link(links, next, x, i);
+        e = chains::next_end(next, e);
     }
     Walked::RanOut(end)
 }

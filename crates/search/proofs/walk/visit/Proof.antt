@@ -1,28 +1,28 @@
 use borrow.Author.Needs.{needs}
 use Prim.Native.Nat.{_-_}
 use Rattle.packing.specs.Plant.{NONE, at}
-use Rattle.search.proofs.Looks.{Visiting, ready-below, visit-start, visit-ready, visit-there, visit-slots, visit-turn, visit-ends, visit-out}
+use Rattle.search.proofs.Looks.{Visiting, ready-below, visit-start, visit-ready, visit-places, visit-turn, visit-ends, visit-out}
 use Rattle.search.proofs.walk.visit.Statement.{statement}
 use Rattle.search.proofs.walk.visit.Tie as tie
 
 abbrev Inv-loop : tie.InvT-loop
-Inv-loop limits x links next rows queue₀ tail from₀ end₀ i₀ queue from end i = Visiting (at limits) x links rows queue₀ tail from₀ queue from end i
+Inv-loop limits x links next rows queue₀ tail from₀ end₀ e₀ queue from end e = Visiting (at limits) x links rows queue₀ tail from₀ queue from end e
 
 abbrev μ-loop : tie.MeasureT-loop
-μ-loop limits x links next rows queue₀ tail from₀ end₀ i₀ queue from end i = NONE - i
+μ-loop limits x links next rows queue₀ tail from₀ end₀ e₀ queue from end e = NONE - e
 
-first-link-requires : tie.Need-first-link-requires Inv-loop μ-loop
-first-link-requires c κs = let start = c .before .before .before .before .before in
+first-end-requires : tie.Need-first-end-requires Inv-loop μ-loop
+first-end-requires c κs = let start = c .before .before .before .before .before in
     (start .pre .0 .places, ready-below (start .pre .1))
 
 loop-holds : tie.Need-loop-holds Inv-loop μ-loop
 loop-holds c = let start = c .before .before .before .before .before .before in
-    visit-start _ _ _ _ _ _ _ _ (start .pre .0) (start .pre .1) (c .first-link .ensures)
+    visit-start _ _ _ _ _ _ _ _ (start .pre .0) (start .pre .1) (c .first-end .ensures)
 
 across-requires : tie.Need-across-requires Inv-loop μ-loop
 across-requires c κs = let turn = c .before in
     let start = turn .before .before .before .before .before .before .before in
-    visit-there _ _ _ _ _ _ _ _ (start .pre .0) (start .pre .1) (turn .loop .inv) (c .loop-test .taken) .inside
+    visit-places _ _ _ _ _ _ _ _ (start .pre .0) (start .pre .1) (turn .loop .inv) (c .loop-test .taken) .0
 
 look-requires : tie.Need-look-requires Inv-loop μ-loop
 look-requires c κs = let turn = c .before .before .before .before in
@@ -48,10 +48,10 @@ returns c = let called = c .before .before .before .before .before .before .befo
 enum-known-w-2 : tie.Need-enum-known-w-2 Inv-loop μ-loop
 enum-known-w-2 c = search needs
 
-next-link-requires : tie.Need-next-link-requires Inv-loop μ-loop
-next-link-requires c κs = let turn = c .before .before .before .before .before .before .before .before .before .before .before in
+next-end-requires : tie.Need-next-end-requires Inv-loop μ-loop
+next-end-requires c κs = let turn = c .before .before .before .before .before .before .before .before .before .before .before in
     let start = turn .before .before .before .before .before .before .before .before in
-    (visit-there _ _ _ _ _ _ _ _ (start .pre .0) (start .pre .1) (turn .before .loop .inv) (turn .loop-test .taken) .inside, visit-slots _ _ _ _ _ _ _ _ (start .pre .0) (start .pre .1) (turn .before .loop .inv))
+    visit-places _ _ _ _ _ _ _ _ (start .pre .0) (start .pre .1) (turn .before .loop .inv) (turn .loop-test .taken) .1
 
 loop-less : tie.Need-loop-less Inv-loop μ-loop
 loop-less c = let told = c .before in
@@ -60,7 +60,7 @@ loop-less c = let told = c .before in
     let turn = across .before in
     let start = turn .before .before .before .before .before .before .before .before in
     visit-turn _ _ _ _ _ _ _ _ (start .pre .0) (start .pre .1) (turn .before .loop .inv) (turn .loop-test .taken) (across .across .ensures) (called .look .ensures) (told .before .w2 .given .1)
-    (called .look .kept .1 .1 .1 .1 .0, called .look .kept .1 .1 .1 .1 .1 .1 .0) (c .next-link .ensures) .1
+    (called .look .kept .1 .1 .1 .1 .0, called .look .kept .1 .1 .1 .1 .1 .1 .0) (c .next-end .ensures) .1
 
 loop-again : tie.Need-loop-again Inv-loop μ-loop
 loop-again c = let told = c .before in
@@ -69,7 +69,7 @@ loop-again c = let told = c .before in
     let turn = across .before in
     let start = turn .before .before .before .before .before .before .before .before in
     visit-turn _ _ _ _ _ _ _ _ (start .pre .0) (start .pre .1) (turn .before .loop .inv) (turn .loop-test .taken) (across .across .ensures) (called .look .ensures) (told .before .w2 .given .1)
-    (called .look .kept .1 .1 .1 .1 .0, called .look .kept .1 .1 .1 .1 .1 .1 .0) (c .next-link .ensures) .0
+    (called .look .kept .1 .1 .1 .1 .0, called .look .kept .1 .1 .1 .1 .1 .1 .0) (c .next-end .ensures) .0
 
 same-length-3 : tie.Need-same-length-3 Inv-loop μ-loop
 same-length-3 c = search needs
@@ -87,7 +87,7 @@ visit-spec =
     (tie.spec
     Inv-loop
     μ-loop
-    first-link-requires
+    first-end-requires
     loop-holds
     across-requires
     look-requires
@@ -96,7 +96,7 @@ visit-spec =
     same-length-2
     returns
     enum-known-w-2
-    next-link-requires
+    next-end-requires
     loop-less
     loop-again
     same-length-3
