@@ -21,4 +21,8 @@ pub mod Tables
 pub mod OrderPass
 pub mod LeaderTables
 pub mod Lent
+pub mod Without
 pub mod Peeling
+pub mod GoneRound
+pub mod LedRound
+pub mod CyclePass

@@ -7,28 +7,19 @@ use native.Mathlib.Omega.{arith}
 use lib.Dec.{eqb, ltb}
 use lib.ListN.{length, set, length-set}
 use lib.Seq.{getD-set-same, getD-set-other}
-use borrow.Author.Tests.{eqb-true, eqb-false, eq-eqb, ne-eqb, ltb-true, ltb-false, lt-ltb, not-true}
+use borrow.Author.Tests.{eqb-true, eqb-false, eq-eqb, ne-eqb, ltb-true, lt-ltb, le-ltb, not-true}
 use Rattle.packing.specs.Count.{count}
 use Rattle.packing.specs.Plant.{GATEWAYS, NONE, at}
 use Rattle.packing.proofs.Tests.{by-bool, clash, and-l, and-r, and-i, not-i, not-test}
-use Rattle.packing.proofs.Sums.{count-ext, count-split, count-some, count-none, count-unique}
+use Rattle.packing.proofs.Sums.{count-ext, count-some, count-none}
 use Rattle.lists.proofs.Tallies.{tally-at, counted-long}
 use Rattle.stars.specs.Stars.{onCycle, nextOnCycle, leadsInTrees}
 use Rattle.stars.specs.Pre.{Marks, Blank, Taken, Waited, Peelable, Hanging, isNext, marked}
 use Rattle.stars.proofs.Tables.{mark-here, mark-other, written-long}
+use Rattle.stars.proofs.Without.{unmarked-less}
 use Rattle.stars.proofs.Cycles.{cycle-holder, next-held}
 use Rattle.stars.proofs.Upwards.{upwards}
 use Rattle.stars.proofs.Leads.{trees-broken, lead-only}
-
--- of those with p one is left out
-pub count-without : (n : ℕ) (p : ℕ → Bool) (u : ℕ) → u < n → p u ≡ true → count n p ≡ 1 + count n (λ w. p w && not (eqb w u))
-count-without n p u l e =
-    omega (
-      arith,
-      count-split n p (λ w. eqb w u),
-      count-some n (λ w. p w && eqb w u) u l (and-i _ _ e (eq-eqb u u refl)),
-      count-unique n (λ w. p w && eqb w u) (λ i j a b p' q. eqb-true i u (and-r (p i) _ p') ∙ sym (eqb-true j u (and-r (p j) _ q))),
-    )
 
 -- a child of x that is not taken
 abbrev pub awaited : List ℕ → List ℕ → ℕ → ℕ → Bool
@@ -98,12 +89,7 @@ module _
         (λ q. let here = eqb-true x (at hs u) q in by-bool (marked ls u) (λ s. leading-same x s ∙ e) (λ s. rw here (leading-here (rw here at k) s)))
         (λ q. leading-other x (eqb-false x (at hs u) q) ∙ e)
 
-    -- u is awaited no more, and so by its holder one fewer is
-    awaited-less : (x w : ℕ) → awaited hs ts' x w ≡ (awaited hs ts x w && not (eqb w u))
-    awaited-less x w = by-bool (eqb w u)
-        (λ q. rw (q, and-comm (awaited hs ts x w) false, eqb-true w u q, taken-here, and-comm (eqb (at hs u) x) false))
-        (λ q. rw (q, and-comm (awaited hs ts x w) true, taken-other w (eqb-false w u q)))
-
+    -- u is awaited no more by its holder
     waits-less : (x : ℕ) → x < n → at ws' x ≡ count n (awaited hs ts' x)
     waits-less x k = by-bool (eqb x (at hs u)) here other
       where
@@ -115,8 +101,8 @@ module _
               arith,
               ap (at ws') same ∙ waits-here below,
               p .waits (at hs u) below,
-              count-without n (awaited hs ts (at hs u)) u l (and-i _ _ (eq-eqb (at hs u) (at hs u) refl) (not-i (marked ts u) f)),
-              count-ext n (awaited hs ts' x) (λ w. awaited hs ts (at hs u) w && not (eqb w u)) (λ w m. awaited-less x w ∙ rw same),
+              unmarked-less n (λ w. eqb (at hs w) (at hs u)) ts u l (omega (arith, p .few, p .taken-long)) (eq-eqb (at hs u) (at hs u) refl) f (t .taken),
+              ap (λ (y : ℕ). count n (awaited hs ts' y)) same,
             )
 
         other : eqb x (at hs u) ≡ false → at ws' x ≡ count n (awaited hs ts' x)
@@ -167,13 +153,7 @@ module _
 
     -- fewer are left
     pub peel-less : count n (λ x. not (marked ts' x)) < count n (λ x. not (marked ts x))
-    peel-less =
-        omega (
-          arith,
-          count-without n (λ x. not (marked ts x)) u l (not-i (marked ts u) f),
-          count-ext n (λ x. not (marked ts' x)) (λ x. not (marked ts x) && not (eqb x u))
-              (λ x k. by-bool (eqb x u) (λ q. rw (q, and-comm (not (marked ts x)) false, eqb-true x u q, taken-here)) (λ q. rw (q, and-comm (not (marked ts x)) true, taken-other x (eqb-false x u q)))),
-        )
+    peel-less = omega (arith, unmarked-less n (λ x. true) ts u l (omega (arith, p .few, p .taken-long)) refl f (t .taken))
 
 -- The pass: none up to v can be taken but u, at which it stands.
 pub record Passing (n : ℕ) (hs ws ts ls : List ℕ) (v u : ℕ) : Type 0 where
@@ -182,13 +162,16 @@ pub record Passing (n : ℕ) (hs ws ts ls : List ℕ) (v u : ℕ) : Type 0 where
   pub end : n ≤ v → n ≤ u
   pub passed : (x : ℕ) → x < n → x ≤ v → (x ≡ u → ⊥) → at ws x ≡ 0 → marked ts x ≡ true
 
+pub peelable-long : {n : ℕ} {hs ws ts ls : List ℕ} → Peelable n hs ws ts ls → GATEWAYS ≡ length ws
+peelable-long {n} {hs} s = counted-long n hs (record { upto = omega arith; is = s .waits })
+
 module _ {n : ℕ} {hs : List ℕ} where
   pub passing-start : {ws ts ls : List ℕ} → Peelable n hs ws ts ls → Passing n hs ws ts ls 0 0
   passing-start {ws} {ts} {ls} s =
       record {
         peeled = record {
           few = s .start .few;
-          waits-long = counted-long n hs (record { upto = omega arith; is = s .waits });
+          waits-long = peelable-long s;
           taken-long = s .start .taken .long;
           leading-long = s .start .leading .long;
           waits = λ x k. ap (λ (l : List ℕ). at l x) (s .waits) ∙ tally-at hs n x (omega (arith, s .start .few)) ∙ count-ext n (λ w. eqb (at hs w) x) (awaited hs ts x) (λ w m. rw (s .start .taken .none w) (sym (and-comm (eqb (at hs w) x) true)));
@@ -205,15 +188,16 @@ module _ {n : ℕ} {hs : List ℕ} where
   module _ {ws ts ls : List ℕ} {v u : ℕ} {b : Bool} (s : Passing n hs ws ts ls v u) (h : v < n) (e : b ≡ isNext n ws ts u) where
     -- u can be taken
     next-means : b ≡ true → (u < n) × (at ws u ≡ 0) × (marked ts u ≡ false)
+    unfolding isNext
     next-means q =
         let both : (ltb u n && eqb (at ws u) 0) ≡ true = and-l _ _ (sym e ∙ q) in
         (ltb-true u n (and-l _ _ both), eqb-true (at ws u) 0 (and-r (ltb u n) _ both), not-true (marked ts u) (and-r (ltb u n && eqb (at ws u) 0) _ (sym e ∙ q)))
 
     -- its holder waits for it
     pub passing-waited : b ≡ true → Waited n hs ws u
-    passing-waited q k =
+    passing-waited q =
         let (l, z, f) = next-means q in
-        omega (arith, s .peeled .waits (at hs u) k, count-some n (awaited hs ts (at hs u)) u l (and-i _ _ (eq-eqb (at hs u) (at hs u) refl) (not-i (marked ts u) f)))
+        record { some = λ k. omega (arith, s .peeled .waits (at hs u) k, count-some n (awaited hs ts (at hs u)) u l (and-i _ _ (eq-eqb (at hs u) (at hs u) refl) (not-i (marked ts u) f))) }
 
     module _ {ws' ts' ls' : List ℕ} {r : ℕ} (q : b ≡ true) (t : Taken n hs u ws ts ls ws' ts' ls' r) where
       pub passing-take : Passing n hs ws' ts' ls' v r
@@ -234,6 +218,7 @@ module _ {n : ℕ} {hs : List ℕ} where
 
     -- u can not be taken
     pub passing-on : b ≡ false → Passing n hs ws ts ls (v + 1) (v + 1)
+    unfolding isNext
     passing-on q =
         record {
           peeled = s .peeled;
@@ -282,3 +267,24 @@ module _ {n : ℕ} {hs : List ℕ} where
 
         led : (x : ℕ) → x < n → (w : ℕ) × (w < n) × (at hs w ≡ x) × (onCycle n hs w ≡ false) × (marked ls w ≡ false) → marked ls x ≡ true
         led x k (w, m, e, off, q) = s .peeled .led w x m k e (taken-trees w m off) q
+
+-- One is taken, as the code does it: its holder is a gateway that waits for it, or none.
+pub take-waited : {n : ℕ} {hs ws : List ℕ} {u h k : ℕ} → Waited n hs ws u → h ≡ at hs u → h < n → k ≡ at ws h → 1 ≤ k
+take-waited w e l f = rw (f, e) (w .some (rw e at l))
+
+module _ {n : ℕ} {hs : List ℕ} {u h : ℕ} {ts ts' : List ℕ} (e : ts' ≡ set ts u 1) (f : h ≡ at hs u) where
+  pub take-held : {ws ws' ls ls' : List ℕ} {k : ℕ} {b : Bool} → h < n → k ≡ at ws h → ws' ≡ set ws h (k - 1) → b ≡ marked ls u → ls' ≡ cond (not b) (set ls h 1) ls → Taken n hs u ws ts ls ws' ts' ls' h
+  take-held l c d m q = record { holder = f; taken = e; waits = rw (← f, lt-ltb h n l, ← c) d; leading = rw (← f, lt-ltb h n l, ← m) q }
+
+  pub take-root : (ws ls : List ℕ) → n ≤ h → Taken n hs u ws ts ls ws ts' ls h
+  take-root ws ls l = record { holder = f; taken = e; waits = rw (← f, le-ltb h n l); leading = rw (← f, le-ltb h n l) }
+
+-- The test of whether one can be taken.
+module _ (n : ℕ) (ws ts : List ℕ) {u : ℕ} where
+  pub next-past : n ≤ u → false ≡ isNext n ws ts u
+  unfolding isNext
+  next-past l = rw (le-ltb u n l)
+
+  pub next-tests : {b m r : Bool} → u < n → b ≡ eqb (at ws u) 0 → m ≡ marked ts u → r ≡ (b && not m) → r ≡ isNext n ws ts u
+  unfolding isNext
+  next-tests l e f g = rw (lt-ltb u n l, ← e, ← f) g

@@ -34,12 +34,12 @@ pub record Blank (l : List ℕ) : Type 0 where
   pub none : (v : ℕ) → marked l v ≡ false
 
 -- Trees. u may be taken: it is a gateway, waits for none that it holds, and is not taken yet
-abbrev pub isNext : ℕ → List ℕ → List ℕ → ℕ → Bool
+unfoldable pub isNext : ℕ → List ℕ → List ℕ → ℕ → Bool
 isNext n ws ts u = ltb u n && eqb (at ws u) 0 && not (marked ts u)
 
 -- u's holder waits for it
-abbrev pub Waited : ℕ → List ℕ → List ℕ → ℕ → Type 0
-Waited n hs ws u = at hs u < n → 1 ≤ at ws (at hs u)
+pub record Waited (n : ℕ) (hs ws : List ℕ) (u : ℕ) : Type 0 where
+  pub some : at hs u < n → 1 ≤ at ws (at hs u)
 
 -- u was taken: its holder, r, waits for one fewer, and leads if u does not
 pub record Taken (n : ℕ) (hs : List ℕ) (u : ℕ) (ws ts ls ws' ts' ls' : List ℕ) (r : ℕ) : Type 0 where
@@ -110,7 +110,9 @@ goesWith n hs v = cond (cut n hs v) (nextOnCycle n hs v) NONE
 pub record Reading (n : ℕ) (hs : List ℕ) (v : ℕ) (ds ls xs : List ℕ) : Type 0 where
   pub few : n ≤ GATEWAYS
   pub upto : v ≤ n
-  pub long : (GATEWAYS ≡ length ds) × (GATEWAYS ≡ length ls) × (GATEWAYS ≡ length xs)
+  pub read-long : GATEWAYS ≡ length ds
+  pub leading-long : GATEWAYS ≡ length ls
+  pub next-long : GATEWAYS ≡ length xs
   pub trees : (x : ℕ) → x < n → onCycle n hs x ≡ false → marked ds x ≡ true
   pub met : (x : ℕ) → x < v → marked ds x ≡ true
   pub whole : (x : ℕ) → x < n → onCycle n hs x ≡ true → marked ds x ≡ true → (j : ℕ) → marked ds (back n hs j x) ≡ true
