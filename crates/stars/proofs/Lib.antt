@@ -26,3 +26,4 @@ pub mod Peeling
 pub mod GoneRound
 pub mod LedRound
 pub mod CyclePass
+pub mod PartnerPass

@@ -14,8 +14,8 @@ use Rattle.packing.proofs.Tests.{by-bool, clash, and-l, and-r, and-i, not-i, no
 use Rattle.packing.proofs.Sums.{count-ext, count-some, count-none}
 use Rattle.lists.proofs.Tallies.{tally-at, counted-long}
 use Rattle.stars.specs.Stars.{onCycle, nextOnCycle, leadsInTrees}
-use Rattle.stars.specs.Pre.{Marks, Blank, Taken, Waited, Peelable, Hanging, isNext, marked}
-use Rattle.stars.proofs.Tables.{mark-here, mark-other, written-long}
+use Rattle.stars.specs.Pre.{Taken, Waited, Peelable, Hanging, isNext, marked}
+use Rattle.stars.proofs.Tables.{Blank, blank, mark-here, mark-other, written-long}
 use Rattle.stars.proofs.Without.{unmarked-less}
 use Rattle.stars.proofs.Cycles.{cycle-holder, next-held}
 use Rattle.stars.proofs.Upwards.{upwards}
@@ -172,18 +172,24 @@ module _ {n : ℕ} {hs : List ℕ} where
         peeled = record {
           few = s .start .few;
           waits-long = peelable-long s;
-          taken-long = s .start .taken .long;
-          leading-long = s .start .leading .long;
-          waits = λ x k. ap (λ (l : List ℕ). at l x) (s .waits) ∙ tally-at hs n x (omega (arith, s .start .few)) ∙ count-ext n (λ w. eqb (at hs w) x) (awaited hs ts x) (λ w m. rw (s .start .taken .none w) (sym (and-comm (eqb (at hs w) x) true)));
-          ready = λ x k e. clash _ e (s .start .taken .none x);
-          off = λ x k e. clash _ e (s .start .taken .none x);
-          leads = λ x k e. clash _ e (s .start .leading .none x);
-          led = λ w x k m e t. clash _ t (s .start .taken .none w);
+          taken-long = taken .long;
+          leading-long = leading .long;
+          waits = λ x k. ap (λ (l : List ℕ). at l x) (s .waits) ∙ tally-at hs n x (omega (arith, s .start .few)) ∙ count-ext n (λ w. eqb (at hs w) x) (awaited hs ts x) (λ w m. rw (taken .none w) (sym (and-comm (eqb (at hs w) x) true)));
+          ready = λ x k e. clash _ e (taken .none x);
+          off = λ x k e. clash _ e (taken .none x);
+          leads = λ x k e. clash _ e (leading .none x);
+          led = λ w x k m e t. clash _ t (taken .none w);
         };
         upto = omega arith;
         end = λ k. k;
         passed = λ x k m apart e. absurd (apart (omega arith));
       }
+    where
+      taken : Blank ts
+      taken = blank (s .start .taken)
+
+      leading : Blank ls
+      leading = blank (s .start .leading)
 
   module _ {ws ts ls : List ℕ} {v u : ℕ} {b : Bool} (s : Passing n hs ws ts ls v u) (h : v < n) (e : b ≡ isNext n ws ts u) where
     -- u can be taken

@@ -107,11 +107,11 @@ module _ (leadsPair : ℕ → ℕ → Bool) (n : ℕ) (g : ℕ → ℕ) (v : ℕ
   pub five-none : n ≤ u → u ≡ ruleFive leadsPair n g v
   five-none h = here ∙ sym (five-keeps leadsPair n g v (λ k one. omega arith))
 
-  pub five-more : {k : ℕ} → k ≡ memberCount n g u → (k ≡ 1 → ⊥) → u ≡ ruleFive leadsPair n g v
-  five-more e f = here ∙ sym (five-keeps leadsPair n g v (λ _ one. f (e ∙ ap (memberCount n g) here ∙ one)))
+  pub five-more : (memberCount n g u ≡ 1 → ⊥) → u ≡ ruleFive leadsPair n g v
+  five-more f = here ∙ sym (five-keeps leadsPair n g v (λ _ one. f (ap (memberCount n g) here ∙ one)))
 
-  pub five-two : {k w r : ℕ} → u < n → k ≡ memberCount n g u → k ≡ 1 → w ≡ partner n g u → r ≡ pairLeader leadsPair u w → r ≡ ruleFive leadsPair n g v
-  five-two h e f q s = s ∙ ap (pairLeader leadsPair u) q ∙ sym (five-pair leadsPair n g v u (sym here) h (sym e ∙ f))
+  pub five-two : {w r : ℕ} → u < n → (memberCount n g u ≡ 1) × (w ≡ partner n g u) → r ≡ pairLeader leadsPair u w → r ≡ ruleFive leadsPair n g v
+  five-two h (one, q) s = s ∙ ap (pairLeader leadsPair u) q ∙ sym (five-pair leadsPair n g v u (sym here) h one)
 
 -- The entries by rule 5 go by the entries below n.
 module _ (n : ℕ) (g g' : ℕ → ℕ) (same : (w : ℕ) → w < n → g w ≡ g' w) where

@@ -13,9 +13,14 @@ use Rattle.packing.specs.Count.{pick}
 use Rattle.packing.specs.Plant.{GATEWAYS, at}
 use Rattle.packing.proofs.Tests.{below-suc}
 use Rattle.packing.proofs.Lists.{zero-at}
-use Rattle.stars.specs.Pre.{Table, Blank, marked}
+use Rattle.stars.specs.Pre.{Table, marked}
 
--- an array of zeros has nothing marked
+-- an array of 1,024 in which nothing is marked
+pub record Blank (l : List ℕ) : Type 0 where
+  pub long : GATEWAYS ≡ length l
+  pub none : (v : ℕ) → marked l v ≡ false
+
+-- .. as an array of zeros is
 pub blank : {l : List ℕ} → l ≡ replicate GATEWAYS 0 → Blank l
 blank e = rw e record { long = refl; none = λ v. rw (zero-at GATEWAYS v) }
 

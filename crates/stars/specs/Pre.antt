@@ -6,7 +6,7 @@ use mathlib.Core.Logic.{_⊎_}
 use mathlib.Core.Bool.{Bool, true, false, not, cond, _&&_}
 use mathlib.Core.List.{List}
 use lib.Dec.{eqb, ltb}
-use lib.ListN.{length, set}
+use lib.ListN.{length, set, replicate}
 use Rattle.packing.specs.Count.{count}
 use Rattle.packing.specs.Grouping.{follows}
 use Rattle.packing.specs.Lists.{tallyOf}
@@ -28,11 +28,6 @@ pub record Marks (n : ℕ) (p : ℕ → Bool) (l : List ℕ) : Type 0 where
   pub long : GATEWAYS ≡ length l
   pub mark : (v : ℕ) → v < n → marked l v ≡ p v
 
--- an array of 1,024 in which nothing is marked
-pub record Blank (l : List ℕ) : Type 0 where
-  pub long : GATEWAYS ≡ length l
-  pub none : (v : ℕ) → marked l v ≡ false
-
 -- Trees. u may be taken: it is a gateway, waits for none that it holds, and is not taken yet
 unfoldable pub isNext : ℕ → List ℕ → List ℕ → ℕ → Bool
 isNext n ws ts u = ltb u n && eqb (at ws u) 0 && not (marked ts u)
@@ -51,8 +46,8 @@ pub record Taken (n : ℕ) (hs : List ℕ) (u : ℕ) (ws ts ls ws' ts' ls' : Lis
 -- the arrays before any is taken
 pub record Sprouting (n : ℕ) (ts ls : List ℕ) : Type 0 where
   pub few : n ≤ GATEWAYS
-  pub taken : Blank ts
-  pub leading : Blank ls
+  pub taken : ts ≡ replicate GATEWAYS 0
+  pub leading : ls ≡ replicate GATEWAYS 0
 
 pub record Peelable (n : ℕ) (hs ws ts ls : List ℕ) : Type 0 where
   pub waits : ws ≡ tallyOf n hs

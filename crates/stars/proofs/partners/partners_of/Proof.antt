@@ -1,65 +1,57 @@
+-- Of each leader it is known which of the first w are its members.
+use Prim.Native.Nat.{_-_}
+use mathlib.Core.Logic.{⊎-elim}
+use Rattle.packing.specs.Plant.{at}
+use Rattle.stars.proofs.PartnerPass.{Pairing, pairing-start, pairing-more, pairing-same, pairing-end}
+use borrow.Author.Needs.{needs}
 use Rattle.stars.proofs.partners.partners_of.Statement.{statement}
 use Rattle.stars.proofs.partners.partners_of.Tie as tie
-use Rattle.stars.proofs.partners.partners_of.Reads as reads
-use Rattle.stars.proofs.partners.partners_of.Lts as lts
-use Rattle.lists.proofs.entry.Reads as entry-reads
-use Rattle.lists.proofs.marks.nones.Reads as nones-reads
-use Rattle.lists.proofs.put.Reads as put-reads
-use Rattle.stars.proofs.partners.with_member.Reads as with-member-reads
 
 abbrev Inv-loop : tie.InvT-loop
-Inv-loop n groups partners₀ w₀ partners w = ?
+Inv-loop n groups partners₀ w₀ partners w = Pairing n (at groups) partners w
 
 abbrev μ-loop : tie.MeasureT-loop
-μ-loop n groups partners₀ w₀ partners w = ?
+μ-loop n groups partners₀ w₀ partners w = n - w
 
--- src/partners.rt:30:24
 nones-requires : tie.Need-nones-requires Inv-loop μ-loop
-nones-requires c κs = ?
+nones-requires c κs = search needs
 
--- src/partners.rt:32:5
 loop-holds : tie.Need-loop-holds Inv-loop μ-loop
-loop-holds c = ?
+loop-holds c = pairing-start _ _ (c .before .before .pre) (c .nones .ensures)
 
--- src/partners.rt:33:13
 entry-requires : tie.Need-entry-requires Inv-loop μ-loop
-entry-requires c κs = ?
+entry-requires c κs = search needs
 
--- src/partners.rt:35:31
 slice-aggregate-entry : tie.Need-slice-aggregate-entry Inv-loop μ-loop
-slice-aggregate-entry c = ?
+slice-aggregate-entry c = search needs
 
--- src/partners.rt:35:17
 entry-requires-2 : tie.Need-entry-requires-2 Inv-loop μ-loop
-entry-requires-2 c κs = ?
+entry-requires-2 c κs = search needs
 
--- src/partners.rt:36:17
 slice-aggregate-put : tie.Need-slice-aggregate-put Inv-loop μ-loop
-slice-aggregate-put c = ?
+slice-aggregate-put c = search needs
 
--- src/partners.rt:36:35
 with-member-requires : tie.Need-with-member-requires Inv-loop μ-loop
-with-member-requires c κs = ?
+with-member-requires c κs = search needs
 
--- src/partners.rt:36:13
 put-requires : tie.Need-put-requires Inv-loop μ-loop
-put-requires c κs = ?
+put-requires c κs = search needs
 
--- src/partners.rt:38:9
 add-w : tie.Need-add-w Inv-loop μ-loop
-add-w c = ?
+add-w c = search needs
 
--- src/partners.rt:32:5
 loop-less : tie.Need-loop-less Inv-loop μ-loop
-loop-less c = ?
+loop-less c = search needs
 
--- src/partners.rt:32:5
 loop-again : tie.Need-loop-again Inv-loop μ-loop
-loop-again c = ?
+loop-again c = let entry = c .before in
+    let turn = entry .before in
+    let pre = turn .before .before .before .before .pre in
+    ⊎-elim (λ k. rw (k .7) (pairing-more _ _ pre (turn .before .loop .inv) (turn .loop-test .taken) (entry .entry .ensures) (k .0 .taken) (k .2 .ensures) (k .4 .ensures) (k .5 .ensures)))
+    (λ k. rw (k .1) (pairing-same _ _ pre (turn .before .loop .inv) (turn .loop-test .taken) (entry .entry .ensures) (k .0 .left))) (c .if1 .came)
 
--- src/partners.rt:26:1
 returns : tie.Need-returns Inv-loop μ-loop
-returns c = ?
+returns c = pairing-end _ _ (c .before .before .before .before .pre) (c .before .loop .inv) (c .loop-test .left)
 
 pub partners-of-spec : {M : Type 1} → statement M
 partners-of-spec =

@@ -1,55 +1,47 @@
+-- The array is filled below v.
+use Prim.Native.Nat.{_-_}
+use Rattle.stars.specs.Stars.{leaderOf}
+use Rattle.stars.proofs.Tables.{blank, Filled, fill-start, fill-turn, fill-end}
+use borrow.Author.Needs.{needs}
 use Rattle.stars.proofs.reading.leaders_of.Statement.{statement}
 use Rattle.stars.proofs.reading.leaders_of.Tie as tie
-use Rattle.stars.proofs.reading.leaders_of.Reads as reads
-use Rattle.stars.proofs.reading.leaders_of.Lts as lts
-use Rattle.lists.proofs.marks.zeros.Reads as zeros-reads
-use Rattle.stars.proofs.reading.leader_of.Reads as leader-of-reads
 
 abbrev Inv-loop : tie.InvT-loop
-Inv-loop n holders nexts leading groups₀ v₀ groups v = ?
+Inv-loop n holders nexts leading groups₀ v₀ groups v = Filled n (leaderOf n holders) groups v
 
 abbrev μ-loop : tie.MeasureT-loop
-μ-loop n holders nexts leading groups₀ v₀ groups v = ?
+μ-loop n holders nexts leading groups₀ v₀ groups v = n - v
 
--- src/reading.rt:50:22
 zeros-requires : tie.Need-zeros-requires Inv-loop μ-loop
-zeros-requires c κs = ?
+zeros-requires c κs = search needs
 
--- src/reading.rt:52:5
 loop-holds : tie.Need-loop-holds Inv-loop μ-loop
-loop-holds c = ?
+loop-holds c = fill-start _ _ (blank (c .zeros .ensures))
 
--- src/reading.rt:53:21
 cast-place : tie.Need-cast-place Inv-loop μ-loop
-cast-place c = ?
+cast-place c = search needs
 
--- src/reading.rt:54:25
 leader-of-requires : tie.Need-leader-of-requires Inv-loop μ-loop
-leader-of-requires c κs = ?
+leader-of-requires c κs = search needs
 
--- src/reading.rt:54:9
 mul-groups : tie.Need-mul-groups Inv-loop μ-loop
-mul-groups c = ?
+mul-groups c = search needs
 
--- src/reading.rt:54:9
 array-write-groups : tie.Need-array-write-groups Inv-loop μ-loop
-array-write-groups c = ?
+array-write-groups c = search needs
 
--- src/reading.rt:55:9
 add-v : tie.Need-add-v Inv-loop μ-loop
-add-v c = ?
+add-v c = search needs
 
--- src/reading.rt:52:5
 loop-less : tie.Need-loop-less Inv-loop μ-loop
-loop-less c = ?
+loop-less c = search needs
 
--- src/reading.rt:52:5
 loop-again : tie.Need-loop-again Inv-loop μ-loop
-loop-again c = ?
+loop-again c = let turn = c .before in
+    fill-turn _ _ (turn .before .before .before .before .before .before .pre .few) (turn .before .loop .inv) (turn .loop-test .taken) (c .leader-of .ensures)
 
--- src/reading.rt:41:1
 returns : tie.Need-returns Inv-loop μ-loop
-returns c = ?
+returns c = fill-end _ _ (c .before .loop .inv) (c .loop-test .left)
 
 pub leaders-of-spec : {M : Type 1} → statement M
 leaders-of-spec =

@@ -1,61 +1,64 @@
+-- After as many turns u is so many arcs back from v.
+use mathlib.Core.Bool.{not}
+use native.Mathlib.Omega.{arith}
+use Rattle.packing.specs.Count.{count}
+use Rattle.stars.specs.Pre.{marked}
+use Rattle.stars.proofs.GoneRound.{Rounding, rounding-start, rounding-less, rounding-few, rounding-turn, rounding-end}
+use borrow.Author.Needs.{needs}
 use Rattle.stars.proofs.rounds.go_round.Statement.{statement}
 use Rattle.stars.proofs.rounds.go_round.Tie as tie
-use Rattle.stars.proofs.rounds.go_round.Reads as reads
-use Rattle.stars.proofs.rounds.go_round.Lts as lts
-use Rattle.lists.proofs.entry.Reads as entry-reads
-use Rattle.lists.proofs.marks.is_marked.Reads as is-marked-reads
-use Rattle.lists.proofs.put.Reads as put-reads
-use Rattle.stars.proofs.rounds.choose.Reads as choose-reads
 
 abbrev Inv-loop : tie.InvT-loop
-Inv-loop n holders leading read₀ v start₀ arcs₀ u₀ read start arcs u = ?
+Inv-loop n holders leading read₀ v start₀ arcs₀ u₀ read start arcs u = Rounding n holders leading read₀ v read start arcs u
 
 abbrev μ-loop : tie.MeasureT-loop
-μ-loop n holders leading read₀ v start₀ arcs₀ u₀ read start arcs u = ?
+μ-loop n holders leading read₀ v start₀ arcs₀ u₀ read start arcs u = count n (λ x. not (marked read x))
 
--- src/rounds.rt:37:5
 loop-holds : tie.Need-loop-holds Inv-loop μ-loop
-loop-holds c = ?
+loop-holds c = rounding-start _ (c .before .before .before .pre)
 
--- src/rounds.rt:37:12
 is-marked-requires : tie.Need-is-marked-requires Inv-loop μ-loop
-is-marked-requires c κs = ?
+is-marked-requires c κs = search needs
 
--- src/rounds.rt:38:9
 put-requires : tie.Need-put-requires Inv-loop μ-loop
-put-requires c κs = ?
+put-requires c κs = search needs
 
--- src/rounds.rt:39:24
 is-marked-requires-2 : tie.Need-is-marked-requires-2 Inv-loop μ-loop
-is-marked-requires-2 c κs = ?
+is-marked-requires-2 c κs = search needs
 
--- src/rounds.rt:39:9
 choose-requires : tie.Need-choose-requires Inv-loop μ-loop
-choose-requires c κs = ?
+choose-requires c κs = search needs
 
--- src/rounds.rt:40:9
 entry-requires : tie.Need-entry-requires Inv-loop μ-loop
-entry-requires c κs = ?
+entry-requires c κs = search needs
 
--- src/rounds.rt:41:9
 add-arcs : tie.Need-add-arcs Inv-loop μ-loop
-add-arcs c = ?
+add-arcs c = let put = c .before .before .before .before .before in
+    let test = put .before .before in
+    let turn = test .before .before .before in
+    let pre = turn .before .before .before .before .pre in
+    omega (arith, rounding-few _ pre (turn .loop .inv) (test .before .is-marked .ensures) (test .if1 .taken), pre .few)
 
--- src/rounds.rt:37:5
 loop-less : tie.Need-loop-less Inv-loop μ-loop
-loop-less c = ?
+loop-less c = let put = c .before .before .before .before .before in
+    let test = put .before .before in
+    let turn = test .before .before .before in
+    let pre = turn .before .before .before .before .pre in
+    rounding-less _ pre (turn .loop .inv) (test .before .is-marked .ensures) (test .if1 .taken) (put .put .ensures)
 
--- src/rounds.rt:37:5
 loop-again : tie.Need-loop-again Inv-loop μ-loop
-loop-again c = ?
+loop-again c = let put = c .before .before .before .before .before in
+    let test = put .before .before in
+    let turn = test .before .before .before in
+    let pre = turn .before .before .before .before .pre in
+    rounding-turn _ pre (turn .loop .inv) (test .before .is-marked .ensures) (test .if1 .taken) (put .put .ensures) (c .before .before .is-marked2 .ensures) (c .before .choose .ensures) (c .entry .ensures)
 
--- src/rounds.rt:30:1
 same-length : tie.Need-same-length Inv-loop μ-loop
-same-length c = ?
+same-length c = search needs
 
--- src/rounds.rt:30:1
 returns : tie.Need-returns Inv-loop μ-loop
-returns c = ?
+returns c = let turn = c .before .before .before in
+    rounding-end _ (turn .before .before .before .before .pre) (turn .loop .inv) (c .before .is-marked .ensures) (c .if1 .left)
 
 pub go-round-spec : {M : Type 1} → statement M
 go-round-spec =

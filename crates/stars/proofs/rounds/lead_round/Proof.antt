@@ -1,57 +1,49 @@
+-- After i turns u is i arcs back from the start, and those met are marked if they lead.
+use Prim.Native.Nat.{_-_}
+use Rattle.stars.proofs.LedRound.{Leading, leading-start, leading-turn, leading-end}
+use borrow.Author.Needs.{needs}
 use Rattle.stars.proofs.rounds.lead_round.Statement.{statement}
 use Rattle.stars.proofs.rounds.lead_round.Tie as tie
-use Rattle.stars.proofs.rounds.lead_round.Reads as reads
-use Rattle.stars.proofs.rounds.lead_round.Lts as lts
-use Rattle.lists.proofs.entry.Reads as entry-reads
-use Rattle.lists.proofs.marks.is_marked.Reads as is-marked-reads
-use Rattle.lists.proofs.marks.mark_if.Reads as mark-if-reads
-use Rattle.lists.proofs.tests.either.Reads as either-reads
 
 abbrev Inv-loop : tie.InvT-loop
-Inv-loop n holders leading₀ start arcs last₀ u₀ i₀ leading last u i = ?
+Inv-loop n holders leading₀ start arcs last₀ u₀ i₀ leading last u i = Leading n holders leading₀ start arcs leading last u i
 
 abbrev μ-loop : tie.MeasureT-loop
-μ-loop n holders leading₀ start arcs last₀ u₀ i₀ leading last u i = ?
+μ-loop n holders leading₀ start arcs last₀ u₀ i₀ leading last u i = arcs - i
 
--- src/rounds.rt:54:5
 loop-holds : tie.Need-loop-holds Inv-loop μ-loop
-loop-holds c = ?
+loop-holds c = leading-start (c .before .before .pre)
 
--- src/rounds.rt:55:38
 is-marked-requires : tie.Need-is-marked-requires Inv-loop μ-loop
-is-marked-requires c κs = ?
+is-marked-requires c κs = search needs
 
--- src/rounds.rt:55:13
 either-requires : tie.Need-either-requires Inv-loop μ-loop
-either-requires c κs = ?
+either-requires c κs = search needs
 
--- src/rounds.rt:57:9
 entry-requires : tie.Need-entry-requires Inv-loop μ-loop
-entry-requires c κs = ?
+entry-requires c κs = search needs
 
--- src/rounds.rt:58:9
 mark-if-requires : tie.Need-mark-if-requires Inv-loop μ-loop
-mark-if-requires c κs = ?
+mark-if-requires c κs = search needs
 
--- src/rounds.rt:59:9
 add-i : tie.Need-add-i Inv-loop μ-loop
-add-i c = ?
+add-i c = search needs
 
--- src/rounds.rt:54:5
 loop-less : tie.Need-loop-less Inv-loop μ-loop
-loop-less c = ?
+loop-less c = search needs
 
--- src/rounds.rt:54:5
 loop-again : tie.Need-loop-again Inv-loop μ-loop
-loop-again c = ?
+loop-again c = let mark = c .before .before in
+    let entry = mark .before .before in
+    let either = entry .before in
+    let turn = either .before .before .before in
+    leading-turn (turn .before .before .before .before .pre) (turn .before .loop .inv) (turn .loop-test .taken) (either .before .is-marked .ensures) (either .either .ensures) (entry .entry .ensures) (mark .mark-if .ensures)
 
--- src/rounds.rt:47:1
 same-length : tie.Need-same-length Inv-loop μ-loop
-same-length c = ?
+same-length c = search needs
 
--- src/rounds.rt:47:1
 returns : tie.Need-returns Inv-loop μ-loop
-returns c = ?
+returns c = let turn = c .before in leading-end (turn .before .before .before .pre) (turn .loop .inv) (c .loop-test .left)
 
 pub lead-round-spec : {M : Type 1} → statement M
 lead-round-spec =

@@ -1,60 +1,57 @@
+-- The cycles with a number below v are read.
+use Prim.Native.Nat.{_-_}
+use mathlib.Core.Path.{sym, _∙_}
+use mathlib.Core.Logic.{⊎-elim}
+use borrow.Author.Tests.{not-true, not-false}
+use Rattle.stars.specs.Pre.{Reading}
+use Rattle.stars.proofs.CyclePass.{reading-start, reading-on, reading-end}
+use borrow.Author.Needs.{needs}
 use Rattle.stars.proofs.rounds.read_cycles.Statement.{statement}
 use Rattle.stars.proofs.rounds.read_cycles.Tie as tie
-use Rattle.stars.proofs.rounds.read_cycles.Reads as reads
-use Rattle.stars.proofs.rounds.read_cycles.Lts as lts
-use Rattle.lists.proofs.marks.is_marked.Reads as is-marked-reads
-use Rattle.lists.proofs.marks.nones.Reads as nones-reads
-use Rattle.stars.proofs.rounds.read_cycle.Reads as read-cycle-reads
 
 abbrev Inv-loop : tie.InvT-loop
-Inv-loop n holders read₀ leading₀ nexts₀ v₀ read leading nexts v = ?
+Inv-loop n holders read₀ leading₀ nexts₀ v₀ read leading nexts v = Reading n holders v read leading nexts
 
 abbrev μ-loop : tie.MeasureT-loop
-μ-loop n holders read₀ leading₀ nexts₀ v₀ read leading nexts v = ?
+μ-loop n holders read₀ leading₀ nexts₀ v₀ read leading nexts v = n - v
 
--- src/rounds.rt:93:21
 nones-requires : tie.Need-nones-requires Inv-loop μ-loop
-nones-requires c κs = ?
+nones-requires c κs = search needs
 
--- src/rounds.rt:95:5
 loop-holds : tie.Need-loop-holds Inv-loop μ-loop
-loop-holds c = ?
+loop-holds c = reading-start (c .before .before .before .before .pre) (c .nones .ensures)
 
--- src/rounds.rt:96:13
 is-marked-requires : tie.Need-is-marked-requires Inv-loop μ-loop
-is-marked-requires c κs = ?
+is-marked-requires c κs = search needs
 
--- src/rounds.rt:97:51
 slice-aggregate-read-cycle : tie.Need-slice-aggregate-read-cycle Inv-loop μ-loop
-slice-aggregate-read-cycle c = ?
+slice-aggregate-read-cycle c = search needs
 
--- src/rounds.rt:97:13
 read-cycle-requires : tie.Need-read-cycle-requires Inv-loop μ-loop
-read-cycle-requires c κs = ?
+read-cycle-requires c κs = let test = c .before .before .before in
+    let turn = test .before .before .before in
+    (turn .before .loop .inv, turn .loop-test .taken, sym (test .before .is-marked .ensures) ∙ not-true _ (test .if1 .taken))
 
--- src/rounds.rt:99:9
 add-v : tie.Need-add-v Inv-loop μ-loop
-add-v c = ?
+add-v c = search needs
 
--- src/rounds.rt:95:5
 loop-less : tie.Need-loop-less Inv-loop μ-loop
-loop-less c = ?
+loop-less c = search needs
 
--- src/rounds.rt:95:5
 loop-again : tie.Need-loop-again Inv-loop μ-loop
-loop-again c = ?
+loop-again c = let test = c .before in
+    let turn = test .before .before in
+    ⊎-elim (λ k. rw (k .10, k .11, k .12) (k .4 .ensures))
+    (λ k. rw (k .1, k .2, k .3) (reading-on (turn .before .loop .inv) (turn .loop-test .taken) (sym (test .is-marked .ensures) ∙ not-false _ (k .0 .left)))) (c .if1 .came)
 
--- src/rounds.rt:84:1
 same-length : tie.Need-same-length Inv-loop μ-loop
-same-length c = ?
+same-length c = search needs
 
--- src/rounds.rt:84:1
 same-length-2 : tie.Need-same-length-2 Inv-loop μ-loop
-same-length-2 c = ?
+same-length-2 c = search needs
 
--- src/rounds.rt:84:1
 returns : tie.Need-returns Inv-loop μ-loop
-returns c = ?
+returns c = reading-end (c .before .loop .inv) (c .loop-test .left)
 
 pub read-cycles-spec : {M : Type 1} → statement M
 read-cycles-spec =
