@@ -1,11 +1,11 @@
 -- Laws of a file's plan, by subject.
 pub mod Refusing
 pub mod Turns
-pub mod CallsInTurn
 pub mod ToldByFile
 pub mod After
 pub mod FileMoves
-pub mod Placings
+pub mod NextPlacing
+pub mod PlacingLoop
 pub mod Asking
 pub mod FilePlan
 pub mod FileWays

@@ -1,10 +1,73 @@
--- What the contracts of private functions cite. A reader of the public ones needs none of it.
-use Rattle.planner.specs.State.{State}
-use Rattle.planner.specs.Calls.{link, call}
-use Rattle.plant_file.specs.declared.reader.Step.{Step}
-use Rattle.plant_file.specs.declared.reader.Step.the-variants.{Link, End}
+-- What the contracts of private functions cite. A reader of the public ones needs none of it. file is the list of bytes, w the way of placing.
+use Prim.Native.Nat.{ℕ, _<_, _≤_}
+use mathlib.Core.Path.{_≡_}
+use mathlib.Core.Bool.{Bool, true, false}
+use mathlib.Core.List.{List}
+use lib.ListN.{length, replicate}
+use Rattle.packing.specs.Plant.{GATEWAYS, NONE, at}
+use Rattle.chains.specs.Index.{Index}
+use Rattle.search.specs.Search.{seen}
+use Rattle.search.specs.Table.{heldTable}
+use Rattle.search.specs.ChokeSet.{inChoke}
+use Rattle.search.specs.Dead.{PastMarks}
+use Rattle.planner.specs.declared.Way.{Way}
+use Rattle.planner.specs.declared.Way.the-variants.{Queued, Recursive}
+use Rattle.plant_file.specs.PlantFile.{fileN, fileLinks, fileOrder, fileLimit, fileRefusal}
+use Rattle.plan.specs.Plan.{stateBy}
 
--- a record after the call for the link that was read
-abbrev pub linkStep : Step → State → State
-linkStep (Link a b) s = call s (link a b) .state
-linkStep End s = s
+-- the way is 01's search
+unfoldable pub isQueued : Way → Bool
+isQueued Queued = true
+isQueued Recursive = false
+
+-- the marks after a placing: the short search passes nobody by
+abbrev pub MarksBy : Way → (n : ℕ) (limit : ℕ → ℕ) (ls hs : List ℕ) (v : ℕ) (dead from hs' dead' from' : List ℕ) → Type 0
+MarksBy Queued n limit ls hs v dead from hs' dead' from' = PastMarks n limit ls hs v dead hs' dead' from'
+MarksBy Recursive n limit ls hs v dead from hs' dead' from' = (dead' ≡ dead) × (from' ≡ from)
+
+-- the lists of an accepted file, with the index of its links: limits and order from their first n entries
+pub record Loaded (file ls next os ts : List ℕ) : Type 0 where
+  pub accepted : fileRefusal file ≡ 0
+  pub links : ls ≡ fileLinks file
+  pub index : Index ls next
+  pub order-long : fileN file ≤ length os
+  pub order : (i : ℕ) → i < fileN file → at os i ≡ at (fileOrder file) i
+  pub limits : (u : ℕ) → u < fileN file → at ts u ≡ fileLimit file u
+
+-- .. and what k placings work on: holders of which none is one, the table of them, a queue, and marks of nobody
+pub record Placings (w : Way) (file : List ℕ) (k : ℕ) (ls next os ts hs : List ℕ) (rows : List (List ℕ)) (queue dead from : List ℕ) : Type 0 where
+  pub loaded : Loaded file ls next os ts
+  pub within : k ≤ fileN file
+  pub first : hs ≡ stateBy w file 0 .holders
+  pub table : rows ≡ heldTable (fileN file) hs
+  pub places : fileN file ≤ length queue
+  pub none : dead ≡ replicate (fileN file) NONE
+  pub same : from ≡ dead
+
+-- once all are placed by 01's search, those marked are the choke set
+abbrev pub DeadChoke : Way → List ℕ → ℕ → List ℕ → Type 0
+DeadChoke w file k dead = isQueued w ≡ true → k ≡ fileN file → (length dead ≡ fileN file) × ((u : ℕ) → u < fileN file → seen dead u ≡ inChoke (fileN file) (fileLinks file) (stateBy w file k .holders) u)
+
+-- what k placings start from: lists of zeros for the holders, and marks of nobody
+pub record Making (file : List ℕ) (k : ℕ) (ls next os ts hs dead : List ℕ) : Type 0 where
+  pub loaded : Loaded file ls next os ts
+  pub within : k ≤ fileN file
+  pub zeros : hs ≡ replicate GATEWAYS 0
+  pub none : dead ≡ replicate (fileN file) NONE
+
+-- what the choke bytes are written from
+pub record Choking (w : Way) (file : List ℕ) (k : ℕ) (ls next hs dead choke : List ℕ) : Type 0 where
+  pub accepted : fileRefusal file ≡ 0
+  pub links : ls ≡ fileLinks file
+  pub index : Index ls next
+  pub within : k ≤ fileN file
+  pub made : hs ≡ stateBy w file k .holders
+  pub dead-choke : DeadChoke w file k dead
+  pub room : fileN file ≤ length choke
+
+-- what a plan is written from
+pub record Readable (file : List ℕ) (k : ℕ) (ls next os ts leaders choke : List ℕ) : Type 0 where
+  pub loaded : Loaded file ls next os ts
+  pub within : k ≤ fileN file
+  pub room : fileN file ≤ length leaders
+  pub room₂ : fileN file ≤ length choke

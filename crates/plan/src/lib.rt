@@ -1,18 +1,20 @@
 // The plan of a plant file, as lists of numbers (01, "The plant file and the listing"), also while the plant is being placed (02, change 1), and how many gateways it moves (02, change 4). Why a gateway is alone in it is module why.
-mod calls;
+mod placings;
+mod reading;
 pub mod why;
 
 use planner::Way;
 ghost use mathlib.Core.Path.{_≡_};
 ghost use lib.ListN.{length};
+ghost use Rattle.plant_file.specs.PlantFile.{fileRefusal};
 ghost use Rattle.plan.specs.Plan.{planRefusal, planLeaders, planChoke};
 ghost use Rattle.plan.specs.After.{afterRefusal, planAfterRefusal, plannedBy, planLeadersBy, planChokeBy, plannedAfter, planLeadersAfter, planChokeAfter};
 
-// The file's number, then 24 for more placings than there are gateways, then 10: short says that a lent list is too short.
-pub fn refusal_after(file: &[u8], placings: u32, short: bool) -> u32
+// A file's number, which is at hand, then 24 for more placings than there are gateways, then 10: short says that a lent list is too short.
+fn number_then(refused: u32, file: &[u8], placings: u32, short: bool) -> u32
+    requires { ⌜ refused ≡ fileRefusal (now file) ⌝ }
     ensures { λ r. ⌜ r ≡ afterRefusal (now (file .entry)) placings short ⌝ }
 {
-    let refused = plant_file::refusal(file);
     if refused != 0 {
         return refused;
     }
@@ -25,12 +27,21 @@ pub fn refusal_after(file: &[u8], placings: u32, short: bool) -> u32
     0
 }
 
-fn refusal_of(file: &[u8], placings: u32, leaders: &[u16], choke: &[u8]) -> u32
+// .. of a file that is checked for it.
+pub fn refusal_after(file: &[u8], placings: u32, short: bool) -> u32
+    ensures { λ r. ⌜ r ≡ afterRefusal (now (file .entry)) placings short ⌝ }
+{
+    number_then(plant_file::refusal(file), file, placings, short)
+}
+
+// .. of one with that number, by the lists lent.
+fn number_of(refused: u32, file: &[u8], placings: u32, leaders: &[u16], choke: &[u8]) -> u32
+    requires { ⌜ refused ≡ fileRefusal (now file) ⌝ }
     ensures { λ r. ⌜ r ≡ planAfterRefusal (now (file .entry)) placings (length (now (leaders .entry))) (length (now (choke .entry))) ⌝ }
 {
     let n = plant_file::gateways(file) as usize;
     let short = lists::tests::either(leaders.len() < n, choke.len() < n);
-    refusal_after(file, placings, short)
+    number_then(refused, file, placings, short)
 }
 
 // The refusal's number, or 0 for accepted, and how many gateways the placings move, 0 on refusal.
@@ -40,6 +51,7 @@ pub struct Planned {
 }
 
 // The leader list and the choke bytes after so many placings in one way, and how many gateways these move. Nothing is written on refusal.
+// The file is gone through once, and leaves its lists and the index of its links; nothing of the record that its calls make is checked again.
 pub fn plan_lists_by(
     file: &[u8],
     way: Way,
@@ -51,30 +63,31 @@ pub fn plan_lists_by(
     ensures leaders { λ _. ⌜ now (leaders .exit) ≡ planLeadersBy way (now (file .entry)) placings (now (leaders .entry)) (now (choke .entry)) ⌝ }
     ensures choke { λ _. ⌜ now (choke .exit) ≡ planChokeBy way (now (file .entry)) placings (now (leaders .entry)) (now (choke .entry)) ⌝ }
 {
-    let refused = refusal_of(file, placings, leaders, choke);
+    let mut links = lists::marks::ends();
+    let mut next = chains::build::empty_index();
+    let mut order = lists::marks::zeros();
+    let mut limits = lists::marks::bytes(0);
+    let number = plant_file::load_indexed(file, &mut links, &mut next, &mut order, &mut limits);
+    let refused = number_of(number, file, placings, leaders, choke);
     if refused != 0 {
         return Planned {
             refusal: refused,
             moved: 0,
         };
     }
-    // Nothing is asked: there are no places for the sets.
-    let mut first = [0u16; 1];
-    let mut second = [0u16; 1];
-    let looked = calls::look(
+    let end = 2 * (plant_file::link_count(file) as usize);
+    let moved = reading::read_lists(
         file,
         way,
         placings,
+        &limits,
+        &links[..end],
+        &next,
+        &order,
         leaders,
         choke,
-        0,
-        &mut first[..0],
-        &mut second[..0],
     );
-    Planned {
-        refusal: 0,
-        moved: looked.moved,
-    }
+    Planned { refusal: 0, moved }
 }
 
 // .. by 01's search.

@@ -1,56 +1,8 @@
 // Why a gateway is alone in a file's plan, as lists of numbers (02, change 5).
-use crate::calls;
-use planner::Way;
-ghost use mathlib.Core.Path.{_≡_};
-ghost use lib.ListN.{length};
-ghost use Rattle.plan.specs.Why.{fileWhy, firstWritten, secondWritten};
 
 // The refusal's number, or 0 for accepted, and how many gateways each set has, 0 on refusal.
 pub struct Why {
     pub refusal: u32,
     pub first: u16,
     pub second: u16,
-}
-
-// Writes the two sets of a gateway that the plan leaves alone. Nothing is written on refusal.
-pub fn why_lists(file: &[u8], gateway: u32, first: &mut [u16], second: &mut [u16]) -> Why
-    ensures answer { λ r. ⌜ r ≡ fileWhy (now (file .entry)) gateway (length (now (first .entry))) (length (now (second .entry))) ⌝ }
-    ensures first { λ _. ⌜ now (first .exit) ≡ firstWritten (now (file .entry)) gateway (now (first .entry)) (now (second .entry)) ⌝ }
-    ensures second { λ _. ⌜ now (second .exit) ≡ secondWritten (now (file .entry)) gateway (now (first .entry)) (now (second .entry)) ⌝ }
-{
-    let refused = plant_file::refusal(file);
-    if refused != 0 {
-        return Why {
-            refusal: refused,
-            first: 0,
-            second: 0,
-        };
-    }
-    let n = plant_file::gateways(file) as u32;
-    if n <= gateway {
-        return Why {
-            refusal: 30,
-            first: 0,
-            second: 0,
-        };
-    }
-    // Nothing is read: there are no places for the leaders.
-    let mut leaders = [0u16; 1];
-    let mut choke = [0u8; 1];
-    let looked = calls::look(
-        file,
-        Way::Queued,
-        n,
-        &mut leaders[..0],
-        &mut choke[..0],
-        gateway as u16,
-        first,
-        second,
-    );
-    let why = looked.why;
-    Why {
-        refusal: why.refusal,
-        first: why.first,
-        second: why.second,
-    }
 }

@@ -20,7 +20,7 @@ fn mark_byte(from: u16) -> u8
 }
 
 // 1 for each that is seen.
-pub(crate) fn write_seen(from: &[u16], out: &mut [u8])
+pub fn write_seen(from: &[u16], out: &mut [u8])
     requires { ⌜ length (now from) ≤ length (now out) ⌝ }
     ensures { λ _. ⌜ now (out .exit) ≡ written (length (now (from .entry))) (listOf (length (now (from .entry))) (seenByte (now (from .entry)))) (now (out .entry)) ⌝ }
 {

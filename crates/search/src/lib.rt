@@ -1,5 +1,5 @@
 // Finds a holder for a gateway (01, "Placing"), on plain lists and numbers. The choke set, which takes the same walk, is module choke; who the walk from one gateway reaches, module reached.
-mod bytes;
+pub mod bytes;
 pub mod choke;
 pub mod held;
 pub mod past;

@@ -61,6 +61,11 @@ module _ (file : List ℕ) (z : fileRefusal file ≡ 0) (w : Way) where
       begun : State
       begun = afterOpen (fileN file) (fileT file) ownLinks own own own
 
+  -- .. and nobody is moved
+  pub first-moves : fileMovesBy w file 0 ≡ 0
+  unfolding sum
+  first-moves = moves-sum file z w 0 (omega arith) .sums
+
   module _ (j : ℕ) (l : j < fileN file) where
     sound : SoundState (stateBy w file j)
     sound = file-agrees file z w j (omega arith) .made .sound
@@ -113,3 +118,7 @@ module _ (file : List ℕ) (z : fileRefusal file ≡ 0) (w : Way) where
     placing-unplaced i a b =
         none-unheld (fileN file) (stateBy w file j .holders) (at (fileOrder file) i) (placing-placeable .few)
         (rw (file-agrees file z w j (omega arith) .order i b) at (sound .free i (rw placed a) (rw few b)))
+
+    -- .. and the next has no holder
+    pub placing-none : at (stateBy w file j .holders) (at (fileOrder file) j) ≡ NONE
+    placing-none = rw (file-agrees file z w j (omega arith) .order j l) at (sound .free j (rw placed (omega arith)) (rw few l))

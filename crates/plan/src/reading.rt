@@ -1,0 +1,127 @@
+// The record that a file's calls make, without the calls, and what a read of it writes. The file is accepted, and its lists and the index of its links are at hand.
+use crate::placings::place_all;
+use planner::Way;
+ghost use mathlib.Core.Path.{_≡_};
+ghost use Rattle.packing.specs.Lists.{listOf, written};
+ghost use Rattle.search.specs.ChokeSet.{chokeByte};
+ghost use Rattle.planner.specs.Calls.{readLeaders, readChoke};
+ghost use Rattle.plant_file.specs.PlantFile.{fileN, fileLinks};
+ghost use Rattle.plan.specs.Plan.{stateBy, fileMovesBy};
+ghost use Rattle.plan.specs.Pre.{Making, DeadChoke, isQueued, Choking, Readable};
+
+// The holders after so many placings, and marks that are the choke set where all are placed by 01's search. Returns how many gateways the placings move.
+pub(crate) fn make(
+    file: &[u8],
+    way: Way,
+    placings: u32,
+    limits: &[u8],
+    links: &[u16],
+    next: &[u16],
+    order: &[u16],
+    holders: &mut [u16],
+    dead: &mut [u16],
+) -> u32
+    requires { ⌜ Making (now file) placings (now links) (now next) (now order) (now limits) (now holders) (now dead) ⌝ }
+    ensures holders { λ _. ⌜ now (holders .exit) ≡ stateBy way (now (file .entry)) placings .holders ⌝ }
+    ensures moved { λ r. ⌜ r ≡ fileMovesBy way (now (file .entry)) placings ⌝ }
+    ensures dead { λ _. ⌜ DeadChoke way (now (file .entry)) placings (now (dead .exit)) ⌝ }
+{
+    let n = plant_file::gateways(file);
+    let end = n as usize;
+    lists::fill::with_none(end, holders);
+    let mut rows = search::held::gather(n, holders);
+    let mut queue = lists::marks::zeros();
+    let mut from = lists::marks::nones();
+    place_all(
+        file,
+        way,
+        placings,
+        limits,
+        links,
+        next,
+        order,
+        &mut rows,
+        holders,
+        &mut queue,
+        dead,
+        &mut from[..end],
+    )
+}
+
+// Whether the way is 01's search.
+fn is_queued(way: Way) -> bool
+    ensures { λ r. ⌜ r ≡ isQueued way ⌝ }
+{
+    match way {
+        Way::Queued => true,
+        Way::Recursive => false,
+    }
+}
+
+// The choke bytes of the holders: of those marked where these are the choke set, else by the walk of its own.
+fn write_choke(
+    file: &[u8],
+    way: Way,
+    placings: u32,
+    links: &[u16],
+    next: &[u16],
+    holders: &[u16],
+    dead: &[u16],
+    choke: &mut [u8],
+)
+    requires { ⌜ Choking way (now file) placings (now links) (now next) (now holders) (now dead) (now choke) ⌝ }
+    ensures { λ _. ⌜ now (choke .exit) ≡ written (fileN (now (file .entry))) (listOf (fileN (now (file .entry))) (chokeByte (fileN (now (file .entry))) (fileLinks (now (file .entry))) (stateBy way (now (file .entry)) placings .holders))) (now (choke .entry)) ⌝ }
+{
+    let n = plant_file::gateways(file);
+    if lists::tests::both(is_queued(way), placings == n as u32) {
+        search::bytes::write_seen(dead, choke);
+        return;
+    }
+    search::choke::choke_set(n, links, next, holders, choke);
+}
+
+// The leader list and the choke bytes after so many placings. Returns how many gateways these move.
+pub(crate) fn read_lists(
+    file: &[u8],
+    way: Way,
+    placings: u32,
+    limits: &[u8],
+    links: &[u16],
+    next: &[u16],
+    order: &[u16],
+    leaders: &mut [u16],
+    choke: &mut [u8],
+) -> u32
+    requires { ⌜ Readable (now file) placings (now links) (now next) (now order) (now limits) (now leaders) (now choke) ⌝ }
+    ensures leaders { λ _. ⌜ now (leaders .exit) ≡ readLeaders (stateBy way (now (file .entry)) placings) (now (leaders .entry)) (now (choke .entry)) ⌝ }
+    ensures choke { λ _. ⌜ now (choke .exit) ≡ readChoke (stateBy way (now (file .entry)) placings) (now (leaders .entry)) (now (choke .entry)) ⌝ }
+    ensures moved { λ r. ⌜ r ≡ fileMovesBy way (now (file .entry)) placings ⌝ }
+{
+    let n = plant_file::gateways(file);
+    let end = n as usize;
+    let mut holders = lists::marks::zeros();
+    let mut dead = lists::marks::nones();
+    let moved = make(
+        file,
+        way,
+        placings,
+        limits,
+        links,
+        next,
+        order,
+        &mut holders,
+        &mut dead[..end],
+    );
+    stars::leaders(n, order, &holders, leaders);
+    write_choke(
+        file,
+        way,
+        placings,
+        links,
+        next,
+        &holders,
+        &dead[..end],
+        choke,
+    );
+    moved
+}
