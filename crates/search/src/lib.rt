@@ -1,9 +1,9 @@
 // Finds a holder for a gateway (01, "Placing"), on plain lists and numbers. The choke set, which takes the same walk, is module choke; who the walk from one gateway reaches, module reached.
 mod bytes;
 pub mod choke;
-mod held;
+pub mod held;
 pub mod reached;
-mod shift;
+pub mod shift;
 mod start;
 pub mod walk;
 
