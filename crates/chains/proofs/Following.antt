@@ -1,63 +1,70 @@
 -- Following a chain: from each of x's links to the next, the neighbours of x in order of arrival.
-use Prim.Native.Nat.{ℕ, _+_, _-_, _*_, _<_, _≤_}
-use mathlib.Core.Path.{_≡_, refl, sym, ap, _∙_}
+use Prim.Native.Nat.{ℕ, _+_, _-_, _*_, _/_, _%_, _<_, _≤_}
+use mathlib.Core.Path.{_≡_, refl, ap, _∙_}
 use mathlib.Core.Logic.{_⊎_, inl, inr, ⊎-elim}
-use mathlib.Core.Bool.{true, false, cond}
+use mathlib.Core.Bool.{false}
 use mathlib.Core.List.{List, [], _∷_}
 use native.Mathlib.Omega.{arith}
 use lib.Dec.{eqb}
-use lib.ListN.{length, drop, length-drop}
-use borrow.Author.Tests.{eqb-false, eq-eqb}
-use Rattle.packing.specs.Plant.{NONE, GATEWAYS, ENDS, at, neighbours}
+use lib.ListN.{length, drop}
+use borrow.Author.Tests.{eqb-true, eqb-false, eq-eqb}
+use Rattle.packing.specs.Plant.{NONE, GATEWAYS, at, otherEnd, neighbours}
 use Rattle.packing.proofs.Tests.{by-bool}
-use Rattle.packing.proofs.Flat.{pair-at}
-use Rattle.chains.specs.Index.{SLOTS, rootOf, slotOf, across, Incident, NextLink, Index}
+use Rattle.packing.proofs.Flat.{pair-at, pair-end}
+use Rattle.chains.specs.Index.{rootOf, mate, EndOf, NextEnd, Index}
 
--- a chain is at its end, or at a link of x
+-- a chain is at its end, or at an end of x
 abbrev pub Standing : List ℕ → ℕ → ℕ → Type 0
-Standing ls x i = (i ≡ NONE) ⊎ Incident ls x i
+Standing ls x e = (e ≡ NONE) ⊎ EndOf ls x e
 
 -- no links are left past the end
-past : (ls : List ℕ) (i x : ℕ) → length ls ≤ i → neighbours (drop i ls) x ≡ []
+pub past : (ls : List ℕ) (i x : ℕ) → length ls ≤ i + 1 → neighbours (drop i ls) x ≡ []
 unfolding neighbours
-past ls i x h = none (drop i ls) (length-drop i ls ∙ zero h)
+past ls i x h = none (drop i ls) (pair-end ls i h)
   where
-    zero : length ls ≤ i → length ls - i ≡ 0
-    zero l = omega arith
-
-    none : (l : List ℕ) → length l ≡ 0 → neighbours l x ≡ []
+    none : (l : List ℕ) → length l ≤ 1 → neighbours l x ≡ []
     none [] e = refl
-    none (a ∷ l) e = absurd (omega arith)
+    none (a ∷ []) e = refl
+    none (a ∷ b ∷ l) e = absurd (omega arith)
 
--- link i is x's, so the links from it on give its other end first
-link-across : (ls : List ℕ) (x i : ℕ) → Incident ls x i → neighbours (drop (2 * i) ls) x ≡ across ls x i ∷ neighbours (drop (2 * (i + 1)) ls) x
-unfolding neighbours across
-link-across ls x i h =
-    rw (pair-at ls (2 * i) (h .inside), two)
-    (by-bool (eqb (at ls (2 * i)) x) (λ e. rw e) (λ e. rw (e, eq-eqb (at ls (2 * i + 1)) x (other e))))
+-- the two ends of a link
+pub mates : (e : ℕ) → ((e ≡ 2 * (e / 2)) × (mate e ≡ 2 * (e / 2) + 1)) ⊎ ((e ≡ 2 * (e / 2) + 1) × (mate e ≡ 2 * (e / 2)))
+mates e = by-bool (eqb (e % 2) 0) (λ q. let z = eqb-true (e % 2) 0 q in inl (omega (arith, z), omega (arith, z))) (λ q. let z = eqb-false (e % 2) 0 q in inr (omega (arith, z), omega (arith, z)))
+
+-- the end at place e is x's, so the links from its link on give its other end first
+link-across : (ls : List ℕ) (x e : ℕ) → EndOf ls x e → neighbours (drop (2 * (e / 2)) ls) x ≡ at ls (mate e) ∷ neighbours (drop (2 * (e / 2 + 1)) ls) x
+unfolding neighbours
+link-across ls x e h =
+    rw (pair-at ls (2 * (e / 2)) (h .inside), two)
+    (⊎-elim (λ k. rw (k .1, eq-eqb (at ls (2 * (e / 2))) x (rw (← k .0) (h .here)))) (λ k. second (k .1) (rw (k .0) at (h .here))) (mates e))
   where
-    two : 2 * (i + 1) ≡ 2 * i + 2
+    two : 2 * (e / 2 + 1) ≡ 2 * (e / 2) + 2
     two = omega arith
 
-    other : eqb (at ls (2 * i)) x ≡ false → at ls (2 * i + 1) ≡ x
-    other e = ⊎-elim (λ q. absurd (eqb-false _ _ e q)) (λ q. q) (h .end)
+    second : mate e ≡ 2 * (e / 2) → at ls (2 * (e / 2) + 1) ≡ x → otherEnd (at ls (2 * (e / 2))) (at ls (2 * (e / 2) + 1)) x (neighbours (drop (2 * (e / 2) + 2) ls) x) ≡ at ls (mate e) ∷ neighbours (drop (2 * (e / 2) + 2) ls) x
+    second m is = rw (m, eq-eqb (at ls (2 * (e / 2) + 1)) x is) (by-bool (eqb (at ls (2 * (e / 2))) x) (λ q. rw (q, is, eqb-true (at ls (2 * (e / 2))) x q)) (λ q. rw q))
 
 module _ {ls next : List ℕ} (d : Index ls next) {x : ℕ} (below : x < GATEWAYS) where
-  -- the first link
-  pub chain-first : (neighbours ls x ≡ neighbours (drop (2 * at next (rootOf x)) ls) x) × Standing ls x (at next (rootOf x))
-  chain-first = let n = d .first x below in (n .rest, ⊎-elim inl (λ k. inr (k .1)) (n .link))
+  -- the first end
+  pub chain-first : (neighbours ls x ≡ neighbours (drop (2 * (at next (rootOf x) / 2)) ls) x) × Standing ls x (at next (rootOf x))
+  chain-first = let n = d .first x below in (n .rest, ⊎-elim inl (λ k. inr (k .1)) (n .end))
 
-  -- from one link to the next
-  pub chain-next : {i : ℕ} → Incident ls x i
-      → (neighbours (drop (2 * i) ls) x ≡ across ls x i ∷ neighbours (drop (2 * at next (slotOf ls x i)) ls) x) × Standing ls x (at next (slotOf ls x i)) × (i < at next (slotOf ls x i))
-  chain-next {i} h =
-      let n = d .later x i below h in
-      (link-across ls x i h ∙ ap (λ (l : List ℕ). across ls x i ∷ l) (n .rest), ⊎-elim inl (λ k. inr (k .1)) (n .link), ⊎-elim (λ e. rw e (omega (arith, h .inside, d .long))) (λ k. omega (arith, k .0)) (n .link))
+  -- from one end to the next
+  pub chain-next : {e : ℕ} → EndOf ls x e
+      → (neighbours (drop (2 * (e / 2)) ls) x ≡ at ls (mate e) ∷ neighbours (drop (2 * (at next e / 2)) ls) x) × Standing ls x (at next e) × (e < at next e)
+  chain-next {e} h =
+      let n = d .later x e below h in
+      (link-across ls x e h ∙ ap (λ (l : List ℕ). at ls (mate e) ∷ l) (n .rest), ⊎-elim inl (λ k. inr (k .1)) (n .end), ⊎-elim (λ q. rw q (omega (arith, h .inside, d .long))) (λ k. omega (arith, k .0)) (n .end))
 
-  -- the end
-  pub chain-end : {i : ℕ} → i ≡ NONE → neighbours (drop (2 * i) ls) x ≡ []
-  chain-end {i} e = past ls (2 * i) x (omega (arith, d .long))
+  -- the end of the chain
+  pub chain-end : {e : ℕ} → e ≡ NONE → neighbours (drop (2 * (e / 2)) ls) x ≡ []
+  chain-end {e} q = past ls (2 * (e / 2)) x (omega (arith, d .long))
 
-  -- a chain that is not at its end
-  pub chain-there : {i : ℕ} → Standing ls x i → (i ≡ NONE → ⊥) → Incident ls x i
-  chain-there s n = ⊎-elim (λ e. absurd (n e)) (λ h. h) s
+  module _ {e : ℕ} (s : Standing ls x e) (more : e ≡ NONE → ⊥) where
+    -- a chain that is not at its end
+    pub chain-there : EndOf ls x e
+    chain-there = ⊎-elim (λ q. absurd (more q)) (λ h. h) s
+
+    -- .. stands at a place of the index, whose other end is a place of the links
+    pub chain-places : (mate e < length ls) × (e < length next)
+    chain-places = (⊎-elim (λ k. omega (arith, k .1, chain-there .inside)) (λ k. omega (arith, k .1, chain-there .inside)) (mates e), omega (arith, chain-there .inside, d .long, d .places))

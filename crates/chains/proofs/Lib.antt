@@ -1,2 +1,6 @@
 -- Laws of chains.
 pub mod Following
+pub mod Hanging
+pub mod BuiltIndex
+pub mod LinkMore
+pub mod Finding

@@ -1,41 +1,37 @@
 // The index of links: each gateway's links in order of arrival, as a chain.
+pub mod build;
+pub mod follow;
+
 ghost use mathlib.Core.Path.{_≡_};
-ghost use Prim.Native.Nat.{_+_, _*_, _<_, _≤_};
+ghost use Prim.Native.Nat.{_<_};
 ghost use lib.ListN.{length};
 ghost use Rattle.packing.specs.Plant.{GATEWAYS, at};
-ghost use Rattle.chains.specs.Index.{SLOTS, rootOf, slotOf, across};
+ghost use Rattle.chains.specs.Index.{SLOTS, rootOf, mate};
 
 // The places of an index: one for each end of a link, and one for each gateway.
 pub const SLOTS: usize = 17408;
 
-// The first link of x.
-pub fn first_link(next: &[u16], x: u16) -> u16
+// The place of x's first end.
+pub fn first_end(next: &[u16], x: u16) -> u16
     requires { ⌜ (length (now next) ≡ SLOTS) × (x < GATEWAYS) ⌝ }
     ensures { λ r. ⌜ r ≡ at (now (next .entry)) (rootOf x) ⌝ }
 {
     next[lists::ENDS + (x as usize)]
 }
 
-// The gateway that link i joins x with.
-pub fn across(links: &[u16], x: u16, i: u16) -> u16
-    requires { ⌜ 2 * i + 1 < length (now links) ⌝ }
-    ensures { λ r. ⌜ r ≡ across (now (links .entry)) x i ⌝ }
+// The gateway at the other end of the link that has an end at place e.
+pub fn across(links: &[u16], e: u16) -> u16
+    requires { ⌜ mate e < length (now links) ⌝ }
+    ensures { λ r. ⌜ r ≡ at (now (links .entry)) (mate e) ⌝ }
 {
-    let place = 2 * (i as usize);
-    if links[place] == x {
-        return links[place + 1];
-    }
-    links[place]
+    let place = e as usize;
+    links[place + 1 - 2 * (place % 2)]
 }
 
-// The next link of x after link i.
-pub fn next_link(links: &[u16], next: &[u16], x: u16, i: u16) -> u16
-    requires { ⌜ (2 * i + 1 < length (now links)) × (length (now links) ≤ length (now next)) ⌝ }
-    ensures { λ r. ⌜ r ≡ at (now (next .entry)) (slotOf (now (links .entry)) x i) ⌝ }
+// The place of the next end of the gateway at place e.
+pub fn next_end(next: &[u16], e: u16) -> u16
+    requires { ⌜ e < length (now next) ⌝ }
+    ensures { λ r. ⌜ r ≡ at (now (next .entry)) e ⌝ }
 {
-    let place = 2 * (i as usize);
-    if links[place] == x {
-        return next[place];
-    }
-    next[place + 1]
+    next[e as usize]
 }

@@ -1,5 +1,6 @@
-// Total functions on lists of numbers by gateway. What is past a list's end counts as 0, and what has no place is not written; none of them asks anything of its caller.
+// Functions on lists of numbers by gateway. What is past a list's end counts as 0, and what has no place is not written; those of module fill alone ask for room.
 pub mod counts;
+pub mod fill;
 pub mod marks;
 pub mod tests;
 

@@ -5,6 +5,7 @@ pub mod CallsInTurn
 pub mod ToldByFile
 pub mod After
 pub mod FileMoves
+pub mod Placings
 pub mod Asking
 pub mod FilePlan
 pub mod FileWays

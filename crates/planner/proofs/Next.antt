@@ -1,16 +1,19 @@
 -- What a sound record has for the calls that place its next gateway and read it.
-use Prim.Native.Nat.{ℕ, _≤_}
+use Prim.Native.Nat.{ℕ, _*_, _≤_}
 use mathlib.Core.Path.{_≡_, refl, sym, ap, _∙_}
 use mathlib.Core.Bool.{Bool, true, false, not}
 use mathlib.Core.List.{List}
 use native.Mathlib.Omega.{arith}
-use lib.ListN.{length}
+use lib.ListN.{length, take}
+use lib.Seq.{length-take-le}
 use borrow.Author.Tests.{le-ltb, not-false}
 use Rattle.packing.specs.Lists.{listOf, written}
-use Rattle.packing.specs.Plant.{GATEWAYS, NONE, at}
+use Rattle.packing.specs.Plant.{GATEWAYS, ENDS, NONE, at, firstLinks}
 use Rattle.packing.specs.Holders.{held}
 use Rattle.packing.specs.Moved.{moved}
 use Rattle.packing.proofs.Turns.{Says}
+use Rattle.chains.specs.Build.{Joining}
+use Rattle.chains.proofs.LinkMore.{joining-linked}
 use Rattle.search.specs.ChokeSet.{chokeByte, chokeWritten}
 use Rattle.search.specs.declared.Placed.{Placed}
 use Rattle.search.specs.Pre.{Placeable}
@@ -50,6 +53,11 @@ sound-says s sound = says-sound s .holds (sound-tested s sound)
 -- a record that passed the test of soundness
 pub checked : (n t m k : ℕ) (ls os hs ts : List ℕ) {v : Bool} → v ≡ isSound n t m k ls os hs ts → not v ≡ false → Sound n t m k ls os hs ts
 checked n t m k ls os hs ts {v} e f = sound-means n t m k ls os hs ts (sym e ∙ not-false v f)
+
+-- its links have an index
+pub sound-joining : {n t m k : ℕ} {ls os hs ts : List ℕ} → Sound n t m k ls os hs ts → (length (take (2 * m) ls) ≤ ENDS) × Joining (take (2 * m) ls)
+unfolding firstLinks
+sound-joining {n} {m = m} {ls = ls} sound = (omega (arith, length-take-le (2 * m) ls (sound .links-long), sound .few-links), joining-linked n (take (2 * m) ls) (sound .few) (sound .ends))
 
 -- one with no holder is not held
 pub none-unheld : (n : ℕ) (hs : List ℕ) (v : ℕ) → n ≤ GATEWAYS → at hs v ≡ NONE → held n (at hs) v ≡ false

@@ -1,11 +1,11 @@
 // The calls of 01 on a record, a second placing call (02, change 7) and a call that sets a gateway's limit (change 8): the small part as a struct that goes in by value and comes back beside the refusal number, and four lent lists.
-mod fill;
 pub mod members;
 mod refusals;
 
 use search::Placed;
 ghost use mathlib.Core.Path.{_≡_};
 ghost use Rattle.packing.specs.Plant.{at};
+ghost use Rattle.chains.specs.Index.{Index};
 ghost use Rattle.planner.specs.State.{stateOf};
 ghost use Rattle.planner.specs.Calls as calls;
 ghost use Rattle.planner.specs.Calls.{answerOf, openCall, call, placeAnswerOf, readLeaders, readChoke};
@@ -38,13 +38,22 @@ pub enum Way {
     Recursive,
 }
 
-// Places v by one of them.
-fn search_by(way: Way, n: u16, v: u16, limits: &[u8], links: &[u16], holders: &mut [u16]) -> Placed
+// Places v by one of them, with the index of the links.
+fn search_by(
+    way: Way,
+    n: u16,
+    v: u16,
+    limits: &[u8],
+    links: &[u16],
+    next: &[u16],
+    holders: &mut [u16],
+) -> Placed
+    requires { ⌜ Index (now links) (now next) ⌝ }
     ensures answer { λ r. ⌜ r ≡ answerBy way n (at (now (limits .entry))) (now (links .entry)) (now (holders .entry)) v ⌝ }
     ensures holders { λ _. ⌜ now (holders .exit) ≡ afterBy way n (at (now (limits .entry))) (now (links .entry)) (now (holders .entry)) v ⌝ }
 {
     match way {
-        Way::Queued => search::place(n, v, limits, links, holders),
+        Way::Queued => search::place(n, v, limits, links, next, holders),
         Way::Recursive => recursion::place(n, v, limits, links, holders),
     }
 }
@@ -76,9 +85,9 @@ impl Small {
                 },
             };
         }
-        fill::with_places(n as usize, order);
-        fill::with_none(n as usize, holders);
-        fill::with_byte(n as usize, t, limits);
+        lists::fill::with_places(n as usize, order);
+        lists::fill::with_none(n as usize, holders);
+        lists::fill::with_byte(n as usize, t, limits);
         Answer {
             refusal: 0,
             small: Small { n, t, m: 0, k: 0 },
@@ -151,7 +160,7 @@ impl Small {
                 small: self,
             };
         }
-        fill::with_list(numbers, order);
+        lists::fill::with_list(numbers, order);
         Answer {
             refusal: 0,
             small: self,
@@ -252,8 +261,17 @@ impl Small {
             };
         }
         let end = 2 * (m as usize);
+        let next = chains::build::index_of(&links[..end]);
         // It is done: the next of a sound record may be placed.
-        let placed = search_by(way, n, order[k as usize], limits, &links[..end], holders);
+        let placed = search_by(
+            way,
+            n,
+            order[k as usize],
+            limits,
+            &links[..end],
+            &next,
+            holders,
+        );
         PlaceAnswer {
             refusal: 0,
             small: Small { n, t, m, k: k + 1 },
@@ -294,7 +312,8 @@ impl Small {
         let end = 2 * (m as usize);
         // Both answers are true: the lengths were tested above.
         stars::leaders(n, order, holders, leaders);
-        search::choke::choke_set(n, &links[..end], holders, choke);
+        let next = chains::build::index_of(&links[..end]);
+        search::choke::choke_set(n, &links[..end], &next, holders, choke);
         Answer {
             refusal: 0,
             small: self,

@@ -67,7 +67,7 @@ pub record LinkAllowed (n : ℕ) (before : List ℕ) (a b : ℕ) : Type 0 where
   pub differ : a ≡ b → ⊥
   pub new : linked before a b ≡ false
 
-ends-allowed : (n : ℕ) (before : List ℕ) (a b : ℕ) → endsRefusal n before a b ≡ 0 → LinkAllowed n before a b
+pub ends-allowed : (n : ℕ) (before : List ℕ) (a b : ℕ) → endsRefusal n before a b ≡ 0 → LinkAllowed n before a b
 unfolding endsRefusal
 ends-allowed n before a b z =
     let outside = refuse-none (leb n a || leb n b) 3 _ (omega arith) z in

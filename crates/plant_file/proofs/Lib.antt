@@ -4,7 +4,6 @@ pub mod LinksByIndex
 pub mod Places
 pub mod Versions
 pub mod Encode
-pub mod LinkedBefore
 pub mod LinkChecks
 pub mod Filled
 pub mod Refusing
@@ -14,8 +13,10 @@ pub mod EveryPlant
 pub mod EveryLimits
 pub mod Largest
 pub mod ReadLimits
+pub mod FilledLimits
 pub mod Loading
 pub mod Accepted
+pub mod LinksTaken
 pub mod GatewayLimits
 pub mod Cut
 pub mod ReaderParts

@@ -1,4 +1,4 @@
--- The loop that checks each link against the links before it.
+-- The check of each link against the links before it, one link on.
 use Prim.Native.Nat.{ℕ, suc, _+_, _*_, _<_, _≤_}
 use mathlib.Core.Path.{_≡_, refl, sym, ap, _∙_}
 use mathlib.Core.List.{List, [], _∷_, _++_, append-assoc}
@@ -17,7 +17,6 @@ use Rattle.packing.proofs.Refusals.{first-refused, first-passed}
 use Rattle.plant_file.specs.Reader.{linkAt, nextIndex}
 use Rattle.plant_file.specs.Pre.{stepRefusal}
 use Rattle.plant_file.proofs.LinksByIndex.{links-long, index-on, step-at}
-use Rattle.plant_file.proofs.LinkedBefore.{earlier}
 
 -- two numbers more of a list
 take-pair : (l : List ℕ) (k : ℕ) → k + 1 < length l → take k l ++ (at l k ∷ at l (k + 1) ∷ []) ≡ take (k + 2) l
@@ -45,6 +44,10 @@ onward-at n l i h = rw (pair-at l (2 * i) h, take-pair l (2 * i) h, mul-add 2 i 
 -- .. and at its end
 pub onward-end : (n : ℕ) (l : List ℕ) (i : ℕ) → length l ≤ 2 * i + 1 → onward n l i ≡ 0
 onward-end n l i h = links-none n _ (drop (2 * i) l) (pair-end l (2 * i) h)
+
+-- the first i links
+abbrev pub earlier : List ℕ → ℕ → List ℕ
+earlier file i = take (2 * i) (fileLinks file)
 
 -- the links before link i are not refused
 pub record Checked (n : ℕ) (file : List ℕ) (i : ℕ) : Type 0 where

@@ -12,7 +12,7 @@ use Rattle.plant_file.specs.PlantFile.{number, fileN, fileM, fileLinks, 
 use Rattle.plant_file.specs.Reader.{linkAt, nextIndex}
 
 -- the numbers of the links, and those of the order, as the file has them
-abbrev pub linkNumber : List ℕ → ℕ → ℕ
+abbrev linkNumber : List ℕ → ℕ → ℕ
 linkNumber file i = number file (10 + 2 * i)
 
 abbrev pub orderNumber : List ℕ → ℕ → ℕ
@@ -61,11 +61,6 @@ module _ (file : List ℕ) (i : ℕ) where
   high = omega arith
 
   -- link i is the numbers at 2i and 2i + 1 of the list of links
-  pub step-is : i < fileM file → linkAt file i ≡ Link (linkNumber file (2 * i)) (linkNumber file (2 * i + 1))
-  unfolding linkAt
-  step-is l = rw (lt-ltb i (fileM file) l, low, high)
-
-  -- .. as the list has them
   pub link-first : i < fileM file → at (fileLinks file) (2 * i) ≡ number file (10 + 4 * i)
   unfolding fileLinks
   link-first l = listOf-at (2 * fileM file) (linkNumber file) (2 * i) (omega arith) ∙ rw low

@@ -1,4 +1,4 @@
--- What load gives, and what order writes.
+-- What load and load_indexed give, and what order writes.
 use Prim.Native.Nat.{ℕ, _*_, _<_, _≤_}
 use mathlib.Core.Path.{_≡_, sym, _∙_}
 use mathlib.Core.Bool.{Bool, true, false, _||_}
@@ -12,7 +12,9 @@ use Rattle.packing.proofs.Tests.{or-false-l, or-false-r}
 use Rattle.packing.proofs.Refusals.{refused, accepted}
 use Rattle.plant_file.specs.PlantFile.{fileN, fileM, fileLinks, fileOrder, fileLimits, fileRefusal, fileThenShort}
 use Rattle.plant_file.specs.Load.{loadRefusal, loadLinks, loadOrder, loadLimits, orderWritten}
-use Rattle.plant_file.proofs.Refusing.{then-none}
+use Rattle.plant_file.specs.Indexed.{Blank, LinksIndexed, Indexed}
+use Rattle.plant_file.specs.Pre.{headerRefusal, Unindexed, Orderly}
+use Rattle.plant_file.proofs.Refusing.{header-sizes, then-none}
 
 -- the answer by the numbers that the code reads
 pub load-number : (file : List ℕ) (ls os ts : ℕ) {m n e : ℕ} {few short : Bool} → m ≡ fileM file → n ≡ fileN file → few ≡ (ltb ls (2 * m) || ltb os n) → short ≡ (few || ltb ts n)
@@ -42,6 +44,21 @@ module _ (file links order limits : List ℕ) {e : ℕ} (of : e ≡ loadRefusal 
       × ((links' ≡ loadLinks file links order limits) × ((order' ≡ loadOrder file links order limits) × (limits' ≡ loadLimits file links order limits)))
   unfolding loadLinks loadOrder loadLimits
   load-accepted z p q r = (sym z ∙ of, (accepted _ _ of z p, (accepted _ _ of z q, accepted _ _ of z r)))
+
+-- A file checked once: what each part of the check asks for, and what it leaves.
+module _ (file : List ℕ) {links₀ next₀ order₀ limits₀ : List ℕ} (blank : Blank links₀ next₀ order₀ limits₀) {h : ℕ} (header : h ≡ headerRefusal file) (fine : h ≡ 0) where
+  pub load-unindexed : Unindexed file links₀ next₀
+  load-unindexed = let (few, links-few) = header-sizes file header fine in record { few = few; links-few = links-few; ends = blank .ends; empty = blank .empty }
+
+  pub load-orderly : Orderly file order₀
+  load-orderly = let few = header-sizes file header fine .0 in record { few = few; places = omega (arith, few, blank .gateways) }
+
+  pub load-limited : fileN file ≤ length limits₀
+  load-limited = omega (arith, header-sizes file header fine .0, blank .limited)
+
+pub load-whole : {file links₀ order₀ limits₀ links next order limits : List ℕ} → LinksIndexed file links₀ links next
+    → order ≡ written (fileN file) (fileOrder file) order₀ → limits ≡ written (fileN file) (fileLimits file) limits₀ → Indexed file links₀ order₀ limits₀ links next order limits
+load-whole l o t = record { ends = l .ends; index = l .index; ordered = o; limited = t }
 
 -- the order alone: nothing where there are fewer than n places, else its n numbers
 module _ (file out : List ℕ) where

@@ -55,14 +55,16 @@ module _ (file : List ℕ) {h : ℕ} (header : h ≡ headerRefusal file) where
       pub file-fine : a ≡ true → 0 ≡ fileRefusal file
       file-fine f = file-body fine (first-passed links clear (rw (sym (order-test (fileN file) (fileOrder file)), sym order ∙ once, sym limits ∙ f)))
 
--- no refusal of the header: n is in range
-pub header-few : (file : List ℕ) {h : ℕ} → h ≡ headerRefusal file → h ≡ 0 → fileN file ≤ GATEWAYS
+-- no refusal of the header: n and m are in range
+pub header-sizes : (file : List ℕ) {h : ℕ} → h ≡ headerRefusal file → h ≡ 0 → (fileN file ≤ GATEWAYS) × (fileM file ≤ LINKS)
 unfolding sizesRefusal headerRefusal
-header-few file e z =
+header-sizes file e z =
     let a = refuse-none (ltb (length file) 10) 9 _ (omega arith) (sym e ∙ z) in
     let b = refuse-none (not (beginsPLT file)) 7 _ (omega arith) (a .1) in
     let d = refuse-none (not (eqb (fileVersion file) 1 || eqb (fileVersion file) 2)) 8 _ (omega arith) (b .1) in
-    ltb-false GATEWAYS (fileN file) (refuse-none (ltb GATEWAYS (fileN file)) 1 _ (omega arith) (d .1) .0)
+    let n = refuse-none (ltb GATEWAYS (fileN file)) 1 _ (omega arith) (d .1) in
+    let t = refuse-none (ltb (fileT file) LOWEST || ltb HIGHEST (fileT file)) 2 _ (omega arith) (n .1) in
+    (ltb-false GATEWAYS (fileN file) (n .0), ltb-false LINKS (fileM file) (refuse-none (ltb LINKS (fileM file)) 12 _ (omega arith) (t .1) .0))
 
 -- the file's number, then 10
 module _ (file : List ℕ) (short : Bool) where

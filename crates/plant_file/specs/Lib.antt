@@ -6,6 +6,7 @@ pub mod Limits
 pub mod Encode
 pub mod Reader
 pub mod Load
+pub mod Indexed
 pub mod Turns
 pub mod VersionOne
 pub mod EveryPlant

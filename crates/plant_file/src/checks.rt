@@ -1,20 +1,13 @@
-// The refusals of a file, in 01's turn; 0 where no condition holds.
-use crate::reader::Step;
+// The refusals of a file's header and length, in 01's turn; 0 where no condition holds.
 use lists::byte;
 use lists::tests::either;
-use sound::links::is_linked;
 ghost use mathlib.Core.Path.{_≡_};
 ghost use mathlib.Core.Bool.{_||_};
-ghost use mathlib.Core.List.{[]};
-ghost use Prim.Native.Nat.{_*_, _≤_};
 ghost use lib.Dec.{eqb};
-ghost use lib.ListN.{take, length};
-ghost use Rattle.packing.specs.Plant.{GATEWAYS, linked};
-ghost use Rattle.sound.specs.Sound.{onceEach};
-ghost use Rattle.plant_file.specs.PlantFile.{fileN, fileM, fileLinks, fileOrder, fileLength, beginsPLT, linksRefusal};
+ghost use lib.ListN.{length};
+ghost use Rattle.plant_file.specs.PlantFile.{fileLength, beginsPLT};
 ghost use Rattle.plant_file.specs.Load.{loadRefusal};
-ghost use Rattle.plant_file.specs.Reader.{linkAt};
-ghost use Rattle.plant_file.specs.Pre.{endsOf, stepRefusal, sizesRefusal, headerRefusal};
+ghost use Rattle.plant_file.specs.Pre.{sizesRefusal, headerRefusal};
 
 fn begins_plt(file: &[u8]) -> bool
     ensures { λ r. ⌜ r ≡ beginsPLT (now (file .entry)) ⌝ }
@@ -83,84 +76,6 @@ pub(crate) fn of_header(file: &[u8]) -> u32
         return 8;
     }
     of_sizes(file)
-}
-
-// Whether the link at an index joins a and b.
-fn joins_at(file: &[u8], j: usize, a: u16, b: u16) -> bool
-    ensures { λ r. ⌜ r ≡ linked (endsOf (linkAt (now (file .entry)) j)) a b ⌝ }
-{
-    let Step::Link(x, y) = crate::reader::link_of(file, j) else {
-        return false;
-    };
-    let ends = [x, y];
-    is_linked(&ends, a, b)
-}
-
-// Whether one of the first i links joins a and b.
-fn linked_before(file: &[u8], i: usize, a: u16, b: u16) -> bool
-    requires { ⌜ i ≤ fileM (now file) ⌝ }
-    ensures { λ r. ⌜ r ≡ linked (take (2 * i) (fileLinks (now (file .entry)))) a b ⌝ }
-{
-    let mut j: usize = 0;
-    while j < i {
-        if joins_at(file, j, a, b) {
-            return true;
-        }
-        j = crate::reader::index_after(file, j);
-    }
-    false
-}
-
-// The link at an index against the links before it: 3, 4, 20.
-fn of_link(file: &[u8], n: u16, i: usize) -> u32
-    requires { ⌜ i ≤ fileM (now file) ⌝ }
-    ensures { λ r. ⌜ r ≡ stepRefusal n (take (2 * i) (fileLinks (now (file .entry)))) (linkAt (now (file .entry)) i) ⌝ }
-{
-    let Step::Link(a, b) = crate::reader::link_of(file, i) else {
-        return 0;
-    };
-    if n <= a {
-        return 3;
-    }
-    if n <= b {
-        return 3;
-    }
-    if a == b {
-        return 4;
-    }
-    if linked_before(file, i, a, b) {
-        return 20;
-    }
-    0
-}
-
-// The first refused link's number.
-pub(crate) fn of_links(file: &[u8]) -> u32
-    ensures { λ r. ⌜ r ≡ linksRefusal (fileN (now (file .entry))) [] (fileLinks (now (file .entry))) ⌝ }
-{
-    let n = crate::gateways(file);
-    let m = crate::link_count(file) as usize;
-    let mut i: usize = 0;
-    while i < m {
-        let refusal = of_link(file, n, i);
-        if refusal != 0 {
-            return refusal;
-        }
-        i = crate::reader::index_after(file, i);
-    }
-    0
-}
-
-// Whether the order holds 0 to n - 1 once each.
-pub(crate) fn is_order(file: &[u8]) -> bool
-    requires { ⌜ fileN (now file) ≤ GATEWAYS ⌝ }
-    ensures { λ r. ⌜ r ≡ onceEach (fileN (now (file .entry))) (fileOrder (now (file .entry))) ⌝ }
-{
-    let n = crate::gateways(file);
-    let end = n as usize;
-    let mut numbers = [0u16; lists::PLACES];
-    crate::fill::with_order(file, &mut numbers);
-    sound::is_order(n, &numbers[..end])
 }
 
 // The file's number, then 10 for a lent list too short.

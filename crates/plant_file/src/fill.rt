@@ -1,12 +1,17 @@
 // Writes what a file says into the front of a lent list, and nothing past it.
+use crate::limits::effective;
+use crate::limits::is_allowed;
 use crate::reader::Step;
+use lists::byte;
+use lists::tests::both;
 ghost use mathlib.Core.Path.{_≡_};
 ghost use Prim.Native.Nat.{_+_, _*_, _<_, _≤_};
 ghost use lib.ListN.{length};
-ghost use Rattle.packing.specs.Lists.{written};
-ghost use Rattle.plant_file.specs.PlantFile.{fileN, fileM, fileLinks, fileOrder, fileLimits};
+ghost use Rattle.packing.specs.Count.{all};
+ghost use Rattle.packing.specs.Lists.{listOf, written};
+ghost use Rattle.plant_file.specs.PlantFile.{fileN, fileM, fileLinks, fileOrder, fileLimits, limitByte, limitAllowed, limitsAllowed};
 ghost use Rattle.plant_file.specs.Reader.{linkAt};
-ghost use Rattle.plant_file.specs.Pre.{withEnds};
+ghost use Rattle.plant_file.specs.Pre.{withEnds, pairLimits};
 
 // The two ends of the link at an index, at its two places.
 fn with_link(file: &[u8], i: usize, links: &mut [u16])
@@ -48,15 +53,48 @@ pub(crate) fn with_order(file: &[u8], order: &mut [u16])
     }
 }
 
-// The gateways' limits.
-pub(crate) fn with_limits(file: &[u8], limits: &mut [u8])
-    requires { ⌜ fileN (now file) ≤ length (now limits) ⌝ }
-    ensures { λ _. ⌜ now (limits .exit) ≡ written (fileN (now (file .entry))) (fileLimits (now (file .entry))) (now (limits .entry)) ⌝ }
+// The same limit for each gateway.
+fn with_limit(n: u16, t: u8, limits: &mut [u8])
+    requires { ⌜ n ≤ length (now limits) ⌝ }
+    ensures { λ _. ⌜ now (limits .exit) ≡ written n (listOf n (λ v. t)) (now (limits .entry)) ⌝ }
 {
-    let n = crate::gateways(file);
-    let mut v: u16 = 0;
-    while v < n {
-        limits[v as usize] = crate::limits::limit_of(file, v);
+    let end = n as usize;
+    let mut v: usize = 0;
+    while v < end {
+        limits[v] = t;
         v += 1;
     }
+}
+
+// The limits of version 2, by the pairs of bytes behind the order; and whether each limit byte is allowed.
+fn with_pairs(file: &[u8], limits: &mut [u8]) -> bool
+    requires { ⌜ fileN (now file) ≤ length (now limits) ⌝ }
+    ensures answer { λ r. ⌜ r ≡ all (fileN (now (file .entry))) (λ v. limitAllowed (limitByte (now (file .entry)) v)) ⌝ }
+    ensures limits { λ _. ⌜ now (limits .exit) ≡ written (fileN (now (file .entry))) (pairLimits (now (file .entry))) (now (limits .entry)) ⌝ }
+{
+    let t = crate::limit(file);
+    let n = crate::gateways(file) as usize;
+    let pairs = 10 + 4 * (crate::link_count(file) as usize) + 2 * n;
+    let mut ok = true;
+    let mut v: usize = 0;
+    while v < n {
+        let limit = byte(file, pairs + 2 * v + 1);
+        limits[v] = effective(t, byte(file, pairs + 2 * v), limit);
+        ok = both(ok, is_allowed(limit));
+        v += 1;
+    }
+    ok
+}
+
+// The gateways' limits, and whether each limit byte is allowed: version 1 has none.
+pub(crate) fn with_limits(file: &[u8], limits: &mut [u8]) -> bool
+    requires { ⌜ fileN (now file) ≤ length (now limits) ⌝ }
+    ensures answer { λ r. ⌜ r ≡ limitsAllowed (now (file .entry)) ⌝ }
+    ensures limits { λ _. ⌜ now (limits .exit) ≡ written (fileN (now (file .entry))) (fileLimits (now (file .entry))) (now (limits .entry)) ⌝ }
+{
+    if crate::version(file) == 2 {
+        return with_pairs(file, limits);
+    }
+    with_limit(crate::gateways(file), crate::limit(file), limits);
+    true
 }

@@ -2,6 +2,7 @@
 pub mod bytes;
 mod checks;
 mod fill;
+mod indexed;
 pub mod limits;
 pub mod reader;
 
@@ -9,6 +10,7 @@ ghost use mathlib.Core.Path.{_≡_};
 ghost use lib.Dec.{leb};
 ghost use lib.ListN.{length};
 ghost use Rattle.plant_file.specs.PlantFile.{fileVersion, fileN, fileT, fileM, fileRefusal, fileThenShort};
+ghost use Rattle.plant_file.specs.Indexed.{Blank, Indexed};
 ghost use Rattle.plant_file.specs.Load.{loadRefusal, loadLinks, loadOrder, loadLimits, orderWritten};
 
 // The version, n, T and m as the header's bytes give them. A byte past the end counts as 0.
@@ -36,25 +38,44 @@ pub fn link_count(file: &[u8]) -> u16
     bytes::number_at(file, 8)
 }
 
-// The first refusal of any bytes, or 0.
-pub fn refusal(file: &[u8]) -> u32
-    ensures { λ r. ⌜ r ≡ fileRefusal (now (file .entry)) ⌝ }
+// Checks the whole of any bytes, and leaves the file's links, the index of them, its order and its limits in lists. The first refusal, or 0; on refusal nothing is said of the lists.
+pub fn load_indexed(
+    file: &[u8],
+    links: &mut [u16],
+    next: &mut [u16],
+    order: &mut [u16],
+    limits: &mut [u8],
+) -> u32
+    requires { ⌜ Blank (now links) (now next) (now order) (now limits) ⌝ }
+    ensures answer { λ r. ⌜ r ≡ fileRefusal (now (file .entry)) ⌝ }
+    ensures lists { λ r. ⌜ (r ≡ 0 → Indexed (now (file .entry)) (now (links .entry)) (now (order .entry)) (now (limits .entry)) (now (links .exit)) (now (next .exit)) (now (order .exit)) (now (limits .exit))) ⌝ }
 {
     let header = checks::of_header(file);
     if header != 0 {
         return header;
     }
-    let links = checks::of_links(file);
-    if links != 0 {
-        return links;
+    let refused = indexed::take_links(file, links, next);
+    if refused != 0 {
+        return refused;
     }
-    if !checks::is_order(file) {
+    if !indexed::take_order(file, order) {
         return 6;
     }
-    if !limits::are_allowed(file) {
+    if !fill::with_limits(file, limits) {
         return 33;
     }
     0
+}
+
+// The first refusal of any bytes, or 0.
+pub fn refusal(file: &[u8]) -> u32
+    ensures { λ r. ⌜ r ≡ fileRefusal (now (file .entry)) ⌝ }
+{
+    let mut links = lists::marks::ends();
+    let mut next = chains::build::empty_index();
+    let mut order = lists::marks::zeros();
+    let mut limits = lists::marks::bytes(0);
+    load_indexed(file, &mut links, &mut next, &mut order, &mut limits)
 }
 
 // The file's number, then 10: short says that a lent list is too short.

@@ -1,11 +1,9 @@
 // The limit of each gateway (02, change 8): in version 1 it is T for all, in version 2 it goes by the pairs of bytes behind the order, kind and limit.
 use lists::byte;
-use lists::tests::both;
 ghost use mathlib.Core.Path.{_≡_};
 ghost use Prim.Native.Nat.{_+_, _*_};
-ghost use Rattle.packing.specs.Count.{all};
 ghost use Rattle.packing.specs.Plant.{at};
-ghost use Rattle.plant_file.specs.PlantFile.{fileN, fileM, kindByte, limitByte, limitOfKind, effectiveLimit, fileLimit, limitAllowed, limitsAllowed};
+ghost use Rattle.plant_file.specs.PlantFile.{fileN, fileM, kindByte, limitByte, limitOfKind, effectiveLimit, fileLimit, limitAllowed};
 
 // The limit that a kind takes.
 fn of_kind(t: u8, kind: u8) -> u8
@@ -21,7 +19,7 @@ fn of_kind(t: u8, kind: u8) -> u8
 }
 
 // A pair's limit: as written, or by kind where 0 is written.
-fn effective(t: u8, kind: u8, limit: u8) -> u8
+pub(crate) fn effective(t: u8, kind: u8, limit: u8) -> u8
     ensures { λ r. ⌜ r ≡ effectiveLimit t kind limit ⌝ }
 {
     if limit == 0 {
@@ -63,35 +61,11 @@ pub fn limit_of(file: &[u8], v: u16) -> u8
 }
 
 // Whether a limit byte is neither 1 nor above 16.
-fn is_allowed(limit: u8) -> bool
+pub(crate) fn is_allowed(limit: u8) -> bool
     ensures { λ r. ⌜ r ≡ limitAllowed limit ⌝ }
 {
     if limit == 1 {
         return false;
     }
     limit <= lists::HIGHEST
-}
-
-// Whether the limit byte of each gateway is neither 1 nor above 16.
-fn each_allowed(file: &[u8]) -> bool
-    ensures { λ r. ⌜ r ≡ all (fileN (now (file .entry))) (λ v. limitAllowed (limitByte (now (file .entry)) v)) ⌝ }
-{
-    let n = crate::gateways(file);
-    let mut ok = true;
-    let mut v: u16 = 0;
-    while v < n {
-        ok = both(ok, is_allowed(limit_byte(file, v)));
-        v += 1;
-    }
-    ok
-}
-
-// The same of a file: one of version 1 has no limit bytes.
-pub(crate) fn are_allowed(file: &[u8]) -> bool
-    ensures { λ r. ⌜ r ≡ limitsAllowed (now (file .entry)) ⌝ }
-{
-    if crate::version(file) != 2 {
-        return true;
-    }
-    each_allowed(file)
 }

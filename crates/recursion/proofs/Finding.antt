@@ -1,5 +1,5 @@
 -- The loop over v's links, along its chain: each call in it is the next of the model's, and what is left of the model gives what the whole gives.
-use Prim.Native.Nat.{ℕ, suc, _+_, _-_, _*_, _<_, _≤_}
+use Prim.Native.Nat.{ℕ, suc, _+_, _-_, _*_, _/_, _<_, _≤_}
 use mathlib.Core.Path.{_≡_, refl, sym, ap, _∙_}
 use mathlib.Core.Bool.{Bool, true, false, not}
 use mathlib.Core.List.{List}
@@ -14,8 +14,8 @@ use Rattle.packing.specs.Moved.{moved}
 use Rattle.packing.proofs.Tests.{by-bool, iff-test, not-i, not-i-false}
 use Rattle.packing.proofs.Sums.{count-ext}
 use Rattle.packing.proofs.Moved.{moved-one}
-use Rattle.chains.specs.Index.{rootOf, slotOf, across, Incident}
-use Rattle.chains.proofs.Following.{Standing, chain-first, chain-next, chain-end, chain-there}
+use Rattle.chains.specs.Index.{rootOf, mate, EndOf}
+use Rattle.chains.proofs.Following.{Standing, chain-first, chain-next, chain-end, chain-there, chain-places}
 use Rattle.search.specs.Pre.{TableOf}
 use Rattle.search.specs.RowPre.{Taken}
 use Rattle.search.proofs.States.{seen-kept}
@@ -32,16 +32,16 @@ moved-back : (n : ℕ) (h h' : ℕ → ℕ) → moved n h h' ≡ moved n h' h
 unfolding moved
 moved-back n h h' = count-ext n (λ w. not (eqb (h w) (h' w))) (λ w. not (eqb (h' w) (h w))) (λ w l. ap not (iff-test (eqb (h w) (h' w)) (eqb (h' w) (h w)) (λ e. eq-eqb (h' w) (h w) (sym (eqb-true (h w) (h' w) e))) (λ e. eq-eqb (h w) (h' w) (sym (eqb-true (h' w) (h w) e)))))
 
--- the loop over v's links, before link i
-pub record Finding (n : ℕ) (limit : ℕ → ℕ) (ls : List ℕ) (v : ℕ) (rows₀ : List (List ℕ)) (hs₀ marks₀ : List ℕ) (rows : List (List ℕ)) (hs marks : List ℕ) (i : ℕ) : Type 0 where
-  pub standing : Standing ls v i
+-- the loop over v's links, before the link with v's end at place e
+pub record Finding (n : ℕ) (limit : ℕ → ℕ) (ls : List ℕ) (v : ℕ) (rows₀ : List (List ℕ)) (hs₀ marks₀ : List ℕ) (rows : List (List ℕ)) (hs marks : List ℕ) (e : ℕ) : Type 0 where
+  pub standing : Standing ls v e
   pub long : length marks ≡ n
   pub unchanged : hs ≡ hs₀
   pub same : rows ≡ rows₀
   pub own : tried marks (at hs₀ v) ≡ true
   pub fewer : untried marks ≤ untried marks₀
   pub rest : (calls : ℕ) → 2 * untried marks₀ ≤ calls
-      → tryEach (unlessTried (λ u now. takes v u (freePlace calls n limit ls hs₀ u now))) (neighbours (drop (2 * i) ls) v) marks ≡ findHolder (suc calls) n limit ls hs₀ v marks₀
+      → tryEach (unlessTried (λ u now. takes v u (freePlace calls n limit ls hs₀ u now))) (neighbours (drop (2 * (e / 2)) ls) v) marks ≡ findHolder (suc calls) n limit ls hs₀ v marks₀
 
 module _
     (n : ℕ) (limit : ℕ → ℕ) (ls next : List ℕ) (v : ℕ) (rows₀ : List (List ℕ)) (hs₀ marks₀ : List ℕ) (size : length marks₀ ≡ n)
@@ -65,57 +65,57 @@ module _
     below : v < GATEWAYS
     below = working-below w .1
 
-    pub finding-start : {i : ℕ} → i ≡ at next (rootOf v) → Finding n limit ls v rows₀ hs₀ marks₀ rows₀ hs₀ marks₀ i
+    pub finding-start : {e : ℕ} → e ≡ at next (rootOf v) → Finding n limit ls v rows₀ hs₀ marks₀ rows₀ hs₀ marks₀ e
     unfolding findHolder
-    finding-start e =
+    finding-start q =
         let (same, standing) = chain-first (w .index) below in
-        record { standing = rw e standing; long = size; unchanged = refl; same = refl; own = w .own; fewer = omega arith; rest = λ calls l. rw (e, ← same) }
+        record { standing = rw q standing; long = size; unchanged = refl; same = refl; own = w .own; fewer = omega arith; rest = λ calls l. rw (q, ← same) }
 
-    module _ {rows : List (List ℕ)} {hs marks : List ℕ} {i : ℕ} (f : Finding n limit ls v rows₀ hs₀ marks₀ rows hs marks i) where
-      pub finding-out : i ≡ NONE → FoundBy n limit ls v hs₀ marks₀ 0 hs marks × FoundRows n limit v hs₀ 0 hs rows₀ rows
+    module _ {rows : List (List ℕ)} {hs marks : List ℕ} {e : ℕ} (f : Finding n limit ls v rows₀ hs₀ marks₀ rows hs marks e) where
+      pub finding-out : e ≡ NONE → FoundBy n limit ls v hs₀ marks₀ 0 hs marks × FoundRows n limit v hs₀ 0 hs rows₀ rows
       unfolding whole tryEach
-      finding-out e = (
+      finding-out q = (
         record {
-          is = one-more whole (2 * untried marks₀) (λ calls l. rw (chain-end (w .index) below e) at (f .rest calls l));
-          unchanged = λ q. f .unchanged;
+          is = one-more whole (2 * untried marks₀) (λ calls l. rw (chain-end (w .index) below q) at (f .rest calls l));
+          unchanged = λ z. f .unchanged;
           fewer = f .fewer;
           counted = λ some. absurd (some refl);
         },
-        record { unchanged = λ q. f .same; kept = λ fit. rw (f .same, f .unchanged) (table .is) },
+        record { unchanged = λ z. f .same; kept = λ fit. rw (f .same, f .unchanged) (table .is) },
       )
 
-      -- a chain that is not at its end is at a link of v
-      module _ (some : i ≡ NONE → ⊥) where
-        finding-there : Incident ls v i
+      -- a chain that is not at its end is at an end of v
+      module _ (some : e ≡ NONE → ⊥) where
+        finding-there : EndOf ls v e
         finding-there = chain-there (w .index) below (f .standing) some
 
-        pub finding-links : (2 * i + 1 < length ls) × (length ls ≤ length next)
-        finding-links = (finding-there .inside, omega (arith, w .index .long, w .index .places))
+        pub finding-places : (mate e < length ls) × (e < length next)
+        finding-places = chain-places (w .index) below (f .standing) some
 
-        module _ {i' : ℕ} (later : i' ≡ at next (slotOf ls v i)) where
+        module _ {e' : ℕ} (later : e' ≡ at next e) where
           -- fewer links are left
-          pub finding-on : NONE - i' < NONE - i
-          finding-on = let on : i < i' = rw later (chain-next (w .index) below finding-there .2) in omega (arith, finding-there .inside, w .index .long)
+          pub finding-on : NONE - e' < NONE - e
+          finding-on = let on : e < e' = rw later (chain-next (w .index) below finding-there .2) in omega (arith, finding-there .inside, w .index .long)
 
           -- what is known with the marks then, before the next link
           turn : {rows' : List (List ℕ)} {hs' marks' : List ℕ} → length marks' ≡ n → hs' ≡ hs₀ → rows' ≡ rows₀ → tried marks' (at hs₀ v) ≡ true → untried marks' ≤ untried marks₀
               → ((calls : ℕ) → 2 * untried marks₀ ≤ calls
-              → tryEach (unlessTried (λ u now. takes v u (freePlace calls n limit ls hs₀ u now))) (neighbours (drop (2 * at next (slotOf ls v i)) ls) v) marks' ≡ findHolder (suc calls) n limit ls hs₀ v marks₀)
-              → Finding n limit ls v rows₀ hs₀ marks₀ rows' hs' marks' i'
+              → tryEach (unlessTried (λ u now. takes v u (freePlace calls n limit ls hs₀ u now))) (neighbours (drop (2 * (at next e / 2)) ls) v) marks' ≡ findHolder (suc calls) n limit ls hs₀ v marks₀)
+              → Finding n limit ls v rows₀ hs₀ marks₀ rows' hs' marks' e'
           turn long unchanged same own fewer rest =
               record { standing = rw later (chain-next (w .index) below finding-there .1); long = long; unchanged = unchanged; same = same; own = own; fewer = fewer; rest = λ calls q. rw later (rest calls q) }
 
-        module _ {u : ℕ} (e : u ≡ across ls v i) {k : ℕ} (is : k ≡ at marks u) where
+        module _ {u : ℕ} (its : u ≡ at ls (mate e)) {k : ℕ} (is : k ≡ at marks u) where
           -- the model's next is u
           step : (calls : ℕ) → 2 * untried marks₀ ≤ calls
               → orElse (unlessTried (λ y now. takes v y (freePlace calls n limit ls hs₀ y now)) u marks)
-              (tryEach (unlessTried (λ y now. takes v y (freePlace calls n limit ls hs₀ y now))) (neighbours (drop (2 * at next (slotOf ls v i)) ls) v))
+              (tryEach (unlessTried (λ y now. takes v y (freePlace calls n limit ls hs₀ y now))) (neighbours (drop (2 * (at next e / 2)) ls) v))
               ≡ findHolder (suc calls) n limit ls hs₀ v marks₀
           unfolding tryEach
-          step calls q = rw (chain-next (w .index) below finding-there .0, ← e) at (f .rest calls q)
+          step calls q = rw (chain-next (w .index) below finding-there .0, ← its) at (f .rest calls q)
 
           -- it was tried before
-          pub finding-passed : {i' : ℕ} → i' ≡ at next (slotOf ls v i) → (k ≡ NONE → ⊥) → Finding n limit ls v rows₀ hs₀ marks₀ rows hs marks i'
+          pub finding-passed : {e' : ℕ} → e' ≡ at next e → (k ≡ NONE → ⊥) → Finding n limit ls v rows₀ hs₀ marks₀ rows hs marks e'
           finding-passed later mark' =
               let was : tried marks u ≡ true = not-i _ (ne-eqb (at marks u) NONE (λ q. mark' (is ∙ q))) in
               turn later (f .long) (f .unchanged) (f .same) (f .own) (f .fewer) (λ calls q. rw was at (step calls q))
@@ -156,7 +156,7 @@ module _
               called calls q = promise .is calls (omega (arith, untried-falls marks u was, f .fewer))
 
               -- no place was freed there
-              pub finding-next : {rows' : List (List ℕ)} → FreedRows (length now) limit j hs' rows rows' → j ≡ 0 → length marks' ≡ length now → {i' : ℕ} → i' ≡ at next (slotOf ls v i) → Finding n limit ls v rows₀ hs₀ marks₀ rows' hs' marks' i'
+              pub finding-next : {rows' : List (List ℕ)} → FreedRows (length now) limit j hs' rows rows' → j ≡ 0 → length marks' ≡ length now → {e' : ℕ} → e' ≡ at next e → Finding n limit ls v rows₀ hs₀ marks₀ rows' hs' marks' e'
               finding-next r zero' long later =
                   let grown = free-grown n limit ls hs₀ room (rw length-set (f .long)) u u-below (marked marks u was) promise zero' in
                   turn later (long ∙ now-long) (promise .unchanged zero') (r .unchanged zero' ∙ f .same) (grown .stay (at hs₀ v) (seen-kept marks u 0 (at hs₀ v) was (f .own)))

@@ -27,9 +27,9 @@ fn find_holder(
     ensures ends { λ r. ⌜ Ends r (now (holders .entry)) (now (holders .exit)) (now (tried .entry)) (now (tried .exit)) (λ calls. findHolder calls (length (now (tried .entry))) (at (now (limits .entry))) (now (links .entry)) (now (holders .entry)) v (now (tried .entry))) (2 * untried (now (tried .entry)) + 1) (moved (length (now (tried .entry))) (at (now (holders .entry))) (at (now (holders .exit)))) ⌝ }
     ensures rows { λ r. ⌜ RowsEnd r (length (now (tried .entry))) (now (holders .exit)) (now (rows .entry)) (now (rows .exit)) (Fits (length (now (tried .entry))) (at (now (limits .entry))) (now (holders .entry)) v) ⌝ }
 {
-    let mut i = chains::first_link(next, v);
-    while i != lists::NONE {
-        let u = chains::across(links, v, i);
+    let mut e = chains::first_end(next, v);
+    while e != lists::NONE {
+        let u = chains::across(links, e);
         if lists::entry(tried, u) == lists::NONE {
             lists::put(tried, u, 0);
             let k = free_place(u, limits, links, next, rows, holders, tried);
@@ -38,7 +38,7 @@ fn find_holder(
                 return k;
             }
         }
-        i = chains::next_link(links, next, v, i);
+        e = chains::next_end(next, e);
     }
     0
 }

@@ -38,3 +38,14 @@ pub mod ChokeLaws
 pub mod FromOne
 pub mod ReachedTests
 pub mod ChokeExamples
+-- Laws of dead gateways: lists with some left out, the looks and the search past the dead beside 01's, its shift, what it leaves where it ran out, placing, and the choke set.
+pub mod Without
+pub mod DeadLooks
+pub mod DeadWalk
+pub mod Dead
+pub mod DeadShift
+pub mod DeadKept
+pub mod DeadOut
+pub mod DeadPlacing
+pub mod DeadChoke
+pub mod DeadStep

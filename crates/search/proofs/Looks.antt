@@ -1,25 +1,25 @@
 -- Looks from a gateway: the three ways of one by the table, and the loop over the gateway's links.
-use Prim.Native.Nat.{ℕ, _+_, _<_, _≤_}
+use Prim.Native.Nat.{ℕ, _-_, _*_, _/_, _<_, _≤_}
 use mathlib.Core.Path.{_≡_, refl, sym, ap, _∙_}
-use mathlib.Core.Bool.{Bool, true, false, cond}
-use mathlib.Core.List.{List, [], _∷_}
+use mathlib.Core.Bool.{Bool, true, false}
+use mathlib.Core.List.{List, _∷_}
 use native.Mathlib.Omega.{arith}
-use lib.Dec.{eqb}
 use lib.ListN.{length, set, take, drop}
 use lib.Seq.{length-take-le}
 use borrow.Author.Tests.{eq-eqb, ne-eqb, ltb-true, ltb-false}
 use Rattle.packing.specs.Plant.{NONE, GATEWAYS, at, neighbours}
 use Rattle.packing.specs.Holders.{holds}
-use Rattle.packing.proofs.Tests.{by-bool, not-i, not-i-false}
-use Rattle.packing.proofs.Flat.{pair-at, pair-end}
-use Rattle.search.specs.Search.{Search, found, more, seen, look, visit}
+use Rattle.packing.proofs.Tests.{not-i, not-i-false}
+use Rattle.chains.specs.Index.{rootOf, mate, Index}
+use Rattle.chains.proofs.Following.{Standing, chain-first, chain-next, chain-end, chain-there, chain-places}
+use Rattle.search.specs.Search.{found, more, seen, look, visit}
 use Rattle.search.specs.declared.Walked.{Walked}
 use Rattle.search.specs.declared.Walked.the-variants.{Found, RanOut}
 use Rattle.search.specs.Table.{rowAt}
 use Rattle.search.specs.Pre.{TableOf, ForSome, ForEach, Is, Ready, rowHasPlace, Joinable, Joined}
 use Rattle.search.proofs.Queue.{heldBy-length}
 use Rattle.search.proofs.Rows.{table-holds, table-place}
-use Rattle.search.proofs.States.{unseen-below, none-seen, look-seen, look-free, look-full, look-going, going-room, visit-found}
+use Rattle.search.proofs.States.{unseen-below, look-seen, look-free, look-full, look-going, going-room, visit-found}
 use Rattle.search.proofs.Results.{found-state, more-state, more-within, found-is, more-is, some-then}
 
 -- The three ways of a look. The lent list of marks is from' once u is marked, k is u's entry, t is u's limit, and b says whether its row has a place.
@@ -57,86 +57,97 @@ module _
           let full : t ≤ holds n (at hs) u = ltb-false _ _ (sym (table-place h (r .going .few) look-below t) ∙ sym place ∙ taken) in
           more-is (look-full n limit hs x u (take tail queue) from unseen (omega arith) ∙ rw (j .state, mark, table-holds h (r .going .few) look-below)) (j .within)
 
--- one link: a look at its other end, where NONE stands for a link that x is no end of
-link-visit : (n : ℕ) (limit : ℕ → ℕ) (hs : List ℕ) (x a b : ℕ) (rest queue from : List ℕ) {u : ℕ} → length from ≤ GATEWAYS → u ≡ cond (eqb a x) b (cond (eqb b x) a NONE)
-    → visit n limit hs x (neighbours (a ∷ b ∷ rest) x) (more queue from) ≡ visit n limit hs x (neighbours rest x) (look n limit hs x u queue from)
-unfolding visit neighbours
-link-visit n limit hs x a b rest queue from long e =
-    by-bool (eqb a x) (λ p. rw (e, p))
-    (λ p. by-bool (eqb b x) (λ q. rw (e, p, q)) (λ q. rw (e, p, q) (ap (visit n limit hs x (neighbours rest x)) (sym (look-seen n limit hs x NONE queue from (none-seen from long))))))
-
-visit-short : (n : ℕ) (limit : ℕ → ℕ) (hs : List ℕ) (x : ℕ) (ls : List ℕ) (s : Search) → length ls ≤ 1 → visit n limit hs x (neighbours ls x) s ≡ s
-unfolding visit neighbours
-visit-short n limit hs x [] s h = refl
-visit-short n limit hs x (a ∷ []) s h = refl
-visit-short n limit hs x (a ∷ b ∷ ls) s h = absurd (omega arith)
-
--- with the holders hs, what the links from i on give is what all give
-pub record Visited (n : ℕ) (limit : ℕ → ℕ) (x : ℕ) (ls hs queue₀ : List ℕ) (tail : ℕ) (from₀ queue from : List ℕ) (end i : ℕ) : Type 0 where
+-- with the holders hs, what the links from that of the end at place e on give is what all give
+pub record Visited (n : ℕ) (limit : ℕ → ℕ) (x : ℕ) (ls hs queue₀ : List ℕ) (tail : ℕ) (from₀ queue from : List ℕ) (end e : ℕ) : Type 0 where
   pub ready : Ready n x hs queue end from
-  pub rest : visit n limit hs x (neighbours (drop i ls) x) (more (take end queue) from) ≡ visit n limit hs x (neighbours ls x) (more (take tail queue₀) from₀)
+  pub rest : visit n limit hs x (neighbours (drop (2 * (e / 2)) ls) x) (more (take end queue) from) ≡ visit n limit hs x (neighbours ls x) (more (take tail queue₀) from₀)
 
 -- .. and so with all that the table is of
-pub record Visiting (limit : ℕ → ℕ) (x : ℕ) (ls : List ℕ) (rows : List (List ℕ)) (queue₀ : List ℕ) (tail : ℕ) (from₀ queue from : List ℕ) (end i : ℕ) : Type 0 where
-  pub upto : i ≤ length ls
+pub record Visiting (limit : ℕ → ℕ) (x : ℕ) (ls : List ℕ) (rows : List (List ℕ)) (queue₀ : List ℕ) (tail : ℕ) (from₀ queue from : List ℕ) (end e : ℕ) : Type 0 where
+  pub standing : Standing ls x e
   pub same : (length queue ≡ length queue₀) × (length from ≡ length from₀)
-  pub each : ForEach rows (λ n hs. Ready n x hs queue₀ tail from₀) (λ n hs. Visited n limit x ls hs queue₀ tail from₀ queue from end i)
+  pub each : ForEach rows (λ n hs. Ready n x hs queue₀ tail from₀) (λ n hs. Visited n limit x ls hs queue₀ tail from₀ queue from end e)
 
-module _ (limit : ℕ → ℕ) (x : ℕ) (ls : List ℕ) (rows : List (List ℕ)) (queue₀ : List ℕ) (tail : ℕ) (from₀ : List ℕ) where
-  pub visit-start : Visiting limit x ls rows queue₀ tail from₀ queue₀ from₀ tail 0
-  visit-start = record { upto = omega arith; same = (refl, refl); each = λ n hs t r. record { ready = r; rest = refl } }
+-- x, which may look, has a chain
+pub ready-below : {rows : List (List ℕ)} {x : ℕ} {queue : List ℕ} {tail : ℕ} {from : List ℕ} → ForSome rows (λ n hs. Ready n x hs queue tail from) → x < GATEWAYS
+ready-below s = omega (arith, s .has .gateway, s .has .going .few)
 
-  -- x may go on looking
-  pub visit-ready : {queue from : List ℕ} {end i : ℕ} → Visiting limit x ls rows queue₀ tail from₀ queue from end i → ForSome rows (λ n hs. Ready n x hs queue₀ tail from₀)
-      → ForSome rows (λ n hs. Ready n x hs queue end from)
-  visit-ready v s = some-then s (λ n hs t r. v .each n hs t r .ready)
+module _
+    (limit : ℕ → ℕ) (x : ℕ) (ls next : List ℕ) (rows : List (List ℕ)) (queue₀ : List ℕ) (tail : ℕ) (from₀ : List ℕ) (d : Index ls next)
+    (some : ForSome rows (λ n hs. Ready n x hs queue₀ tail from₀))
+  where
+    below : x < GATEWAYS
+    below = ready-below some
 
-  module _
-      {queue from queue' from' : List ℕ} {end i u : ℕ} {w : Walked} (v : Visiting limit x ls rows queue₀ tail from₀ queue from end i) (l : i + 1 < length ls)
-      (e : u ≡ cond (eqb (at ls i) x) (at ls (i + 1)) (cond (eqb (at ls (i + 1)) x) (at ls i) NONE))
-      (d : ForEach rows (λ n hs. Ready n x hs queue end from) (λ n hs. Is w queue' from' (look n limit hs x u (take end queue) from)))
-    where
-      module _ {n : ℕ} {hs : List ℕ} (t : TableOf n hs rows) (r : Ready n x hs queue₀ tail from₀) where
-        ready : Ready n x hs queue end from
-        ready = v .each n hs t r .ready
+    pub visit-start : {e : ℕ} → e ≡ at next (rootOf x) → Visiting limit x ls rows queue₀ tail from₀ queue₀ from₀ tail e
+    visit-start {e} q =
+        rw q
+        (record {
+          standing = chain-first d below .1;
+          same = (refl, refl);
+          each = λ n hs t r. record { ready = r; rest = ap (λ (us : List ℕ). visit n limit hs x us (more (take tail queue₀) from₀)) (sym (chain-first d below .0)) };
+        })
 
-        looked : Is w queue' from' (look n limit hs x u (take end queue) from)
-        looked = d n hs t ready
+    module _ {queue from : List ℕ} {end e : ℕ} (v : Visiting limit x ls rows queue₀ tail from₀ queue from end e) where
+      -- x may go on looking
+      pub visit-ready : ForSome rows (λ n hs. Ready n x hs queue end from)
+      visit-ready = some-then some (λ n hs t r. v .each n hs t r .ready)
 
-        step : visit n limit hs x (neighbours (drop (i + 2) ls) x) (look n limit hs x u (take end queue) from)
-            ≡ visit n limit hs x (neighbours ls x) (more (take tail queue₀) from₀)
-        step =
-            sym (link-visit n limit hs x (at ls i) (at ls (i + 1)) (drop (i + 2) ls) (take end queue) from (omega (arith, ready .going .marks, ready .going .few)) e)
-            ∙ (rw (pair-at ls i l) at (v .each n hs t r .rest))
+      pub visit-places : (e ≡ NONE → ⊥) → (mate e < length ls) × (e < length next)
+      visit-places l = chain-places d below (v .standing) l
 
-      pub visit-turn : {end' : ℕ} → w ≡ RanOut end' → (length queue' ≡ length queue) × (length from' ≡ length from) → Visiting limit x ls rows queue₀ tail from₀ queue' from' end' (i + 2)
-      visit-turn {end'} q long =
-          record {
-            upto = omega arith;
-            same = (long .0 ∙ v .same .0, long .1 ∙ v .same .1);
-            each = λ n hs t r.
-                let is : Is (RanOut end') queue' from' (look n limit hs x u (take end queue) from) = rw q at (looked t r) in
-                let same : look n limit hs x u (take end queue) from ≡ more (take end' queue') from' = more-state is in
-                let before : Ready n x hs queue end from = ready t r in
-                record {
-                  ready = record {
-                    going = look-going limit (before .going) u x (before .gateway) same;
-                    gateway = before .gateway;
-                    places = omega (arith, before .places, long .0);
-                    within = more-within is;
-                  };
-                  rest = rw same at (step t r);
-                };
-          }
+    module _
+        {queue from queue' from' : List ℕ} {end e u : ℕ} {w : Walked} (v : Visiting limit x ls rows queue₀ tail from₀ queue from end e) (l : e ≡ NONE → ⊥)
+        (is-u : u ≡ at ls (mate e)) (looks : ForEach rows (λ n hs. Ready n x hs queue end from) (λ n hs. Is w queue' from' (look n limit hs x u (take end queue) from)))
+      where
+        after : (neighbours (drop (2 * (e / 2)) ls) x ≡ at ls (mate e) ∷ neighbours (drop (2 * (at next e / 2)) ls) x) × Standing ls x (at next e) × (e < at next e)
+        after = chain-next d below (chain-there d below (v .standing) l)
 
-      pub visit-ends : {y z : ℕ} → w ≡ Found y z
-          → ForEach rows (λ n hs. Ready n x hs queue₀ tail from₀) (λ n hs. Is (Found y z) queue' from' (visit n limit hs x (neighbours ls x) (more (take tail queue₀) from₀)))
-      visit-ends {y} {z} q n hs t r =
-          let is : Is (Found y z) queue' from' (look n limit hs x u (take end queue) from) = rw q at (looked t r) in
-          found-is (sym (step t r) ∙ ap (visit n limit hs x (neighbours (drop (i + 2) ls) x)) (found-state is) ∙ visit-found n limit hs x (neighbours (drop (i + 2) ls) x))
+        module _ {n : ℕ} {hs : List ℕ} (t : TableOf n hs rows) (r : Ready n x hs queue₀ tail from₀) where
+          ready : Ready n x hs queue end from
+          ready = v .each n hs t r .ready
 
-  pub visit-out : {queue from : List ℕ} {end i : ℕ} → Visiting limit x ls rows queue₀ tail from₀ queue from end i → length ls ≤ i + 1
-      → ForEach rows (λ n hs. Ready n x hs queue₀ tail from₀) (λ n hs. Is (RanOut end) queue from (visit n limit hs x (neighbours ls x) (more (take tail queue₀) from₀)))
-  visit-out {queue} {from} {end} {i} v l n hs t r =
-      let done = v .each n hs t r in
-      more-is (sym (done .rest) ∙ visit-short n limit hs x (drop i ls) (more (take end queue) from) (pair-end ls i l)) (done .ready .within)
+          looked : Is w queue' from' (look n limit hs x u (take end queue) from)
+          looked = looks n hs t ready
+
+          step : visit n limit hs x (neighbours (drop (2 * (at next e / 2)) ls) x) (look n limit hs x u (take end queue) from)
+              ≡ visit n limit hs x (neighbours ls x) (more (take tail queue₀) from₀)
+          unfolding visit
+          step = rw is-u (rw (after .0) at (v .each n hs t r .rest))
+
+        pub visit-turn : {end' e' : ℕ} → w ≡ RanOut end' → (length queue' ≡ length queue) × (length from' ≡ length from) → e' ≡ at next e
+            → (Visiting limit x ls rows queue₀ tail from₀ queue' from' end' e') × (NONE - e' < NONE - e)
+        visit-turn {end'} q long f = (
+          rw f
+              (record {
+                standing = after .1;
+                same = (long .0 ∙ v .same .0, long .1 ∙ v .same .1);
+                each = λ n hs t r.
+                    let is : Is (RanOut end') queue' from' (look n limit hs x u (take end queue) from) = rw q at (looked t r) in
+                    let same : look n limit hs x u (take end queue) from ≡ more (take end' queue') from' = more-state is in
+                    let before : Ready n x hs queue end from = ready t r in
+                    record {
+                      ready = record {
+                        going = look-going limit (before .going) u x (before .gateway) same;
+                        gateway = before .gateway;
+                        places = omega (arith, before .places, long .0);
+                        within = more-within is;
+                      };
+                      rest = rw same at (step t r);
+                    };
+              }),
+          omega (arith, f, after .2, visit-places v l .1, d .places),
+        )
+
+        pub visit-ends : {y z : ℕ} → w ≡ Found y z
+            → ForEach rows (λ n hs. Ready n x hs queue₀ tail from₀) (λ n hs. Is (Found y z) queue' from' (visit n limit hs x (neighbours ls x) (more (take tail queue₀) from₀)))
+        visit-ends {y} {z} q n hs t r =
+            let is : Is (Found y z) queue' from' (look n limit hs x u (take end queue) from) = rw q at (looked t r) in
+            let rest : List ℕ = neighbours (drop (2 * (at next e / 2)) ls) x in
+            found-is (sym (step t r) ∙ ap (visit n limit hs x rest) (found-state is) ∙ visit-found n limit hs x rest)
+
+    pub visit-out : {queue from : List ℕ} {end e : ℕ} → Visiting limit x ls rows queue₀ tail from₀ queue from end e → e ≡ NONE
+        → ForEach rows (λ n hs. Ready n x hs queue₀ tail from₀) (λ n hs. Is (RanOut end) queue from (visit n limit hs x (neighbours ls x) (more (take tail queue₀) from₀)))
+    unfolding visit
+    visit-out {queue} {from} {end} {e} v l n hs t r =
+        let done = v .each n hs t r in more-is (sym (rw (chain-end d below l) at (done .rest))) (done .ready .within)

@@ -17,11 +17,13 @@ use Rattle.search.specs.Search.{seen, walk, placeable}
 use Rattle.search.specs.declared.Walked.{Walked}
 use Rattle.search.specs.declared.reached.Reached.{Reached}
 use Rattle.search.specs.Table.{heldTable}
+use Rattle.search.specs.Dead.{walkPast}
 use Rattle.search.specs.Pre.{ForEach, Is, Placeable, Walkable, Settleable}
 use Rattle.search.specs.ChokeSet.{chokeWalk, walkSaw}
 use Rattle.search.specs.Reached.{queuedFrom, seenFrom, setWritten, reachable, reachedAnswer, queuedWritten, seenWritten}
 use Rattle.search.specs.ReachedPre.{Unmarked, Marked, joined, Sets, bothCounted}
 use Rattle.search.proofs.Rows.{take-replicate}
+use Rattle.search.proofs.States.{going-start, placeable-startable}
 use Rattle.search.proofs.Settling.{settle-walked}
 use Rattle.search.proofs.Seen.{walked-seen, zero-walk}
 use Rattle.search.proofs.Tested.{placeable-means, placeable-holds}
@@ -48,15 +50,15 @@ set-room n p r = omega (arith, listWhere-length n p, count-bound n p, r .places)
 -- the walk from v: a queue that starts with v, and nobody marked
 module _ {n : ℕ} {hs : List ℕ} {v : ℕ} {from queue : List ℕ} {rows : List (List ℕ)} (u : Unmarked n hs v from) (zeros : queue ≡ replicate GATEWAYS 0) (table : rows ≡ heldTable n hs) where
   pub from-settles : Settleable n hs v rows queue from
-  from-settles = record { free = u .free; table = table; space = record { places = rw (zeros, length-replicate) (u .free .few); unseen = u .unseen } }
+  from-settles = record { free = u .free; table = table; places = rw (zeros, length-replicate) (u .free .few); going = rw (u .unseen) (going-start (placeable-startable (u .free))) }
 
   -- those marked after it are those seen
   pub from-marks : (limits ls : List ℕ) {r : Walked} {queue' from' : List ℕ}
-      → ForEach rows (λ k l. Walkable k l (set queue 0 v) 1 from) (λ k l. Is r queue' from' (walk k (at limits) ls l (take 1 (set queue 0 v)))) → limits ≡ replicate GATEWAYS 0
+      → ForEach rows (λ k l. Walkable k l (set queue 0 v) 1 from) (λ k l. Is r queue' from' (walkPast k (at limits) ls l (take 1 (set queue 0 v)) from)) → limits ≡ replicate GATEWAYS 0
       → length from' ≡ length from → Marked n ls hs v from'
   unfolding seenFrom walkSaw chokeWalk
   from-marks limits ls {r} {queue'} {from'} each none same =
-      record { marks = same ∙ rw (u .unseen) (length-replicate n NONE); saw = walked-seen r queue' from' (settle-walked (at limits) ls from-settles each .state ∙ zero-walk n limits ls hs (v ∷ []) none) }
+      record { marks = same ∙ rw (u .unseen) (length-replicate n NONE); saw = walked-seen r queue' from' (settle-walked (at limits) ls from-settles each .state ∙ zero-walk n limits ls hs (v ∷ []) from none (u .unseen)) }
 
 -- whether the sets may be written: what the test says, and what it takes
 module _ (n : ℕ) (hs : List ℕ) (v room room' : ℕ) where

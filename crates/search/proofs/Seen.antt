@@ -14,12 +14,14 @@ use Rattle.search.specs.Search.{Search, seen, walk}
 use Rattle.search.specs.declared.Walked.{Walked}
 use Rattle.search.specs.declared.Walked.the-variants.{Found, RanOut}
 use Rattle.search.specs.Table.{heldTable}
+use Rattle.search.specs.Dead.{walkPast}
 use Rattle.search.specs.Pre.{ForSome, ForEach, asSearch, Is, Walkable}
 use Rattle.search.specs.ChokeSet.{withoutHolder, chokeWalk, seenIn, walkSaw, inChoke, chokeByte}
 use Rattle.search.specs.ChokePre.{Queued, Workable, seenByte}
 use Rattle.packing.proofs.Lists.{listOf-ext, zero-at}
 use Rattle.sound.proofs.Searchable.{Searchable}
 use Rattle.search.proofs.Settling.{workspace}
+use Rattle.search.proofs.States.{going-start}
 use Rattle.search.proofs.Unheld.{unheld-startable}
 
 -- a byte of one that is not seen, and of one that is
@@ -44,18 +46,18 @@ zero-limits : at (replicate GATEWAYS 0) ≡ common 0
 unfolding common
 zero-limits = fun-ext (λ u. zero-at GATEWAYS u)
 
-pub zero-walk : (n : ℕ) (limits ls hs start : List ℕ) → limits ≡ replicate GATEWAYS 0 → walk n (at limits) ls hs start ≡ chokeWalk n ls hs start
-unfolding chokeWalk
-zero-walk n limits ls hs start none = rw none (ap (λ (limit : ℕ → ℕ). walk n limit ls hs start) zero-limits)
+pub zero-walk : (n : ℕ) (limits ls hs start from : List ℕ) → limits ≡ replicate GATEWAYS 0 → from ≡ replicate n NONE → walkPast n (at limits) ls hs start from ≡ chokeWalk n ls hs start
+unfolding chokeWalk walk
+zero-walk n limits ls hs start from none unseen = rw (none, unseen) (ap (λ (limit : ℕ → ℕ). walk n limit ls hs start) zero-limits)
 
 module _ {n : ℕ} {rows : List (List ℕ)} {hs queue from out queue' : List ℕ} {tail : ℕ} (w : Workable n rows hs queue from out) (q : Queued n hs queue' tail) where
   -- the gateways without holder may be walked from
   set-walkable : length queue' ≡ length queue → Walkable n hs queue' tail from
   set-walkable same =
       record {
-        start = rw (q .state) (unheld-startable n hs (w .lent .few));
+        going = rw (q .state, w .space .unseen) (going-start (unheld-startable n hs (w .lent .few)));
+        places = omega (arith, w .space .places);
         within = q .within;
-        space = record { places = omega (arith, w .space .places); unseen = w .space .unseen };
       }
 
   pub set-some : length queue' ≡ length queue → ForSome rows (λ k l. Walkable k l queue' tail from)
@@ -71,7 +73,7 @@ module _ {n : ℕ} {rows : List (List ℕ)} {hs queue from out queue' : List ℕ
 
   -- the bytes of those seen in a walk with limits of 0 are the choke bytes
   pub set-written : (limits ls : List ℕ) {r : Walked} {queue'' from' new : List ℕ}
-      → ForEach rows (λ k l. Walkable k l queue' tail from) (λ k l. Is r queue'' from' (walk k (at limits) ls l (take tail queue'))) → limits ≡ replicate GATEWAYS 0
+      → ForEach rows (λ k l. Walkable k l queue' tail from) (λ k l. Is r queue'' from' (walkPast k (at limits) ls l (take tail queue') from)) → limits ≡ replicate GATEWAYS 0
       → length queue' ≡ length queue → length from' ≡ length from → new ≡ written (length from') (listOf (length from') (seenByte from')) out → new ≡ written n (listOf n (chokeByte n ls hs)) out
   unfolding chokeByte inChoke walkSaw chokeWalk seenByte
   set-written limits ls {r} {queue''} {from'} each none long same e =
@@ -80,8 +82,8 @@ module _ {n : ℕ} {rows : List (List ℕ)} {hs queue from out queue' : List ℕ
       ∙ ap (λ (l : List ℕ). written n l out)
       (listOf-ext n (seenByte from') (chokeByte n ls hs) (λ v l. ap (λ (b : Bool). pick b 1) (walked-seen r queue'' from' (d .state ∙ same-walk) v)))
     where
-      same-walk : walk n (at limits) ls hs (take tail queue') ≡ chokeWalk n ls hs (withoutHolder n hs)
-      same-walk = rw (q .state) (zero-walk n limits ls hs (withoutHolder n hs) none)
+      same-walk : walkPast n (at limits) ls hs (take tail queue') from ≡ chokeWalk n ls hs (withoutHolder n hs)
+      same-walk = rw (q .state) (zero-walk n limits ls hs (withoutHolder n hs) from none (w .space .unseen))
 
 -- the table, and the arrays to work in
 pub searchable-workable : {n : ℕ} {hs out queue all : List ℕ} {rows : List (List ℕ)} → queue ≡ replicate GATEWAYS 0 → all ≡ replicate GATEWAYS NONE → rows ≡ heldTable n hs → Searchable n hs → n ≤ length out

@@ -1,14 +1,17 @@
 -- Dead gateways: once a placing leaves v, all that its search saw are full, and hold nobody that could ever be held elsewhere. A later search passes them by: it starts with them marked.
 -- What the functions of a plan's placings require and leave. ls are the plant's links, hs the holders, limit u how many u may hold; left says who is placed and without holder.
-use Prim.Native.Nat.{ℕ, _<_}
+use Prim.Native.Nat.{ℕ, _<_, _≤_}
 use mathlib.Core.Path.{_≡_}
-use mathlib.Core.Bool.{Bool, true, false, _&&_, _||_}
+use mathlib.Core.Bool.{Bool, true, false, not, _&&_, _||_}
 use mathlib.Core.List.{List}
+use lib.Dec.{eqb}
 use lib.ListN.{length}
-use Rattle.packing.specs.Plant.{at, linked}
-use Rattle.packing.specs.Holders.{held}
+use Rattle.packing.specs.Plant.{NONE, HIGHEST, at, linked}
+use Rattle.packing.specs.Holders.{held, Feasible}
 use Rattle.packing.proofs.Tight.{Tight}
 use Rattle.search.specs.Search.{Search, more, seen, turns}
+use Rattle.search.specs.Table.{heldTable}
+use Rattle.search.specs.Pre.{Placeable}
 
 -- the search from a queue of gateways, where those that have a mark count as seen: the turns of `walk`, from other marks
 abbrev pub walkPast : ℕ → (ℕ → ℕ) → List ℕ → List ℕ → List ℕ → List ℕ → Search
@@ -27,3 +30,25 @@ pub record Dead (n : ℕ) (limit : ℕ → ℕ) (ls hs : List ℕ) (left : ℕ �
       → ((x u : ℕ) → x < n → u < n → R x ≡ true → linked ls x u ≡ true → S u ≡ true)
       → ((v : ℕ) → v < n → held n (at hs) v ≡ true → S (at hs v) ≡ true → R v ≡ true)
       → (u : ℕ) → u < n → seen dead u ≡ true → S u ≡ true
+
+-- Places v past the dead, with rows that are kept: v may be placed and is not among those left, the holders are along links and within limits, which are those of a row, and the marks that the search starts from are the dead.
+pub record Past (n : ℕ) (limit : ℕ → ℕ) (ls hs : List ℕ) (v : ℕ) (rows : List (List ℕ)) (queue dead from : List ℕ) : Type 0 where
+  pub free : Placeable n hs v
+  pub none : at hs v ≡ NONE
+  pub feasible : Feasible n limit (linked ls) (at hs)
+  pub fits : (u : ℕ) → u < n → limit u ≤ HIGHEST
+  pub table : rows ≡ heldTable n hs
+  pub places : n ≤ length queue
+  pub same : from ≡ dead
+  pub left : ℕ → Bool
+  pub new : left v ≡ false
+  pub pair : Dead n limit ls hs left dead
+
+-- those left once v is placed
+abbrev pub leftThen : ℕ → (ℕ → Bool) → ℕ → List ℕ → ℕ → Bool
+leftThen n left v hs x = left x || (eqb x v && not (held n (at hs) x))
+
+-- The marks after it: hs' are the holders then. The dead are the dead of those left then, and the marks are theirs again.
+pub record PastMarks (n : ℕ) (limit : ℕ → ℕ) (ls hs : List ℕ) (v : ℕ) (dead hs' dead' from' : List ℕ) : Type 0 where
+  pub same : from' ≡ dead'
+  pub pair : (left : ℕ → Bool) → left v ≡ false → Dead n limit ls hs left dead → Dead n limit ls hs' (leftThen n left v hs') dead'

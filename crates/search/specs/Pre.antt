@@ -8,8 +8,9 @@ use lib.ListN.{length, set, take, replicate, getD}
 use Rattle.packing.specs.Count.{count}
 use Rattle.packing.specs.Plant.{NONE, GATEWAYS, HIGHEST, at}
 use Rattle.packing.specs.Holders.{held, holds}
-use Rattle.search.specs.Search.{Search, found, more, seen}
+use Rattle.search.specs.Search.{Search, found, more, seen, shift}
 use Rattle.search.specs.Table.{heldTable}
+use Rattle.search.specs.RowPre.{RowsKept}
 use Rattle.search.specs.declared.Walked.{Walked}
 use Rattle.search.specs.declared.Walked.the-variants.{Found, RanOut}
 
@@ -92,11 +93,11 @@ pub record Startable (n : ℕ) (hs start : List ℕ) : Type 0 where
   pub below : (i : ℕ) → i < length start → at start i < n
   pub room : length start + count n (held n (at hs)) ≤ n
 
--- .. in the first places of the queue to work in
+-- A search may go on from a queue in the first places of a lent list that has n, and from marks.
 pub record Walkable (n : ℕ) (hs queue : List ℕ) (tail : ℕ) (from : List ℕ) : Type 0 where
-  pub start : Startable n hs (take tail queue)
+  pub going : Going n hs (take tail queue) from
+  pub places : n ≤ length queue
   pub within : tail ≤ length queue
-  pub space : Workspace n queue from
 
 -- in how many rounds the shift comes to v: each takes one gateway
 unfoldable pub takings : ℕ → ℕ → List ℕ → ℕ → ℕ → List ℕ → ℕ
@@ -111,8 +112,14 @@ pub record Placeable (n : ℕ) (hs : List ℕ) (v : ℕ) : Type 0 where
   pub inside : v < n
   pub free : held n (at hs) v ≡ false
 
--- .. with the table of the holders, and lists to work in
+-- .. with the table of the holders, a queue to work in, and marks that the search may start from
 pub record Settleable (n : ℕ) (hs : List ℕ) (v : ℕ) (rows : List (List ℕ)) (queue from : List ℕ) : Type 0 where
   pub free : Placeable n hs v
   pub table : rows ≡ heldTable n hs
-  pub space : Workspace n queue from
+  pub places : n ≤ length queue
+  pub going : Going n hs (v ∷ []) from
+
+-- what a search for v's holder leaves, by how it ends: r is the number moved, hs' the holders, from' the marks and rows' the rows then
+unfoldable pub Outcome : ℕ → ℕ → List ℕ → Search → ℕ → List ℕ → List ℕ → List (List ℕ) → List (List ℕ) → Type 0
+Outcome n v hs (found u x from) r hs' from' rows rows' = (hs' ≡ shift n v from u x hs) × (r ≡ takings n v from u x hs) × RowsKept n v from u x hs rows rows'
+Outcome n v hs (more queue from) r hs' from' rows rows' = (hs' ≡ hs) × (r ≡ 0) × (from' ≡ from) × (rows' ≡ rows)

@@ -7,6 +7,7 @@ use crate::walk::walk;
 ghost use mathlib.Core.Path.{_≡_};
 ghost use lib.ListN.{length};
 ghost use Rattle.packing.specs.Lists.{listOf, written};
+ghost use Rattle.chains.specs.Index.{Index};
 ghost use Rattle.search.specs.ChokeSet.{chokeByte, chokeable, chokeWritten};
 ghost use Rattle.search.specs.ChokePre.{Workable};
 
@@ -14,18 +15,19 @@ ghost use Rattle.search.specs.ChokePre.{Workable};
 fn write_set(
     n: u16,
     links: &[u16],
+    next: &[u16],
     rows: &Rows,
     holders: &[u16],
     queue: &mut [u16],
     from: &mut [u16],
     out: &mut [u8],
 )
-    requires { ⌜ Workable n (now rows) (now holders) (now queue) (now from) (now out) ⌝ }
+    requires { ⌜ Index (now links) (now next) × Workable n (now rows) (now holders) (now queue) (now from) (now out) ⌝ }
     ensures { λ _. ⌜ now (out .exit) ≡ written n (listOf n (chokeByte n (now (links .entry)) (now (holders .entry)))) (now (out .entry)) ⌝ }
 {
     let tail = queue_unheld(n, holders, queue);
     let limits = lists::marks::bytes(0);
-    walk(&limits, links, rows, queue, tail, from);
+    walk(&limits, links, next, rows, queue, tail, from);
     write_seen(from, out);
 }
 
@@ -39,9 +41,10 @@ fn is_chokeable(n: u16, holders: &[u16], room: usize) -> bool
     (n as usize) <= room
 }
 
-// Writes the choke bytes to the first n places of out, and answers whether they may be written; if not, nothing is changed.
+// Writes the choke bytes to the first n places of out, with the index of the links, and answers whether they may be written; if not, nothing is changed.
 // The equation shuts out, for one, the set seen from the first gateway without holder alone; and a walk that stops at a gateway with a place free.
-pub fn choke_set(n: u16, links: &[u16], holders: &[u16], out: &mut [u8]) -> bool
+pub fn choke_set(n: u16, links: &[u16], next: &[u16], holders: &[u16], out: &mut [u8]) -> bool
+    requires { ⌜ Index (now links) (now next) ⌝ }
     ensures done { λ r. ⌜ r ≡ chokeable n (now (holders .entry)) (length (now (out .entry))) ⌝ }
     ensures out { λ _. ⌜ now (out .exit) ≡ chokeWritten n (now (links .entry)) (now (holders .entry)) (now (out .entry)) ⌝ }
 {
@@ -52,6 +55,15 @@ pub fn choke_set(n: u16, links: &[u16], holders: &[u16], out: &mut [u8]) -> bool
     let mut queue = lists::marks::zeros();
     let mut from = lists::marks::nones();
     let end = n as usize;
-    write_set(n, links, &rows, holders, &mut queue, &mut from[..end], out);
+    write_set(
+        n,
+        links,
+        next,
+        &rows,
+        holders,
+        &mut queue,
+        &mut from[..end],
+        out,
+    );
     true
 }

@@ -2,6 +2,7 @@
 mod bytes;
 pub mod choke;
 pub mod held;
+pub mod past;
 pub mod reached;
 pub mod shift;
 mod start;
@@ -11,11 +12,14 @@ use crate::held::Rows;
 use crate::held::gather;
 use crate::shift::shift_back;
 ghost use mathlib.Core.Path.{_≡_};
+ghost use mathlib.Core.List.{[], _∷_};
 ghost use Rattle.packing.specs.Plant.{at};
 ghost use Rattle.packing.specs.Moved.{moved};
+ghost use Rattle.chains.specs.Index.{Index};
 ghost use Rattle.search.specs.Search.{placeable, placedHolders, holdersAfter};
 ghost use Rattle.search.specs.Moved.{placeAnswer};
-ghost use Rattle.search.specs.Pre.{Placeable, Settleable};
+ghost use Rattle.search.specs.Dead.{walkPast};
+ghost use Rattle.search.specs.Pre.{Placeable, Settleable, Outcome};
 
 // How a search ends or stands: at a gateway with a place free, looked at from another; or with so many queued.
 enum Walked {
@@ -29,23 +33,23 @@ pub struct Placed {
     pub moved: u16,
 }
 
-// Places v with the table of the holders, and a queue and marks to work in. Returns how many have another holder afterwards.
+// Places v past those that are marked, with the table of the holders, and a queue to work in. Returns how many have another holder afterwards: none where v is left, and only then the marks are of use.
 fn settle(
     n: u16,
     v: u16,
     limits: &[u8],
     links: &[u16],
+    next: &[u16],
     rows: &mut Rows,
     holders: &mut [u16],
     queue: &mut [u16],
     from: &mut [u16],
 ) -> u16
-    requires { ⌜ Settleable n (now holders) v (now rows) (now queue) (now from) ⌝ }
-    ensures holders { λ _. ⌜ now (holders .exit) ≡ placedHolders n (at (now (limits .entry))) (now (links .entry)) (now (holders .entry)) v ⌝ }
-    ensures moved { λ r. ⌜ r ≡ moved n (at (now (holders .entry))) (at (placedHolders n (at (now (limits .entry))) (now (links .entry)) (now (holders .entry)) v)) ⌝ }
+    requires { ⌜ Index (now links) (now next) × Settleable n (now holders) v (now rows) (now queue) (now from) ⌝ }
+    ensures { λ r. ⌜ Outcome n v (now (holders .entry)) (walkPast n (at (now (limits .entry))) (now (links .entry)) (now (holders .entry)) (v ∷ []) (now (from .entry))) r (now (holders .exit)) (now (from .exit)) (now (rows .entry)) (now (rows .exit)) ⌝ }
 {
     queue[0] = v;
-    let w = walk::walk(limits, links, rows, queue, 1, from);
+    let w = walk::walk(limits, links, next, rows, queue, 1, from);
     match w {
         Walked::Found(u, x) => shift_back(n, v, u, x, from, rows, holders),
         Walked::RanOut(_) => 0,
@@ -53,8 +57,15 @@ fn settle(
 }
 
 // Places v, which may be placed: the holders afterwards are those of 01's search. Returns how many have another holder.
-fn place_unheld(n: u16, v: u16, limits: &[u8], links: &[u16], holders: &mut [u16]) -> u16
-    requires { ⌜ Placeable n (now holders) v ⌝ }
+fn place_unheld(
+    n: u16,
+    v: u16,
+    limits: &[u8],
+    links: &[u16],
+    next: &[u16],
+    holders: &mut [u16],
+) -> u16
+    requires { ⌜ Index (now links) (now next) × Placeable n (now holders) v ⌝ }
     ensures holders { λ _. ⌜ now (holders .exit) ≡ placedHolders n (at (now (limits .entry))) (now (links .entry)) (now (holders .entry)) v ⌝ }
     ensures moved { λ r. ⌜ r ≡ moved n (at (now (holders .entry))) (at (placedHolders n (at (now (limits .entry))) (now (links .entry)) (now (holders .entry)) v)) ⌝ }
 {
@@ -67,6 +78,7 @@ fn place_unheld(n: u16, v: u16, limits: &[u8], links: &[u16], holders: &mut [u16
         v,
         limits,
         links,
+        next,
         &mut rows,
         holders,
         &mut queue,
@@ -87,8 +99,16 @@ pub fn is_placeable(n: u16, v: u16, holders: &[u16]) -> bool
     n <= lists::entry(holders, v)
 }
 
-// Places v by a limit for each gateway, 0 past the list's end. Answers whether v may be placed, and how many gateways have another holder afterwards; if it may not, nothing is changed.
-pub fn place(n: u16, v: u16, limits: &[u8], links: &[u16], holders: &mut [u16]) -> Placed
+// Places v by a limit for each gateway, 0 past the list's end, with the index of the links. Answers whether v may be placed, and how many gateways have another holder afterwards; if it may not, nothing is changed.
+pub fn place(
+    n: u16,
+    v: u16,
+    limits: &[u8],
+    links: &[u16],
+    next: &[u16],
+    holders: &mut [u16],
+) -> Placed
+    requires { ⌜ Index (now links) (now next) ⌝ }
     ensures answer { λ r. ⌜ r ≡ placeAnswer n (at (now (limits .entry))) (now (links .entry)) (now (holders .entry)) v ⌝ }
     ensures holders { λ _. ⌜ now (holders .exit) ≡ holdersAfter n (at (now (limits .entry))) (now (links .entry)) (now (holders .entry)) v ⌝ }
 {
@@ -98,6 +118,6 @@ pub fn place(n: u16, v: u16, limits: &[u8], links: &[u16], holders: &mut [u16]) 
             moved: 0,
         };
     }
-    let moved = place_unheld(n, v, limits, links, holders);
+    let moved = place_unheld(n, v, limits, links, next, holders);
     Placed { done: true, moved }
 }

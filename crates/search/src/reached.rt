@@ -4,6 +4,7 @@ use crate::walk::walk;
 ghost use mathlib.Core.Path.{_≡_};
 ghost use lib.ListN.{length};
 ghost use Rattle.packing.specs.Lists.{listWhere, written, Lent};
+ghost use Rattle.chains.specs.Index.{Index};
 ghost use Rattle.search.specs.Search.{seen};
 ghost use Rattle.search.specs.Reached.{queuedFrom, seenFrom, setWritten, reachable, reachedAnswer, queuedWritten, seenWritten};
 ghost use Rattle.search.specs.ReachedPre.{Unmarked, Marked, joined, Sets, bothCounted};
@@ -16,15 +17,15 @@ pub struct Reached {
 }
 
 // Marks all that the walk from v sees.
-fn walk_from(n: u16, v: u16, links: &[u16], holders: &[u16], from: &mut [u16])
-    requires { ⌜ Unmarked n (now holders) v (now from) ⌝ }
+fn walk_from(n: u16, v: u16, links: &[u16], next: &[u16], holders: &[u16], from: &mut [u16])
+    requires { ⌜ Index (now links) (now next) × Unmarked n (now holders) v (now from) ⌝ }
     ensures { λ _. ⌜ Marked n (now (links .entry)) (now (holders .entry)) v (now (from .exit)) ⌝ }
 {
     let rows = gather(n, holders);
     let mut queue = lists::marks::zeros();
     queue[0] = v;
     let limits = lists::marks::bytes(0);
-    walk(&limits, links, &rows, &mut queue, 1, from);
+    walk(&limits, links, next, &rows, &mut queue, 1, from);
 }
 
 // Whether u is marked.
@@ -89,17 +90,18 @@ fn write_sets(
     n: u16,
     v: u16,
     links: &[u16],
+    next: &[u16],
     holders: &[u16],
     from: &mut [u16],
     queued: &mut [u16],
     seen: &mut [u16],
 ) -> Reached
-    requires { ⌜ Sets n (now holders) v (now from) (now queued) (now seen) ⌝ }
+    requires { ⌜ Index (now links) (now next) × Sets n (now holders) v (now from) (now queued) (now seen) ⌝ }
     ensures answer { λ r. ⌜ r ≡ bothCounted n (now (links .entry)) (now (holders .entry)) v ⌝ }
     ensures queued { λ _. ⌜ now (queued .exit) ≡ setWritten n (queuedFrom n (now (links .entry)) (now (holders .entry)) v) (now (queued .entry)) ⌝ }
     ensures seen { λ _. ⌜ now (seen .exit) ≡ setWritten n (seenFrom n (now (links .entry)) (now (holders .entry)) v) (now (seen .entry)) ⌝ }
 {
-    walk_from(n, v, links, holders, from);
+    walk_from(n, v, links, next, holders, from);
     let first = write_queued(n, v, holders, from, queued);
     let second = write_marked(n, from, seen);
     Reached {
@@ -119,15 +121,17 @@ fn is_reachable(n: u16, v: u16, holders: &[u16], room: usize, room2: usize) -> b
     lists::tests::both((n as usize) <= room, (n as usize) <= room2)
 }
 
-// Writes all that joins the queue, and all that is seen, in the walk from v. Answers whether they may be written, and their numbers; if they may not, nothing is changed.
+// Writes all that joins the queue, and all that is seen, in the walk from v, with the index of the links. Answers whether they may be written, and their numbers; if they may not, nothing is changed.
 pub fn reached_from(
     n: u16,
     v: u16,
     links: &[u16],
+    next: &[u16],
     holders: &[u16],
     queued: &mut [u16],
     seen: &mut [u16],
 ) -> Reached
+    requires { ⌜ Index (now links) (now next) ⌝ }
     ensures answer { λ r. ⌜ r ≡ reachedAnswer n (now (links .entry)) (now (holders .entry)) v (length (now (queued .entry))) (length (now (seen .entry))) ⌝ }
     ensures queued { λ _. ⌜ now (queued .exit) ≡ queuedWritten n (now (links .entry)) (now (holders .entry)) v (now (queued .entry)) (now (seen .entry)) ⌝ }
     ensures seen { λ _. ⌜ now (seen .exit) ≡ seenWritten n (now (links .entry)) (now (holders .entry)) v (now (queued .entry)) (now (seen .entry)) ⌝ }
@@ -141,5 +145,5 @@ pub fn reached_from(
     }
     let mut from = lists::marks::nones();
     let end = n as usize;
-    write_sets(n, v, links, holders, &mut from[..end], queued, seen)
+    write_sets(n, v, links, next, holders, &mut from[..end], queued, seen)
 }

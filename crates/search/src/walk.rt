@@ -3,27 +3,13 @@ use crate::Walked;
 use crate::held::Rows;
 use crate::held::has_place;
 use crate::held::join;
-ghost use mathlib.Core.Path.{_≡_};
-ghost use mathlib.Core.Bool.{cond};
-ghost use lib.Dec.{eqb};
 ghost use lib.ListN.{take};
-ghost use Rattle.packing.specs.Plant.{NONE, at, neighbours};
+ghost use Rattle.packing.specs.Plant.{at, neighbours};
+ghost use Rattle.chains.specs.Index.{Index};
 ghost use Rattle.search.specs.Search as model;
 ghost use Rattle.search.specs.Search.{more};
+ghost use Rattle.search.specs.Dead.{walkPast};
 ghost use Rattle.search.specs.Pre.{ForEach, ForSome, Is, Ready, Walkable};
-
-// The other end of the link a-b where x is an end of it; else none.
-pub fn other_end(a: u16, b: u16, x: u16) -> u16
-    ensures { λ r. ⌜ r ≡ cond (eqb a x) b (cond (eqb b x) a NONE) ⌝ }
-{
-    if a == x {
-        return b;
-    }
-    if b == x {
-        return a;
-    }
-    lists::NONE
-}
 
 // Looks at u from x.
 fn look(
@@ -48,50 +34,52 @@ fn look(
     Walked::RanOut(join(&rows[u as usize], queue, tail))
 }
 
-// Goes through x's links in order of arrival.
+// Goes through x's links in order of arrival, along its chain.
 fn visit(
     limits: &[u8],
     x: u16,
     links: &[u16],
+    next: &[u16],
     rows: &Rows,
     queue: &mut [u16],
     tail: usize,
     from: &mut [u16],
 ) -> Walked
-    requires { ⌜ ForSome (now rows) (λ n hs. Ready n x hs (now queue) tail (now from)) ⌝ }
+    requires { ⌜ Index (now links) (now next) × ForSome (now rows) (λ n hs. Ready n x hs (now queue) tail (now from)) ⌝ }
     ensures { λ r. ⌜ ForEach (now (rows .entry)) (λ n hs. Ready n x hs (now (queue .entry)) tail (now (from .entry))) (λ n hs. Is r (now (queue .exit)) (now (from .exit)) (model.visit n (at (now (limits .entry))) hs x (neighbours (now (links .entry)) x) (more (take tail (now (queue .entry))) (now (from .entry))))) ⌝ }
 {
     let mut end = tail;
-    let mut i: usize = 0;
-    while i + 1 < links.len() {
-        let u = other_end(links[i], links[i + 1], x);
+    let mut e = chains::first_end(next, x);
+    while e != lists::NONE {
+        let u = chains::across(links, e);
         let w = look(limits, x, u, rows, queue, end, from);
         match w {
             Walked::Found(y, z) => return Walked::Found(y, z),
-            Walked::RanOut(e) => end = e,
+            Walked::RanOut(t) => end = t,
         }
-        i += 2;
+        e = chains::next_end(next, e);
     }
     Walked::RanOut(end)
 }
 
-// The search from the first `tail` of the queue, nobody seen yet. A limit of 0 leaves nobody a place free.
+// The search from the first `tail` of the queue, past those that are marked. A limit of 0 leaves nobody a place free.
 pub(crate) fn walk(
     limits: &[u8],
     links: &[u16],
+    next: &[u16],
     rows: &Rows,
     queue: &mut [u16],
     tail: usize,
     from: &mut [u16],
 ) -> Walked
-    requires { ⌜ ForSome (now rows) (λ n hs. Walkable n hs (now queue) tail (now from)) ⌝ }
-    ensures { λ r. ⌜ ForEach (now (rows .entry)) (λ n hs. Walkable n hs (now (queue .entry)) tail (now (from .entry))) (λ n hs. Is r (now (queue .exit)) (now (from .exit)) (model.walk n (at (now (limits .entry))) (now (links .entry)) hs (take tail (now (queue .entry))))) ⌝ }
+    requires { ⌜ Index (now links) (now next) × ForSome (now rows) (λ n hs. Walkable n hs (now queue) tail (now from)) ⌝ }
+    ensures { λ r. ⌜ ForEach (now (rows .entry)) (λ n hs. Walkable n hs (now (queue .entry)) tail (now (from .entry))) (λ n hs. Is r (now (queue .exit)) (now (from .exit)) (walkPast n (at (now (limits .entry))) (now (links .entry)) hs (take tail (now (queue .entry))) (now (from .entry)))) ⌝ }
 {
     let mut end = tail;
     let mut head: usize = 0;
     while head < end {
         let x = queue[head];
-        let w = visit(limits, x, links, rows, queue, end, from);
+        let w = visit(limits, x, links, next, rows, queue, end, from);
         match w {
             Walked::Found(y, z) => return Walked::Found(y, z),
             Walked::RanOut(e) => end = e,

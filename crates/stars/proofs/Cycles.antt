@@ -64,7 +64,7 @@ back-gap n hs j k v l e = sym (back-add n hs (suc (k - suc j)) j v) ∙ rw whole
 
 -- Where going back i + 1 arcs from v is v again, it is so from every gateway met, and from each the way back comes to v.
 module _ (n : ℕ) (hs : List ℕ) (v i : ℕ) (round : back n hs (suc i) v ≡ v) where
-  round-back : (j : ℕ) → back n hs (suc i) (back n hs j v) ≡ back n hs j v
+  pub round-back : (j : ℕ) → back n hs (suc i) (back n hs j v) ≡ back n hs j v
   round-back j = back-swap n hs (suc i) j v ∙ ap (back n hs j) round
 
   pub round-return : (j : ℕ) → (m : ℕ) × (back n hs m (back n hs j v) ≡ v)

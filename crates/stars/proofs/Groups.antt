@@ -40,7 +40,7 @@ module _ (n : ℕ) (hs : List ℕ) (v : ℕ) where
 
 module _ (n : ℕ) (hs : List ℕ) (few : n ≤ NONE) where
   -- whose arc is cut and who leads nobody begins a cycle
-  cut-starts : (v : ℕ) → v < n → leads n hs v ≡ false → cut n hs v ≡ true → Begins n hs v
+  pub cut-starts : (v : ℕ) → v < n → leads n hs v ≡ false → cut n hs v ≡ true → Begins n hs v
   cut-starts v l e c =
       begins-means n hs (sym (cut-begins n hs v (not-test (leadsInTrees n hs v) (λ t. clash _ (leads-more n hs few v l t) e))) ∙ c)
 

@@ -1,47 +1,44 @@
 -- The arrays, put together, are the leaders by rules 1 to 4 and the leader list.
-use Prim.Native.Nat.{ℕ, _<_}
+use Prim.Native.Nat.{ℕ, _<_, _≤_}
 use mathlib.Core.Path.{_≡_, sym, ap, _∙_}
-use mathlib.Core.Bool.{Bool, true, false, not, cond}
+use mathlib.Core.Bool.{Bool, true, false, cond}
 use mathlib.Core.List.{List}
+use native.Mathlib.Omega.{arith}
 use lib.Dec.{ltb}
 use Rattle.packing.specs.Plant.{NONE, at}
 use Rattle.packing.specs.Lists.{listOf, written}
-use Rattle.stars.specs.Stars.{onCycle, nextOnCycle, leadsIn, leadsInTrees, cut, leads, leaderOf, ruleFive, leaderListBy, placeOf, notLater, leaderList}
-use Rattle.stars.specs.Pre.{Table, Marks, Ruled, marked}
-use Rattle.stars.proofs.Tables.{read-mark, mark}
-use Rattle.stars.proofs.RuleOneRounds.{leadsIn-ext}
+use Rattle.stars.specs.Stars.{nextOnCycle, cut, leads, leaderOf, ruleFive, leaderListBy, placeOf, notLater, leaderList}
+use Rattle.stars.specs.Pre.{Table, Read, goesWith, marked}
+use Rattle.packing.proofs.Tests.{by-bool}
+use Rattle.stars.proofs.Cycles.{next-held}
 use Rattle.stars.proofs.RuleFive.{five-ext, five-ways}
-use Rattle.stars.proofs.Groups.{entry-leads, entry-cut, entry-kept}
+use Rattle.stars.proofs.Groups.{entry-leads, entry-cut, entry-kept, cut-starts}
 use Rattle.packing.proofs.Lists.{listOf-ext}
 
--- who leads over the arcs that an array does not stop, for the test that the array holds
-kept-marks : (n : ℕ) (hs : List ℕ) (p : ℕ → Bool) {ss ls : List ℕ} → Marks n p ss → Marks n (leadsIn n n hs (λ w. not (marked ss w))) ls → Marks n (leadsIn n n hs (λ w. not (p w))) ls
-kept-marks n hs p {ss} {ls} s l =
-    record { long = l .long; entry = λ v h. mark (l .entry v h) (leadsIn-ext n n hs (λ w. not (marked ss w)) (λ w. not (p w)) (λ w k. ap not (read-mark p s w k)) v) }
-
-pub trees-marked : (n : ℕ) (hs : List ℕ) {cs ts : List ℕ} → Marks n (onCycle n hs) cs → Marks n (leadsIn n n hs (λ w. not (marked cs w))) ts → Marks n (leadsInTrees n hs) ts
-unfolding leadsInTrees
-trees-marked n hs c t = kept-marks n hs (onCycle n hs) c t
-
-pub leads-marked : (n : ℕ) (hs : List ℕ) {ds ls : List ℕ} → Marks n (cut n hs) ds → Marks n (leadsIn n n hs (λ w. not (marked ds w))) ls → Marks n (leads n hs) ls
-unfolding leads
-leads-marked n hs d l = kept-marks n hs (cut n hs) d l
-
-module _ {n : ℕ} {hs cs ds ls : List ℕ} (r : Ruled n hs cs ds ls) (v : ℕ) (h : v < n) where
+-- each case of the leader by rules 1 to 4, by the arrays
+module _ {n : ℕ} {hs ls xs : List ℕ} (r : Read n hs ls xs) (v : ℕ) (h : v < n) where
   leading : {b : Bool} → b ≡ marked ls v → b ≡ leads n hs v
-  leading e = e ∙ read-mark (leads n hs) (r .led) v h
-
-  cutting : {b : Bool} → b ≡ marked ds v → b ≡ cut n hs v
-  cutting e = e ∙ read-mark (cut n hs) (r .cuts) v h
+  leading e = e ∙ r .leading .mark v h
 
   pub leader-self : {b : Bool} → b ≡ marked ls v → b ≡ true → v ≡ leaderOf n hs v
   leader-self e f = sym (entry-leads n hs v (sym (leading e) ∙ f))
 
-  pub leader-next : {b k : Bool} {u : ℕ} → b ≡ marked ls v → b ≡ false → k ≡ marked ds v → k ≡ true → u ≡ nextOnCycle n hs v → u ≡ leaderOf n hs v
-  leader-next e f g q s = s ∙ sym (entry-cut n hs v (sym (leading e) ∙ f) (sym (cutting g) ∙ q))
+  quiet : {b : Bool} → b ≡ marked ls v → b ≡ false → leads n hs v ≡ false
+  quiet e f = sym (leading e) ∙ f
 
-  pub leader-holder : {b k : Bool} {w u : ℕ} → b ≡ marked ls v → b ≡ false → k ≡ marked ds v → k ≡ false → w ≡ at hs v → u ≡ cond (ltb w n) w NONE → u ≡ leaderOf n hs v
-  leader-holder e f g q s t = rw s at t ∙ sym (entry-kept n hs v (sym (leading e) ∙ f) (sym (cutting g) ∙ q))
+  pub leader-next : {b : Bool} {u : ℕ} → b ≡ marked ls v → b ≡ false → u ≡ at xs v → (u ≡ NONE → ⊥) → u ≡ leaderOf n hs v
+  leader-next {b} {u} e f g q =
+      let still = quiet e f in
+      let with : u ≡ goesWith n hs v = g ∙ r .next v h still in
+      by-bool (cut n hs v) (λ c. rw c at with ∙ sym (entry-cut n hs v still c)) (λ c. absurd (q (rw c at with)))
+
+  pub leader-holder : {b : Bool} {u w x : ℕ} → b ≡ marked ls v → b ≡ false → u ≡ at xs v → u ≡ NONE → w ≡ at hs v → x ≡ cond (ltb w n) w NONE → x ≡ leaderOf n hs v
+  leader-holder {b} {u} e f g q s t =
+      let still = quiet e f in
+      let with : NONE ≡ goesWith n hs v = sym q ∙ g ∙ r .next v h still in
+      let few : n ≤ NONE = omega (arith, r .few) in
+      by-bool (cut n hs v) (λ c. let next : NONE ≡ nextOnCycle n hs v = rw c at with in absurd (omega (arith, next, next-held n hs few v h (cut-starts n hs few v h still c .on) .0)))
+      (λ c. rw s at t ∙ sym (entry-kept n hs v still c))
 
 -- the list by rule 5 over an array of places is the one by the order, ..
 pub list-placed : (n : ℕ) (order g : ℕ → ℕ) (old : List ℕ) {ps new : List ℕ} → Table n (placeOf n order) ps → new ≡ written n (listOf n (ruleFive (notLater (at ps)) n g)) old

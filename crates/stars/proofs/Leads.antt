@@ -9,7 +9,7 @@ use lib.Dec.{eqb, ltb, leb}
 use borrow.Author.Tests.{eqb-true, eq-eqb, ltb-true, ltb-false, leb-true, le-leb, not-true}
 use Rattle.packing.specs.Count.{any}
 use Rattle.packing.specs.Plant.{NONE, at}
-use Rattle.packing.proofs.Tests.{by-bool, below-suc, clash, and-l, and-r, and-i, not-i, not-test, all-elim, all-intro, any-intro, any-elim, any-none}
+use Rattle.packing.proofs.Tests.{by-bool, below-suc, clash, and-l, and-r, and-i, not-i, not-test, iff-test, all-elim, all-intro, any-intro, any-elim, any-none}
 use Rattle.stars.specs.Stars.{back, onCycle, leadsIn, leadsInTrees, begins, cut, leads}
 use Rattle.stars.proofs.Loops.{any-ext}
 use Rattle.stars.proofs.Cycles.{back-add, round-met, round-cycle, cycle-met, cycle-back, cycle-holder}
@@ -69,6 +69,18 @@ trees-broken n hs few z i l round kept = clash _ (round-cycle n hs few z i l rou
 pub trees-child : (n : ℕ) (hs : List ℕ) → n ≤ NONE → (u : ℕ) → u < n → leadsInTrees n hs u ≡ true ↔ Child n hs (onCycle n hs) (leadsInTrees n hs) u
 unfolding leadsInTrees in-round
 trees-child n hs few = leads-by n hs few (onCycle n hs) (trees-broken n hs few)
+
+-- .. and no other test says it of every gateway: rule 1 fixes who leads, from the deepest upwards
+pub lead-only : (n : ℕ) (hs : List ℕ) → n ≤ NONE → (lead : ℕ → Bool) → ((u : ℕ) → u < n → lead u ≡ true ↔ Child n hs (onCycle n hs) lead u) → (u : ℕ) → u < n → lead u ≡ leadsInTrees n hs u
+lead-only n hs few lead one =
+    upwards n hs few (λ w. not (onCycle n hs w)) (trees-broken n hs few) (λ f u. lead u ≡ leadsInTrees n hs u)
+    (λ u l none. by u l (λ w k e off. absurd (none w k e (not-i _ off)))) (λ f u l same. by u l (λ w k e off. same w k e (not-i _ off)))
+  where
+    by : (u : ℕ) → u < n → ((w : ℕ) → w < n → at hs w ≡ u → onCycle n hs w ≡ false → lead w ≡ leadsInTrees n hs w) → lead u ≡ leadsInTrees n hs u
+    by u l same =
+        iff-test (lead u) (leadsInTrees n hs u)
+        (λ t. let (w, k, e, off, q) = one u l .0 t in trees-child n hs few u l .1 (w, k, e, off, sym (same w k e off) ∙ q))
+        (λ t. let (w, k, e, off, q) = trees-child n hs few u l .0 t in one u l .1 (w, k, e, off, same w k e off ∙ q))
 
 -- v begins a cycle: none on it leads in trees, and v is the lowest
 pub record Begins (n : ℕ) (hs : List ℕ) (v : ℕ) : Type 0 where

@@ -18,9 +18,12 @@ pub mod Only
 pub mod Examples
 pub mod Loops
 pub mod Tables
-pub mod ArcsBack
-pub mod CutArcs
-pub mod RuleOneRounds
 pub mod OrderPass
 pub mod LeaderTables
 pub mod Lent
+pub mod Without
+pub mod Peeling
+pub mod GoneRound
+pub mod LedRound
+pub mod CyclePass
+pub mod PartnerPass

@@ -1,33 +1,24 @@
 -- Rules 1 to 4 name the entry of each gateway: rule 1 fixes who leads, and every gateway has its place in one of the rules.
 use Prim.Native.Nat.{ℕ, zero, suc, _+_, _*_, _<_, _≤_}
 use mathlib.Core.Path.{_≡_, refl, sym, ap, _∙_}
-use mathlib.Core.Bool.{Bool, true, false, not}
+use mathlib.Core.Bool.{Bool, true, false}
 use mathlib.Core.List.{List}
 use native.Mathlib.Omega.{arith}
 use borrow.Author.Tests.{ltb-true}
 use Rattle.packing.specs.Count.{any}
 use Rattle.packing.specs.Plant.{NONE, at}
 use Rattle.packing.specs.Holders.{held}
-use Rattle.packing.proofs.Tests.{by-bool, not-i, iff-test, any-elim, any-fails}
+use Rattle.packing.proofs.Tests.{by-bool, any-elim, any-fails}
 use Rattle.stars.specs.Stars.{back, onCycle, leadsInTrees, leaderOf}
 use Rattle.stars.specs.Rules.{RuleOne, RuleTwo, Leaderless, Run, Itself, OneToFour}
 use Rattle.stars.proofs.Cycles.{cycle-met}
-use Rattle.stars.proofs.Upwards.{upwards}
-use Rattle.stars.proofs.Leads.{trees-broken, trees-child}
+use Rattle.stars.proofs.Leads.{lead-only}
 use Rattle.stars.proofs.Rules.{entries-hold}
 use Rattle.stars.proofs.CyclePlaces.{rule-3-place, rule-4-place}
 
--- Rule 1 fixes who leads, from the deepest upwards.
-lead-only : (n : ℕ) (hs : List ℕ) → n ≤ NONE → {lead : ℕ → Bool} {g : ℕ → ℕ} → RuleOne n hs lead g → (u : ℕ) → u < n → lead u ≡ leadsInTrees n hs u
-lead-only n hs few {lead} one =
-    upwards n hs few (λ w. not (onCycle n hs w)) (trees-broken n hs few) (λ f u. lead u ≡ leadsInTrees n hs u)
-    (λ u l none. by u l (λ w k e off. absurd (none w k e (not-i _ off)))) (λ f u l same. by u l (λ w k e off. same w k e (not-i _ off)))
-  where
-    by : (u : ℕ) → u < n → ((w : ℕ) → w < n → at hs w ≡ u → onCycle n hs w ≡ false → lead w ≡ leadsInTrees n hs w) → lead u ≡ leadsInTrees n hs u
-    by u l same =
-        iff-test (lead u) (leadsInTrees n hs u)
-        (λ t. let (w, k, e, off, q) = one .leads u l .0 t in trees-child n hs few u l .1 (w, k, e, off, sym (same w k e off) ∙ q))
-        (λ t. let (w, k, e, off, q) = trees-child n hs few u l .0 t in one .leads u l .1 (w, k, e, off, same w k e off ∙ q))
+-- Rule 1 fixes who leads.
+named-lead : (n : ℕ) (hs : List ℕ) → n ≤ NONE → {lead : ℕ → Bool} {g : ℕ → ℕ} → RuleOne n hs lead g → (u : ℕ) → u < n → lead u ≡ leadsInTrees n hs u
+named-lead n hs few {lead} one = lead-only n hs few lead (one .leads)
 
 parity : {A : Type 0} (k : ℕ) → ((m : ℕ) → k ≡ 2 * m → A) → ((m : ℕ) → k ≡ 2 * m + 1 → A) → A
 parity zero even odd = even 0 refl
@@ -40,7 +31,7 @@ Named n hs v = (u : ℕ) × ((lead : ℕ → Bool) (g : ℕ → ℕ) → OneToFo
 -- Rule 3 names the entry of each gateway of its cycle.
 module _ (n : ℕ) (hs : List ℕ) (few : n ≤ NONE) (length : ℕ) (c : ℕ → ℕ) (cycle : Leaderless n hs (leadsInTrees n hs) length c) where
   quiet : {lead : ℕ → Bool} {g : ℕ → ℕ} → RuleOne n hs lead g → (i : ℕ) → i < length → lead (c i) ≡ false
-  quiet one i l = lead-only n hs few one (c i) (cycle .below i l) ∙ cycle .none i l
+  quiet one i l = named-lead n hs few one (c i) (cycle .below i l) ∙ cycle .none i l
 
   leaderless : {lead : ℕ → Bool} {g : ℕ → ℕ} → OneToFour n hs lead g → Leaderless n hs lead length c
   leaderless r = record { some = cycle .some; below = cycle .below; arc = cycle .arc; closed = cycle .closed; once = cycle .once; none = quiet (r .one); lowest = cycle .lowest }
@@ -83,7 +74,7 @@ module _ (n : ℕ) (hs : List ℕ) (few : n ≤ NONE) (r : ℕ) (c : ℕ → ℕ
       }
     where
       same : (i : ℕ) → i ≤ r + 1 → lead (c i) ≡ leadsInTrees n hs (c i)
-      same i l = lead-only n hs few (rules .one) (c i) (run .below i l)
+      same i l = named-lead n hs few (rules .one) (c i) (run .below i l)
 
   four-even : (m : ℕ) → r ≡ 2 * m → (i : ℕ) → i < r → Named n hs (c (suc i))
   four-even m e i l =
@@ -119,13 +110,13 @@ module _ (n : ℕ) (hs : List ℕ) (few : n ≤ NONE) where
   names v l = by-bool (leadsInTrees n hs v) leader (λ t. by-bool (onCycle n hs v) (λ on. cycle-names v l on t) (λ off. by-bool (held n (at hs) v) (child t off) (root t)))
     where
       leader : leadsInTrees n hs v ≡ true → Named n hs v
-      leader t = (v, λ lead g r. r .one .leader v l (lead-only n hs few (r .one) v l ∙ t))
+      leader t = (v, λ lead g r. r .one .leader v l (named-lead n hs few (r .one) v l ∙ t))
 
       child : leadsInTrees n hs v ≡ false → onCycle n hs v ≡ false → held n (at hs) v ≡ true → Named n hs v
-      child t off h = (at hs v, λ lead g r. r .one .member v (at hs v) l (ltb-true (at hs v) n h) refl off (lead-only n hs few (r .one) v l ∙ t))
+      child t off h = (at hs v, λ lead g r. r .one .member v (at hs v) l (ltb-true (at hs v) n h) refl off (named-lead n hs few (r .one) v l ∙ t))
 
       root : leadsInTrees n hs v ≡ false → held n (at hs) v ≡ false → Named n hs v
-      root t h = (NONE, λ lead g r. r .two v l h (lead-only n hs few (r .one) v l ∙ t))
+      root t h = (NONE, λ lead g r. r .two v l h (named-lead n hs few (r .one) v l ∙ t))
 
   -- so there is one way to obey them
   pub entry-only : {lead : ℕ → Bool} {g : ℕ → ℕ} → OneToFour n hs lead g → (v : ℕ) → v < n → g v ≡ leaderOf n hs v

@@ -10,11 +10,12 @@ use Rattle.packing.specs.Count.{count, firstWith}
 use Rattle.packing.specs.Plant.{NONE}
 use Rattle.packing.specs.Grouping.{Grouping, follows, memberCount, isAlone, isLeader, isMember, covered}
 use Rattle.packing.proofs.Tests.{by-bool, clash, and-l, and-r, and-i, or-l, or-r, not-test, iff-test, any-intro, first-found}
-use Rattle.packing.proofs.Sums.{count-ext, count-split, count-some, count-find, count-unique, count-one}
+use Rattle.packing.proofs.Sums.{count-ext, count-find, count-one}
 use Rattle.packing.proofs.Below.{members-below}
 use Rattle.packing.proofs.Groupings.{Sym, Loopless, follows-is, follows-means, entry-cases, leader-within}
 use Rattle.stars.specs.Stars.{pairLeader, partner, ruleFive}
 use Rattle.stars.proofs.Loops.{first-ext}
+use Rattle.stars.proofs.Without.{count-without}
 
 -- an entry is one of a grouping's three kinds
 abbrev pub Kind : ℕ → (ℕ → ℕ) → (ℕ → ℕ → Bool) → (ℕ → ℕ) → ℕ → Type 0
@@ -106,11 +107,11 @@ module _ (leadsPair : ℕ → ℕ → Bool) (n : ℕ) (g : ℕ → ℕ) (v : ℕ
   pub five-none : n ≤ u → u ≡ ruleFive leadsPair n g v
   five-none h = here ∙ sym (five-keeps leadsPair n g v (λ k one. omega arith))
 
-  pub five-more : {k : ℕ} → k ≡ memberCount n g u → (k ≡ 1 → ⊥) → u ≡ ruleFive leadsPair n g v
-  five-more e f = here ∙ sym (five-keeps leadsPair n g v (λ _ one. f (e ∙ ap (memberCount n g) here ∙ one)))
+  pub five-more : (memberCount n g u ≡ 1 → ⊥) → u ≡ ruleFive leadsPair n g v
+  five-more f = here ∙ sym (five-keeps leadsPair n g v (λ _ one. f (ap (memberCount n g) here ∙ one)))
 
-  pub five-two : {k w r : ℕ} → u < n → k ≡ memberCount n g u → k ≡ 1 → w ≡ partner n g u → r ≡ pairLeader leadsPair u w → r ≡ ruleFive leadsPair n g v
-  five-two h e f q s = s ∙ ap (pairLeader leadsPair u) q ∙ sym (five-pair leadsPair n g v u (sym here) h (sym e ∙ f))
+  pub five-two : {w r : ℕ} → u < n → (memberCount n g u ≡ 1) × (w ≡ partner n g u) → r ≡ pairLeader leadsPair u w → r ≡ ruleFive leadsPair n g v
+  five-two h (one, q) s = s ∙ ap (pairLeader leadsPair u) q ∙ sym (five-pair leadsPair n g v u (sym here) h one)
 
 -- The entries by rule 5 go by the entries below n.
 module _ (n : ℕ) (g g' : ℕ → ℕ) (same : (w : ℕ) → w < n → g w ≡ g' w) where
@@ -131,13 +132,7 @@ five-ways n g leadsPair other same v =
 
 -- a group without one of it is as large as without another of it
 group-without : (n : ℕ) (g : ℕ → ℕ) (u x : ℕ) → x < n → g x ≡ u → count n (λ w. eqb (g w) u) ≡ 1 + count n (λ w. eqb (g w) u && not (eqb w x))
-group-without n g u x l e =
-    omega (
-      arith,
-      count-split n (λ w. eqb (g w) u) (λ w. eqb w x),
-      count-some n (λ w. eqb (g w) u && eqb w x) x l (and-i _ _ (eq-eqb (g x) u e) (eq-eqb x x refl)),
-      count-unique n (λ w. eqb (g w) u && eqb w x) (λ i j a b p q. eqb-true i x (and-r (eqb (g i) u) _ p) ∙ sym (eqb-true j x (and-r (eqb (g j) u) _ q))),
-    )
+group-without n g u x l e = count-without n (λ w. eqb (g w) u) x l (eq-eqb (g x) u e)
 
 -- Rule 5 over entries by which each leader leads itself, as in every grouping.
 module _ (leadsPair : ℕ → ℕ → Bool) (n : ℕ) (g : ℕ → ℕ) (own : (v : ℕ) → v < n → g v < n → g (g v) ≡ g v) where

@@ -41,7 +41,7 @@ pub record Stretch (n : ℕ) (hs : List ℕ) (first stop : ℕ) (c : ℕ → ℕ
 
 module _ (n : ℕ) (hs : List ℕ) (few : n ≤ NONE) where
   -- on a cycle, one that leads nobody in trees leads the next, if the arc to it is kept and it leads nobody
-  cycle-leads : (v w : ℕ) → v < n → w < n → onCycle n hs w ≡ true → at hs w ≡ v → leadsInTrees n hs v ≡ false → leads n hs v ≡ (not (cut n hs w) && not (leads n hs w))
+  pub cycle-leads : (v w : ℕ) → v < n → w < n → onCycle n hs w ≡ true → at hs w ≡ v → leadsInTrees n hs v ≡ false → leads n hs v ≡ (not (cut n hs w) && not (leads n hs w))
   cycle-leads v w l k o e quiet =
       iff-test (leads n hs v) (not (cut n hs w) && not (leads n hs w))
       (λ t.

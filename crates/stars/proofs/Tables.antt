@@ -1,7 +1,7 @@
 -- Arrays with a place for each gateway: filled one after the other, and read.
 use Prim.Native.Nat.{ℕ, zero, _+_, _<_, _≤_}
 use mathlib.Core.Path.{_≡_, refl, sym, ap, _∙_}
-use mathlib.Core.Bool.{Bool}
+use mathlib.Core.Bool.{Bool, true, false, cond}
 use mathlib.Core.List.{List}
 use native.Mathlib.Nat.{not-suc-le-zero, le-antisymm}
 use native.Mathlib.Numerals.{add-one}
@@ -13,16 +13,16 @@ use Rattle.packing.specs.Count.{pick}
 use Rattle.packing.specs.Plant.{GATEWAYS, at}
 use Rattle.packing.proofs.Tests.{below-suc}
 use Rattle.packing.proofs.Lists.{zero-at}
-use Rattle.stars.specs.Pre.{Table, Marks, marked}
+use Rattle.stars.specs.Pre.{Table, marked}
 
 -- an array of 1,024 in which nothing is marked
 pub record Blank (l : List ℕ) : Type 0 where
   pub long : GATEWAYS ≡ length l
-  pub zero : (v : ℕ) → at l v ≡ 0
+  pub none : (v : ℕ) → marked l v ≡ false
 
--- an array of zeros has nothing marked
+-- .. as an array of zeros is
 pub blank : {l : List ℕ} → l ≡ replicate GATEWAYS 0 → Blank l
-blank e = rw e record { long = refl; zero = zero-at GATEWAYS }
+blank e = rw e record { long = refl; none = λ v. rw (zero-at GATEWAYS v) }
 
 -- a loop that fills an array has filled it below v
 pub record Filled (n : ℕ) (f : ℕ → ℕ) (l : List ℕ) (v : ℕ) : Type 0 where
@@ -49,10 +49,15 @@ module _ (n : ℕ) (f : ℕ → ℕ) where
   pub fill-end : {l : List ℕ} {v : ℕ} → Filled n f l v → n ≤ v → Table n f l
   fill-end t h = rw (le-antisymm (t .upto) h) at (t .table)
 
--- the mark of a test
-pub mark : {b b' : Bool} {x : ℕ} → x ≡ pick b 1 → b ≡ b' → x ≡ pick b' 1
-mark e f = e ∙ ap (λ (b : Bool). pick b 1) f
+-- an array in which one more is marked
+module _ (l : List ℕ) (u : ℕ) where
+  pub mark-here : u < length l → marked (set l u 1) u ≡ true
+  mark-here h = rw (getD-set-same l u 1 0 h)
 
--- a test of which 1 or 0 is kept
-pub read-mark : {n : ℕ} (p : ℕ → Bool) {l : List ℕ} → Marks n p l → (v : ℕ) → v < n → marked l v ≡ p v
-read-mark p m v h = rw (m .entry v h) (pick-test (p v))
+  pub mark-other : (x : ℕ) → (x ≡ u → ⊥) → marked (set l u 1) x ≡ marked l x
+  mark-other x h = rw (getD-set-other l u x 1 0 h)
+
+-- an array that is written to or not keeps its length
+pub written-long : (l : List ℕ) {l' : List ℕ} (u x : ℕ) (b : Bool) → GATEWAYS ≡ length l → l' ≡ cond b (set l u x) l → GATEWAYS ≡ length l'
+written-long l u x true long e = rw e (long ∙ sym (length-set l u x))
+written-long l u x false long e = rw e long

@@ -1,40 +1,133 @@
--- The arrays that the functions fill: cs marks the gateways on cycles, ts those who lead by rule 1, ds the cut arcs, ss the arcs that are stopped, ls those who lead.
-use Prim.Native.Nat.{ℕ, _<_, _≤_}
+-- What the functions of this crate ask of each other's arrays. hs are the holders of n gateways; ws says for how many of those that it holds a gateway waits, ts marks those who were taken, which are those in trees,
+-- ds those whose leader can be read, ls those who lead, and xs says with whom the first of a cycle goes.
+use Prim.Native.Nat.{ℕ, _-_, _<_, _≤_}
 use mathlib.Core.Path.{_≡_}
-use mathlib.Core.Bool.{Bool, not, _&&_}
+use mathlib.Core.Logic.{_⊎_}
+use mathlib.Core.Bool.{Bool, true, false, not, cond, _&&_}
 use mathlib.Core.List.{List}
-use lib.Dec.{eqb}
-use lib.ListN.{length}
-use Rattle.packing.specs.Count.{pick, any}
-use Rattle.packing.specs.Plant.{GATEWAYS, at}
-use Rattle.stars.specs.Stars.{onCycle, leadsInTrees, cut, leads}
+use lib.Dec.{eqb, ltb}
+use lib.ListN.{length, set, replicate}
+use Rattle.packing.specs.Count.{count}
+use Rattle.packing.specs.Grouping.{follows}
+use Rattle.packing.specs.Lists.{tallyOf}
+use Rattle.packing.specs.Plant.{GATEWAYS, NONE, at}
+use Rattle.stars.specs.Stars.{back, onCycle, nextOnCycle, leadsInTrees, begins, cut, leads}
+use Rattle.stars.specs.declared.rounds.Round.{Round}
 
 -- an array of 1,024 that holds f's value at each v below n
 pub record Table (n : ℕ) (f : ℕ → ℕ) (l : List ℕ) : Type 0 where
   pub long : GATEWAYS ≡ length l
   pub entry : (v : ℕ) → v < n → at l v ≡ f v
 
--- the same with 1 where a test holds, and 0 where it does not
-abbrev pub Marks : ℕ → (ℕ → Bool) → List ℕ → Type 0
-Marks n p l = Table n (λ v. pick (p v) 1) l
-
 -- v is marked
 abbrev pub marked : List ℕ → ℕ → Bool
 marked l v = eqb (at l v) 1
 
--- u holds one below i whose arc is not stopped and who does not lead
-unfoldable pub holdsLed : ℕ → List ℕ → List ℕ → List ℕ → ℕ → Bool
-holdsLed i hs ss ls u = any i (λ w. eqb (at hs w) u && not (marked ss w) && not (marked ls w))
+-- an array of 1,024 in which of those below n just those with p are marked
+pub record Marks (n : ℕ) (p : ℕ → Bool) (l : List ℕ) : Type 0 where
+  pub long : GATEWAYS ≡ length l
+  pub mark : (v : ℕ) → v < n → marked l v ≡ p v
 
--- the arrays by which arcs are cut
-pub record Treed (n : ℕ) (hs cs ts : List ℕ) : Type 0 where
-  pub few : n ≤ GATEWAYS
-  pub cycles : Marks n (onCycle n hs) cs
-  pub trees : Marks n (leadsInTrees n hs) ts
+-- Trees. u may be taken: it is a gateway, waits for none that it holds, and is not taken yet
+unfoldable pub isNext : ℕ → List ℕ → List ℕ → ℕ → Bool
+isNext n ws ts u = ltb u n && eqb (at ws u) 0 && not (marked ts u)
 
--- the arrays by which each gateway has its leader by rules 1 to 4
-pub record Ruled (n : ℕ) (hs cs ds ls : List ℕ) : Type 0 where
+-- u's holder waits for it
+pub record Waited (n : ℕ) (hs ws : List ℕ) (u : ℕ) : Type 0 where
+  pub some : at hs u < n → 1 ≤ at ws (at hs u)
+
+-- u was taken: its holder, r, waits for one fewer, and leads if u does not
+pub record Taken (n : ℕ) (hs : List ℕ) (u : ℕ) (ws ts ls ws' ts' ls' : List ℕ) (r : ℕ) : Type 0 where
+  pub holder : r ≡ at hs u
+  pub taken : ts' ≡ set ts u 1
+  pub waits : ws' ≡ cond (ltb (at hs u) n) (set ws (at hs u) (at ws (at hs u) - 1)) ws
+  pub leading : ls' ≡ cond (ltb (at hs u) n && not (marked ls u)) (set ls (at hs u) 1) ls
+
+-- the arrays before any is taken
+pub record Sprouting (n : ℕ) (ts ls : List ℕ) : Type 0 where
   pub few : n ≤ GATEWAYS
-  pub cycles : Marks n (onCycle n hs) cs
-  pub cuts : Marks n (cut n hs) ds
-  pub led : Marks n (leads n hs) ls
+  pub taken : ts ≡ replicate GATEWAYS 0
+  pub leading : ls ≡ replicate GATEWAYS 0
+
+pub record Peelable (n : ℕ) (hs ws ts ls : List ℕ) : Type 0 where
+  pub waits : ws ≡ tallyOf n hs
+  pub start : Sprouting n ts ls
+
+-- .. and once all that can be are taken: those in trees
+pub record Hanging (n : ℕ) (hs ts ls : List ℕ) : Type 0 where
+  pub few : n ≤ GATEWAYS
+  pub trees : Marks n (λ v. not (onCycle n hs v)) ts
+  pub leading : Marks n (leadsInTrees n hs) ls
+
+-- Cycles. v stands on one of which none is marked
+pub record Unmet (n : ℕ) (hs ds : List ℕ) (v : ℕ) : Type 0 where
+  pub few : n ≤ GATEWAYS
+  pub long : GATEWAYS ≡ length ds
+  pub below : v < n
+  pub on : onCycle n hs v ≡ true
+  pub none : (j : ℕ) → marked ds (back n hs j v) ≡ false
+
+-- v's cycle was gone round: it is marked, the number of its arcs is known, and a start on it that leads or, where none leads, is v
+pub record Rounded (n : ℕ) (hs ls ds ds' : List ℕ) (v : ℕ) (r : Round) : Type 0 where
+  pub long : GATEWAYS ≡ length ds'
+  pub keeps : (x : ℕ) → marked ds x ≡ true → marked ds' x ≡ true
+  pub marks : (j : ℕ) → marked ds' (back n hs j v) ≡ true
+  pub only : (x : ℕ) → marked ds' x ≡ true → marked ds x ≡ false → (j : ℕ) × (back n hs j v ≡ x)
+  pub some : 1 ≤ r .arcs
+  pub round : back n hs (r .arcs) v ≡ v
+  pub on : (j : ℕ) × (back n hs j v ≡ r .start)
+  pub start : (marked ls (r .start) ≡ true) ⊎ ((r .start ≡ v) × ((j : ℕ) → marked ls (back n hs j v) ≡ false))
+
+-- s stands on a cycle of so many arcs; the arc into s is cut, and no other on it begins it; of those on it ls marks who leads by rule 1
+pub record Broken (n : ℕ) (hs ls : List ℕ) (s arcs : ℕ) : Type 0 where
+  pub few : n ≤ GATEWAYS
+  pub long : GATEWAYS ≡ length ls
+  pub below : s < n
+  pub on : onCycle n hs s ≡ true
+  pub some : 1 ≤ arcs
+  pub round : back n hs arcs s ≡ s
+  pub stops : cut n hs s ≡ true
+  pub only : (j : ℕ) → begins n hs (back n hs j s) ≡ true → back n hs j s ≡ s
+  pub trees : (j : ℕ) → marked ls (back n hs j s) ≡ leadsInTrees n hs (back n hs j s)
+
+-- .. and afterwards who leads by rules 1 to 4; r is the next after s
+pub record Led (n : ℕ) (hs ls ls' : List ℕ) (s r : ℕ) : Type 0 where
+  pub long : GATEWAYS ≡ length ls'
+  pub next : r ≡ nextOnCycle n hs s
+  pub leading : (j : ℕ) → marked ls' (back n hs j s) ≡ leads n hs (back n hs j s)
+  pub others : (x : ℕ) → ((j : ℕ) → back n hs j s ≡ x → ⊥) → marked ls' x ≡ marked ls x
+
+-- with whom v goes, if it does not lead and its arc is cut; else none
+abbrev pub goesWith : ℕ → List ℕ → ℕ → ℕ
+goesWith n hs v = cond (cut n hs v) (nextOnCycle n hs v) NONE
+
+-- the cycles with a number below v were read
+pub record Reading (n : ℕ) (hs : List ℕ) (v : ℕ) (ds ls xs : List ℕ) : Type 0 where
+  pub few : n ≤ GATEWAYS
+  pub upto : v ≤ n
+  pub read-long : GATEWAYS ≡ length ds
+  pub leading-long : GATEWAYS ≡ length ls
+  pub next-long : GATEWAYS ≡ length xs
+  pub trees : (x : ℕ) → x < n → onCycle n hs x ≡ false → marked ds x ≡ true
+  pub met : (x : ℕ) → x < v → marked ds x ≡ true
+  pub whole : (x : ℕ) → x < n → onCycle n hs x ≡ true → marked ds x ≡ true → (j : ℕ) → marked ds (back n hs j x) ≡ true
+  pub leading : (x : ℕ) → x < n → marked ls x ≡ cond (marked ds x) (leads n hs x) (leadsInTrees n hs x)
+  pub next : (x : ℕ) → x < n → marked ds x ≡ true → leads n hs x ≡ false → at xs x ≡ goesWith n hs x
+  pub blank : (x : ℕ) → x < n → marked ds x ≡ false → at xs x ≡ NONE
+
+-- .. and all of them
+pub record Read (n : ℕ) (hs ls xs : List ℕ) : Type 0 where
+  pub few : n ≤ GATEWAYS
+  pub leading : Marks n (leads n hs) ls
+  pub next : (v : ℕ) → v < n → leads n hs v ≡ false → at xs v ≡ goesWith n hs v
+
+-- Groups of two. x says of the i first entries which one goes with u: 65535 for nobody, the one where there is one, 1,024 where there are more
+pub record Partner (i : ℕ) (g : ℕ → ℕ) (u x : ℕ) : Type 0 where
+  pub nobody : count i (follows g u) ≡ 0 → x ≡ NONE
+  pub one : count i (follows g u) ≡ 1 → (x < i) × (follows g u x ≡ true)
+  pub more : 2 ≤ count i (follows g u) → x ≡ GATEWAYS
+
+-- .. for each gateway
+pub record Partners (n i : ℕ) (g : ℕ → ℕ) (l : List ℕ) : Type 0 where
+  pub long : GATEWAYS ≡ length l
+  pub partner : (u : ℕ) → u < n → Partner i g u (at l u)

@@ -1,12 +1,13 @@
 // The leader list of a set of holders (01, "Reading", rules 1 to 5; rule 5 by 02, change 2), on plain lists and numbers.
-mod arcs;
-mod cuts;
 mod groups_of_two;
+mod partners;
 mod places;
 mod reading;
 mod rounds;
+mod trees;
 
 use lists::PLACES;
+use lists::marks::zeros;
 ghost use mathlib.Core.Path.{_≡_};
 ghost use Prim.Native.Nat.{_≤_};
 ghost use lib.ListN.{length};
@@ -15,16 +16,16 @@ ghost use Rattle.packing.specs.Plant.{GATEWAYS};
 ghost use Rattle.stars.specs.Stars.{leaderOf, leaderList, leadersFit, leadersWritten};
 ghost use Rattle.stars.specs.Pre.{Table};
 
-// Each gateway's leader by rules 1 to 4. Each step fills one array: the cycles, who leads by rule 1, the cut arcs, who leads by rules 1 to 4, and the leaders.
+// Each gateway's leader by rules 1 to 4: first in the trees, then on the cycles.
 fn groups_of(n: u16, holders: &[u16]) -> [u16; PLACES]
     requires { ⌜ n ≤ GATEWAYS ⌝ }
     ensures { λ r. ⌜ Table n (leaderOf n (now (holders .entry))) r ⌝ }
 {
-    let cycles = arcs::on_cycles(n, holders);
-    let trees = rounds::leading(n, holders, &cycles);
-    let cut = cuts::cut_arcs(n, holders, &cycles, &trees);
-    let leading = rounds::leading(n, holders, &cut);
-    reading::leaders_of(n, holders, &cycles, &cut, &leading)
+    let mut trees = zeros();
+    let mut leading = zeros();
+    trees::lead_trees(n, holders, &mut trees, &mut leading);
+    let nexts = rounds::read_cycles(n, holders, &mut trees, &mut leading);
+    reading::leaders_of(n, holders, &nexts, &leading)
 }
 
 // The groups by rules 1 to 4, then rule 5 by the order.

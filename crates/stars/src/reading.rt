@@ -1,5 +1,4 @@
 // Each gateway's leader by rules 1 to 4.
-use crate::arcs::next_on_cycle;
 use lists::NONE;
 use lists::PLACES;
 use lists::entry;
@@ -11,7 +10,7 @@ ghost use Prim.Native.Nat.{_<_};
 ghost use lib.Dec.{ltb};
 ghost use Rattle.packing.specs.Plant.{NONE};
 ghost use Rattle.stars.specs.Stars.{leaderOf};
-ghost use Rattle.stars.specs.Pre.{Table, Ruled};
+ghost use Rattle.stars.specs.Pre.{Read, Table};
 
 // u, where it is a gateway.
 fn gateway_or_none(n: u16, u: u16) -> u16
@@ -24,35 +23,30 @@ fn gateway_or_none(n: u16, u: u16) -> u16
 }
 
 // v's leader: itself, the next on its cycle, or its holder.
-fn leader_of(n: u16, holders: &[u16], cycles: &[u16], cuts: &[u16], leading: &[u16], v: u16) -> u16
-    requires { ⌜ (Ruled n (now holders) (now cycles) (now cuts) (now leading)) × (v < n) ⌝ }
+fn leader_of(n: u16, holders: &[u16], nexts: &[u16], leading: &[u16], v: u16) -> u16
+    requires { ⌜ (Read n (now holders) (now leading) (now nexts)) × (v < n) ⌝ }
     ensures { λ r. ⌜ r ≡ leaderOf n (now (holders .entry)) v ⌝ }
 {
     if is_marked(leading, v) {
         return v;
     }
-    if is_marked(cuts, v) {
-        return next_on_cycle(n, holders, cycles, v);
+    let next = entry(nexts, v);
+    if next != NONE {
+        return next;
     }
     gateway_or_none(n, entry(holders, v))
 }
 
 // The leader of each gateway.
-pub(crate) fn leaders_of(
-    n: u16,
-    holders: &[u16],
-    cycles: &[u16],
-    cuts: &[u16],
-    leading: &[u16],
-) -> [u16; PLACES]
-    requires { ⌜ Ruled n (now holders) (now cycles) (now cuts) (now leading) ⌝ }
+pub(crate) fn leaders_of(n: u16, holders: &[u16], nexts: &[u16], leading: &[u16]) -> [u16; PLACES]
+    requires { ⌜ Read n (now holders) (now leading) (now nexts) ⌝ }
     ensures { λ r. ⌜ Table n (leaderOf n (now (holders .entry))) r ⌝ }
 {
     let mut groups = zeros();
     let mut v: u16 = 0;
     while v < n {
         let place = v as usize;
-        groups[place] = leader_of(n, holders, cycles, cuts, leading, v);
+        groups[place] = leader_of(n, holders, nexts, leading, v);
         v += 1;
     }
     groups

@@ -1,52 +1,102 @@
-// Who leads, by rounds over the arcs that are not stopped.
+// Rules 3 and 4: who leads on the cycles, and with whom the first of an odd cycle goes. Each cycle is gone round twice, from the lowest number on it.
 use lists::PLACES;
 use lists::entry;
 use lists::marks::is_marked;
 use lists::marks::mark_if;
-use lists::marks::zeros;
+use lists::marks::nones;
+use lists::put;
+use lists::tests::either;
 ghost use mathlib.Core.Path.{_≡_};
-ghost use mathlib.Core.Bool.{not, _&&_};
-ghost use Prim.Native.Nat.{_≤_};
-ghost use Rattle.packing.specs.Plant.{GATEWAYS};
-ghost use Rattle.stars.specs.Stars.{leadsIn};
-ghost use Rattle.stars.specs.Pre.{Marks, marked, holdsLed};
+ghost use mathlib.Core.Bool.{false, cond};
+ghost use Prim.Native.Nat.{_+_, _<_};
+ghost use Rattle.stars.specs.Pre.{Broken, Hanging, Led, Read, Reading, Rounded, Unmet, marked};
 
-// Whether w's holder leads w: the arc is not stopped, and w does not lead.
-fn is_led(stops: &[u16], leading: &[u16], w: u16) -> bool
-    ensures { λ r. ⌜ r ≡ (not (marked (now (stops .entry)) w) && not (marked (now (leading .entry)) w)) ⌝ }
-{
-    if is_marked(stops, w) {
-        return false;
-    }
-    !is_marked(leading, w)
+// A cycle: the gateway on it at which its reading starts, and how many arcs it has.
+struct Round {
+    start: u16,
+    arcs: u16,
 }
 
-// One round: the holder of each that is led leads.
-fn round(n: u16, holders: &[u16], stops: &[u16], leading: &[u16]) -> [u16; PLACES]
-    requires { ⌜ n ≤ GATEWAYS ⌝ }
-    ensures { λ r. ⌜ Marks n (holdsLed n (now (holders .entry)) (now (stops .entry)) (now (leading .entry))) r ⌝ }
+fn choose(first: bool, a: u16, b: u16) -> u16
+    ensures { λ r. ⌜ r ≡ cond first a b ⌝ }
 {
-    let mut next = zeros();
-    let mut w: u16 = 0;
-    while w < n {
-        let u = entry(holders, w);
-        let led = is_led(stops, leading, w);
-        mark_if(led, &mut next, u);
-        w += 1;
+    if first {
+        return a;
     }
-    next
+    b
 }
 
-// Marks who leads after n rounds.
-pub(crate) fn leading(n: u16, holders: &[u16], stops: &[u16]) -> [u16; PLACES]
-    requires { ⌜ n ≤ GATEWAYS ⌝ }
-    ensures { λ r. ⌜ Marks n (leadsIn n n (now (holders .entry)) (λ w. not (marked (now (stops .entry)) w))) r ⌝ }
+// Goes round v's cycle and marks it. Its reading starts at one that leads or, where none does, at v.
+fn go_round(n: u16, holders: &[u16], leading: &[u16], read: &mut [u16], v: u16) -> Round
+    requires { ⌜ Unmet n (now holders) (now read) v ⌝ }
+    ensures { λ r. ⌜ Rounded n (now (holders .entry)) (now (leading .entry)) (now (read .entry)) (now (read .exit)) v r ⌝ }
 {
-    let mut led = zeros();
-    let mut f: u16 = 0;
-    while f < n {
-        led = round(n, holders, stops, &led);
-        f += 1;
+    let mut start = v;
+    let mut arcs: u16 = 0;
+    let mut u = v;
+    while !is_marked(read, u) {
+        put(read, u, 1);
+        start = choose(is_marked(leading, u), u, start);
+        u = entry(holders, u);
+        arcs += 1;
     }
-    led
+    Round { start, arcs }
+}
+
+// Goes round the cycle from its start, the arc into which is cut: the holder of each other that does not lead leads. Returns the next after the start.
+fn lead_round(n: u16, holders: &[u16], leading: &mut [u16], start: u16, arcs: u16) -> u16
+    requires { ⌜ Broken n (now holders) (now leading) start arcs ⌝ }
+    ensures { λ r. ⌜ Led n (now (holders .entry)) (now (leading .entry)) (now (leading .exit)) start r ⌝ }
+{
+    let mut last = start;
+    let mut u = start;
+    let mut i: u16 = 0;
+    while i < arcs {
+        let led = either(u == start, is_marked(leading, u));
+        last = u;
+        u = entry(holders, u);
+        mark_if(!led, leading, u);
+        i += 1;
+    }
+    last
+}
+
+// Reads v's cycle, of which v is the lowest number.
+fn read_cycle(
+    n: u16,
+    holders: &[u16],
+    read: &mut [u16],
+    leading: &mut [u16],
+    nexts: &mut [u16],
+    v: u16,
+)
+    requires { ⌜ (Reading n (now holders) v (now read) (now leading) (now nexts)) × (v < n) × (marked (now read) v ≡ false) ⌝ }
+    ensures { λ _. ⌜ Reading n (now (holders .entry)) (v + 1) (now (read .exit)) (now (leading .exit)) (now (nexts .exit)) ⌝ }
+{
+    let round = go_round(n, holders, leading, read, v);
+    let start = round.start;
+    let arcs = round.arcs;
+    let next = lead_round(n, holders, leading, start, arcs);
+    put(nexts, start, next);
+}
+
+// Reads the cycles in turn: marks who leads by rules 1 to 4, and returns with whom each goes that does not lead and whose arc is cut; 65535 for the others.
+pub(crate) fn read_cycles(
+    n: u16,
+    holders: &[u16],
+    read: &mut [u16],
+    leading: &mut [u16],
+) -> [u16; PLACES]
+    requires { ⌜ Hanging n (now holders) (now read) (now leading) ⌝ }
+    ensures { λ r. ⌜ Read n (now (holders .entry)) (now (leading .exit)) r ⌝ }
+{
+    let mut nexts = nones();
+    let mut v: u16 = 0;
+    while v < n {
+        if !is_marked(read, v) {
+            read_cycle(n, holders, read, leading, &mut nexts, v);
+        }
+        v += 1;
+    }
+    nexts
 }

@@ -93,8 +93,17 @@ pub fn why_alone(
         };
     }
     let end = 2 * (m as usize);
+    let next = chains::build::index_of(&links[..end]);
     // It is done: in a sound record a gateway without holder may be walked from.
-    let reached = search::reached::reached_from(n, gateway, &links[..end], holders, first, second);
+    let reached = search::reached::reached_from(
+        n,
+        gateway,
+        &links[..end],
+        &next,
+        holders,
+        first,
+        second,
+    );
     WhyAnswer {
         refusal: 0,
         small,

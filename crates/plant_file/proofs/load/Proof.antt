@@ -42,7 +42,7 @@ returns-2 : tie.Need-returns-2
 returns-2 c = let ordered = c .before .before .before .before .before .before in
     let linked = ordered .before .before .before .before in
     let fine = linked .before .before in
-    load-accepted _ _ _ _ (fine .before .of-load .ensures) (fine .if1 .left) (linked .with-links .ensures) (ordered .with-order .ensures) (c .before .before .with-limits .ensures)
+    load-accepted _ _ _ _ (fine .before .of-load .ensures) (fine .if1 .left) (linked .with-links .ensures) (ordered .with-order .ensures) (c .before .before .with-limits .ensures .1)
 
 pub load-spec : {M : Type 1} → statement M
 load-spec =

@@ -10,7 +10,7 @@ use lib.ListN.{length}
 use Rattle.packing.specs.Plant.{NONE, HIGHEST, at}
 use Rattle.recursion.specs.Pre.{untried}
 use Rattle.recursion.proofs.Promises.{working-below}
-use Rattle.recursion.proofs.Finding.{Finding, finding-start, finding-links, finding-passed, finding-less, finding-works, finding-next, finding-found, finding-on, finding-out}
+use Rattle.recursion.proofs.Finding.{Finding, finding-start, finding-places, finding-passed, finding-less, finding-works, finding-next, finding-found, finding-on, finding-out}
 use Rattle.recursion.proofs.Freeing.{Freeing, freeing-at-once, freeing-start, freeing-none, freeing-works, freeing-few, freeing-next, freeing-freed, freeing-out}
 use Rattle.recursion.proofs.find_holder.Reads as find-holder
 use Rattle.recursion.proofs.find_holder.Kinds as find-kinds
@@ -19,8 +19,8 @@ use Rattle.recursion.proofs.free_place.Reads as free-place
 use Rattle.recursion.proofs.free_place.Kinds as free-kinds
 use Rattle.recursion.proofs.+find_holder+free_place.Lts-free_place as free
 use Rattle.chains.proofs.across.Reads as across-reads
-use Rattle.chains.proofs.first_link.Reads as first-link-reads
-use Rattle.chains.proofs.next_link.Reads as next-link-reads
+use Rattle.chains.proofs.first_end.Reads as first-end-reads
+use Rattle.chains.proofs.next_end.Reads as next-end-reads
 use Rattle.lists.proofs.byte.Reads as byte-reads
 use Rattle.lists.proofs.entry.Reads as entry-reads
 use Rattle.lists.proofs.put.Reads as put-reads
@@ -51,8 +51,8 @@ free-below t = and 6 free-kinds.ps (falls 6 free-kinds.ps _<_ μ-free-place t) f
 -- what each may use of the functions that it calls
 abbrev find-claims : ℕ → find.Claims
 find-claims t = (
-  first-link-reads.Asked,
-  first-link-reads.Learnt,
+  first-end-reads.Asked,
+  first-end-reads.Learnt,
   across-reads.Asked,
   across-reads.Learnt,
   entry-reads.Asked,
@@ -63,18 +63,18 @@ find-claims t = (
   free-place.Post,
   take-reads.Asked,
   take-reads.Learnt,
-  next-link-reads.Asked,
-  next-link-reads.Learnt,
+  next-end-reads.Asked,
+  next-end-reads.Learnt,
 )
 
 abbrev free-claims : ℕ → free.Claims
 free-claims t = (byte-reads.Asked, byte-reads.Learnt, has-place-reads.Asked, has-place-reads.Learnt, find-below t, find-holder.Post)
 
 abbrev Inv-find : find.InvT-loop
-Inv-find v limits links next rows₀ holders₀ tried₀ i₀ rows holders tried i = Finding (length tried₀) (at limits) links v rows₀ holders₀ tried₀ rows holders tried i
+Inv-find v limits links next rows₀ holders₀ tried₀ e₀ rows holders tried e = Finding (length tried₀) (at limits) links v rows₀ holders₀ tried₀ rows holders tried e
 
 abbrev μ-find : find.MeasureT-loop
-μ-find v limits links next rows₀ holders₀ tried₀ i₀ rows holders tried i = NONE - i
+μ-find v limits links next rows₀ holders₀ tried₀ e₀ rows holders tried e = NONE - e
 
 abbrev Inv-free : free.InvT-loop
 Inv-free u limits links next rows₀ holders₀ tried₀ i₀ rows holders tried i = Freeing (length tried₀) (at limits) links u rows₀ holders₀ tried₀ rows holders tried i
@@ -83,14 +83,14 @@ abbrev μ-free : free.MeasureT-loop
 μ-free u limits links next rows₀ holders₀ tried₀ i₀ rows holders tried i = HIGHEST - i
 
 module _ (t : ℕ) where
-  find-first-link-requires : find.Need-first-link-requires (find-claims t) (find-at t) find-holder.Post Inv-find μ-find
-  find-first-link-requires c κs = working-below (c .before .before .before .before .before .pre .1)
+  find-first-end-requires : find.Need-first-end-requires (find-claims t) (find-at t) find-holder.Post Inv-find μ-find
+  find-first-end-requires c κs = working-below (c .before .before .before .before .before .pre .1)
 
   find-loop-holds : find.Need-loop-holds (find-claims t) (find-at t) find-holder.Post Inv-find μ-find
-  find-loop-holds c = finding-start _ _ _ _ _ _ _ _ refl (c .before .before .before .before .before .before .pre .1) (c .first-link .ensures)
+  find-loop-holds c = finding-start _ _ _ _ _ _ _ _ refl (c .before .before .before .before .before .before .pre .1) (c .first-end .ensures)
 
   find-across-requires : find.Need-across-requires (find-claims t) (find-at t) find-holder.Post Inv-find μ-find
-  find-across-requires c κs = finding-links _ _ _ _ _ _ _ _ refl (c .before .before .before .before .before .before .before .before .pre .1) (c .before .loop .inv) (c .loop-test .taken) .0
+  find-across-requires c κs = finding-places _ _ _ _ _ _ _ _ refl (c .before .before .before .before .before .before .before .before .pre .1) (c .before .loop .inv) (c .loop-test .taken) .0
 
   find-entry-requires : find.Need-entry-requires (find-claims t) (find-at t) find-holder.Post Inv-find μ-find
   find-entry-requires c κs = search needs
@@ -131,13 +131,13 @@ module _ (t : ℕ) where
       finding-found _ _ _ _ _ _ _ _ refl (start .pre .1) (turn .before .loop .inv) (turn .loop-test .taken) (across .across .ensures) (entry .entry .ensures) (put .before .before .if1 .taken) (put .put .ensures)
       (called .free-place .ensures .0) (then .if2 .taken) (called .free-place .ensures .1) (taken .take .ensures)
 
-  find-next-link-requires : find.Need-next-link-requires (find-claims t) (find-at t) find-holder.Post Inv-find μ-find
-  find-next-link-requires c κs = let turn = c .before .before .before .before in
-      finding-links _ _ _ _ _ _ _ _ refl (turn .before .before .before .before .before .before .before .before .pre .1) (turn .before .loop .inv) (turn .loop-test .taken)
+  find-next-end-requires : find.Need-next-end-requires (find-claims t) (find-at t) find-holder.Post Inv-find μ-find
+  find-next-end-requires c κs = let turn = c .before .before .before .before in
+      finding-places _ _ _ _ _ _ _ _ refl (turn .before .before .before .before .before .before .before .before .pre .1) (turn .before .loop .inv) (turn .loop-test .taken) .1
 
   find-loop-less : find.Need-loop-less (find-claims t) (find-at t) find-holder.Post Inv-find μ-find
   find-loop-less c = let turn = c .before .before .before .before .before in
-      finding-on _ _ _ _ _ _ _ _ refl (turn .before .before .before .before .before .before .before .before .pre .1) (turn .before .loop .inv) (turn .loop-test .taken) (c .next-link .ensures)
+      finding-on _ _ _ _ _ _ _ _ refl (turn .before .before .before .before .before .before .before .before .pre .1) (turn .before .loop .inv) (turn .loop-test .taken) (c .next-end .ensures)
 
   find-loop-again : find.Need-loop-again (find-claims t) (find-at t) find-holder.Post Inv-find μ-find
   find-loop-again c = let entry = c .before .before in
@@ -148,8 +148,8 @@ module _ (t : ℕ) where
       (λ k.
       rw (k .14, k .15, k .16)
       (finding-next _ _ _ _ _ _ _ _ refl (start .pre .1) (turn .before .loop .inv) (turn .loop-test .taken) (across .across .ensures) (entry .entry .ensures) (k .0 .taken) (k .2 .ensures) (k .8 .ensures .0) (k .8 .ensures .1) (k .13 .left)
-      (k .8 .kept .1 .1 .1 .1 .1 .1 .0) (c .next-link .ensures)))
-      (λ k. rw (k .1, k .2, k .3) (finding-passed _ _ _ _ _ _ _ _ refl (start .pre .1) (turn .before .loop .inv) (turn .loop-test .taken) (across .across .ensures) (entry .entry .ensures) (c .next-link .ensures) (k .0 .left)))
+      (k .8 .kept .1 .1 .1 .1 .1 .1 .0) (c .next-end .ensures)))
+      (λ k. rw (k .1, k .2, k .3) (finding-passed _ _ _ _ _ _ _ _ refl (start .pre .1) (turn .before .loop .inv) (turn .loop-test .taken) (across .across .ensures) (entry .entry .ensures) (c .next-end .ensures) (k .0 .left)))
       (c .before .if1 .came)
 
   find-same-length-3 : find.Need-same-length-3 (find-claims t) (find-at t) find-holder.Post Inv-find μ-find
@@ -257,5 +257,5 @@ module _ (t : ℕ) where
 pub +find-holder+free-place-spec : {M : Type 1} → statement M
 +find-holder+free-place-spec =
     close μ-find-holder μ-free-place
-    (λ t. find.spec (find-claims t) (find-at t) find-holder.Post Inv-find μ-find (find-first-link-requires t) (find-loop-holds t) (find-across-requires t) (find-entry-requires t) (find-put-requires t) (find-free-place-requires t) (find-take-requires t) (find-same-length t) (find-same-length-2 t) (find-returns t) (find-next-link-requires t) (find-loop-less t) (find-loop-again t) (find-same-length-3 t) (find-same-length-4 t) (find-returns-2 t))
+    (λ t. find.spec (find-claims t) (find-at t) find-holder.Post Inv-find μ-find (find-first-end-requires t) (find-loop-holds t) (find-across-requires t) (find-entry-requires t) (find-put-requires t) (find-free-place-requires t) (find-take-requires t) (find-same-length t) (find-same-length-2 t) (find-returns t) (find-next-end-requires t) (find-loop-less t) (find-loop-again t) (find-same-length-3 t) (find-same-length-4 t) (find-returns-2 t))
     (λ t. free.spec (free-claims t) (free-at t) free-place.Post Inv-free μ-free (free-mul-has-place t) (free-index-1-has-place t) (free-byte-requires t) (free-has-place-requires t) (free-returns t) (free-loop-holds t) (free-mul-x t) (free-mul-x-2 t) (free-index-1-x t) (free-index-2-x t) (free-same-length t) (free-same-length-2 t) (free-returns-2 t) (free-find-holder-requires t) (free-add-result t) (free-same-length-3 t) (free-same-length-4 t) (free-returns-3 t) (free-add-i t) (free-loop-less t) (free-loop-again t) (free-same-length-5 t) (free-same-length-6 t) (free-returns-4 t))

@@ -16,7 +16,8 @@ unfolding holdersAfter movedBy
 returns c = place-refuses _ _ _ (c .before .is-placeable .ensures) _ (c .if1 .taken)
 
 place-unheld-requires : tie.Need-place-unheld-requires
-place-unheld-requires c κs = place-free _ _ _ (c .before .before .is-placeable .ensures) (c .before .if1 .left)
+place-unheld-requires c κs = let test = c .before .before in
+    (test .before .before .before .before .before .before .pre, place-free _ _ _ (test .is-placeable .ensures) (c .before .if1 .left))
 
 same-length-2 : tie.Need-same-length-2
 same-length-2 c = search needs

@@ -1,4 +1,4 @@
-use Rattle.search.proofs.Settling.{place-marks, place-settles}
+use Rattle.search.proofs.Settling.{unmarked-outcome, workspace, place-marks, place-settles}
 use borrow.Author.Needs.{needs}
 use Rattle.search.proofs.place_unheld.Statement.{statement}
 use Rattle.search.proofs.place_unheld.Tie as tie
@@ -20,20 +20,23 @@ array-borrow-prefix-from c = search needs
 
 slice-aggregate-settle-2 : tie.Need-slice-aggregate-settle-2
 slice-aggregate-settle-2 c = let marks = c .before .before .before .before in
-    place-marks (marks .nones .ensures) (marks .before .before .before .before .before .before .before .pre .few)
+    place-marks (marks .nones .ensures) (marks .before .before .before .before .before .before .before .before .pre .1 .few)
 
 settle-requires : tie.Need-settle-requires
 settle-requires c κs = let marks = c .before .before .before .before in
     let zeros = marks .before in
     let gathered = zeros .before in
-    let start = gathered .before .before .before .before .before in
-    place-settles {n = start .args .n} (marks .nones .ensures) (zeros .zeros .ensures) (gathered .gather .ensures) (start .pre)
+    let start = gathered .before .before .before .before .before .before in
+    (start .pre .0, place-settles {n = start .args .n} (marks .nones .ensures) (zeros .zeros .ensures) (gathered .gather .ensures) (start .pre .1))
 
 same-length : tie.Need-same-length
 same-length c = search needs
 
 returns : tie.Need-returns
-returns c = search needs
+returns c = let called = c .before .before .before .before in
+    let marks = called .before .before .before .before .before in
+    let start = marks .before .before .before .before .before .before .before .before in
+    unmarked-outcome _ _ _ _ _ _ _ (start .pre .1) (workspace (marks .nones .ensures) (marks .before .zeros .ensures) (start .pre .1 .few) .unseen) (called .settle .ensures)
 
 pub place-unheld-spec : {M : Type 1} → statement M
 place-unheld-spec =

@@ -9,7 +9,8 @@ slice-write-queue : tie.Need-slice-write-queue
 slice-write-queue c = search needs
 
 walk-requires : tie.Need-walk-requires
-walk-requires c κs = settle-some (c .before .before .before .before .before .before .before .before .pre)
+walk-requires c κs = let start = c .before .before .before .before .before .before .before .before .before in
+    (start .pre .0, settle-some (start .pre .1))
 
 enum-known-w : tie.Need-enum-known-w
 enum-known-w c = search needs
@@ -25,8 +26,8 @@ same-length c = search needs
 
 same-length-2 : tie.Need-same-length-2
 same-length-2 c = let called = c .before .before .before .before .before .before .before .before .before .before .before .before .before in
-    let start = called .before .before .before .before .before .before .before .before .before in
-    called .walk .kept .1 .1 .1 .0 ∙ length-set (start .args .queue .now) 0 (start .args .v)
+    let start = called .before .before .before .before .before .before .before .before .before .before in
+    called .walk .kept .1 .1 .1 .1 .0 ∙ length-set (start .args .queue .now) 0 (start .args .v)
 
 same-length-3 : tie.Need-same-length-3
 same-length-3 c = search needs
@@ -34,21 +35,21 @@ same-length-3 c = search needs
 returns : tie.Need-returns
 returns c = let known = c .before .before .before .before .before .before .before in
     let called = known .before .before .before .before .before .before in
-    let start = called .before .before .before .before .before .before .before .before .before in
-    settle-kept _ _ (start .pre) (called .walk .ensures) (known .w .given .1) (c .before .before .shift-back .ensures .0) (c .before .before .shift-back .ensures .1 .0)
+    let start = called .before .before .before .before .before .before .before .before .before .before in
+    settle-kept _ _ (start .pre .1) (called .walk .ensures) _ (known .w .given .1) (c .before .before .shift-back .ensures)
 
 same-length-4 : tie.Need-same-length-4
 same-length-4 c = let called = c .before .before .before .before .before .before in
-    let start = called .before .before .before .before .before .before .before .before .before in
-    called .walk .kept .1 .1 .1 .0 ∙ length-set (start .args .queue .now) 0 (start .args .v)
+    let start = called .before .before .before .before .before .before .before .before .before .before in
+    called .walk .kept .1 .1 .1 .1 .0 ∙ length-set (start .args .queue .now) 0 (start .args .v)
 
 same-length-5 : tie.Need-same-length-5
 same-length-5 c = search needs
 
 returns-2 : tie.Need-returns-2
 returns-2 c = let called = c .before .before .before .before .before .before in
-    let start = called .before .before .before .before .before .before .before .before .before in
-    settle-left _ _ (start .pre) (called .walk .ensures) (c .enum-told .given .1)
+    let start = called .before .before .before .before .before .before .before .before .before .before in
+    settle-left _ _ (start .pre .1) (called .walk .ensures) (c .enum-told .given .1)
 
 pub settle-spec : {M : Type 1} → statement M
 settle-spec =

@@ -5,7 +5,7 @@ use borrow.Author.Tests.{not-true, not-false}
 use Rattle.packing.specs.Plant.{firstLinks}
 use Rattle.planner.specs.State.{soundState}
 use Rattle.planner.proofs.Conditions.{unsound-number, sound-number}
-use Rattle.planner.proofs.Next.{checked}
+use Rattle.planner.proofs.Next.{checked, sound-joining}
 use Rattle.violator.specs.WhyAlone.{whyRefusal}
 use Rattle.violator.proofs.WhyTests.{allowed, why-refused, why-accepted}
 use borrow.Author.Needs.{needs}
@@ -33,9 +33,19 @@ cast-end c = search needs
 mul-end : tie.Need-mul-end
 mul-end c = search needs
 
-slice-aggregate-reached-from : tie.Need-slice-aggregate-reached-from
-slice-aggregate-reached-from c = let test = c .before .before .before in
+slice-aggregate-index-of : tie.Need-slice-aggregate-index-of
+slice-aggregate-index-of c = let test = c .before .before .before in
     sym (length-take-le _ _ (checked _ _ _ _ _ _ _ _ (test .before .is-sound .ensures) (test .if1 .left) .links-long))
+
+index-of-requires : tie.Need-index-of-requires
+index-of-requires c κs = let test = c .before .before .before in sound-joining (checked _ _ _ _ _ _ _ _ (test .before .is-sound .ensures) (test .if1 .left))
+
+slice-aggregate-reached-from : tie.Need-slice-aggregate-reached-from
+slice-aggregate-reached-from c = let test = c .before .before .before .before .before in
+    sym (length-take-le _ _ (checked _ _ _ _ _ _ _ _ (test .before .is-sound .ensures) (test .if1 .left) .links-long))
+
+slice-aggregate-reached-from-2 : tie.Need-slice-aggregate-reached-from-2
+slice-aggregate-reached-from-2 c = search needs
 
 reached-from-requires : tie.Need-reached-from-requires
 reached-from-requires c κs = search needs
@@ -49,7 +59,7 @@ same-length-2 c = search needs
 returns-3 : tie.Need-returns-3
 unfolding whyRefusal soundState firstLinks
 returns-3 c = let called = c .before .before .before .before in
-    let asked = called .before .before .before .before in
+    let asked = called .before .before .before .before .before .before .before in
     let test = asked .before .before in
     let sound = checked _ _ _ _ _ _ _ _ (test .before .is-sound .ensures) (test .if1 .left) in
     why-accepted _ _ _ _ (sound-number (test .before .is-sound .ensures) (not-false _ (test .if1 .left)) (asked .before .refusal-of .ensures)) (asked .if2 .left) sound
@@ -65,7 +75,10 @@ why-alone-spec =
     returns-2
     cast-end
     mul-end
+    slice-aggregate-index-of
+    index-of-requires
     slice-aggregate-reached-from
+    slice-aggregate-reached-from-2
     reached-from-requires
     same-length
     same-length-2

@@ -7,7 +7,7 @@ use Rattle.planner.specs.State.{limitOf, soundState}
 use Rattle.planner.specs.Calls.{conditions, callRefusal, changed}
 use Rattle.planner.proofs.Conditions.{unsound-number, sound-number, place-full, place-next}
 use Rattle.planner.proofs.Outcomes.{place-refused, place-accepted}
-use Rattle.planner.proofs.Next.{checked, next-placed, next-moved}
+use Rattle.planner.proofs.Next.{checked, sound-joining, next-placed, next-moved}
 use borrow.Author.Needs.{needs}
 use Rattle.planner.proofs.Small.place_by.Statement.{statement}
 use Rattle.planner.proofs.Small.place_by.Tie as tie
@@ -35,6 +35,13 @@ cast-end c = search needs
 mul-end : tie.Need-mul-end
 mul-end c = search needs
 
+slice-aggregate-index-of : tie.Need-slice-aggregate-index-of
+slice-aggregate-index-of c = let test = c .before in
+    sym (length-take-le _ _ (checked _ _ _ _ _ _ _ _ (test .before .before .is-sound .ensures) (test .before .if1 .left) .links-long))
+
+index-of-requires : tie.Need-index-of-requires
+index-of-requires c κs = let test = c .before in sound-joining (checked _ _ _ _ _ _ _ _ (test .before .before .is-sound .ensures) (test .before .if1 .left))
+
 cast-search-by : tie.Need-cast-search-by
 cast-search-by c = search needs
 
@@ -42,18 +49,21 @@ mul-search-by : tie.Need-mul-search-by
 mul-search-by c = search needs
 
 shared-slice-read-search-by : tie.Need-shared-slice-read-search-by
-shared-slice-read-search-by c = let test = c .before in
+shared-slice-read-search-by c = let test = c .before .before .before in
     let sound = checked _ _ _ _ _ _ _ _ (test .before .before .is-sound .ensures) (test .before .if1 .left) in omega (arith, sound .placed, sound .order-long, test .if2 .left)
 
 slice-aggregate-search-by : tie.Need-slice-aggregate-search-by
-slice-aggregate-search-by c = let test = c .before .before in
+slice-aggregate-search-by c = let test = c .before .before .before .before in
     sym (length-take-le _ _ (checked _ _ _ _ _ _ _ _ (test .before .before .is-sound .ensures) (test .before .if1 .left) .links-long))
+
+slice-aggregate-search-by-2 : tie.Need-slice-aggregate-search-by-2
+slice-aggregate-search-by-2 c = search needs
 
 search-by-requires : tie.Need-search-by-requires
 search-by-requires c κs = search needs
 
-add-t20 : tie.Need-add-t20
-add-t20 c = let test = c .before .before .before .before .before .before in
+add-t24 : tie.Need-add-t24
+add-t24 c = let test = c .before .before .before .before .before .before .before .before .before in
     let sound = checked _ _ _ _ _ _ _ _ (test .before .before .is-sound .ensures) (test .before .if1 .left) in omega (arith, sound .placed, sound .few, test .if2 .left)
 
 same-length-3 : tie.Need-same-length-3
@@ -61,11 +71,12 @@ same-length-3 c = search needs
 
 returns-3 : tie.Need-returns-3
 unfolding callRefusal conditions soundState changed firstLinks limitOf
-returns-3 c = let test = c .before .before .before .before .before .before in
+returns-3 c = let called = c .before .before in
+    let test = called .before .before .before .before .before .before .before in
     let sound = checked _ _ _ _ _ _ _ _ (test .before .before .is-sound .ensures) (test .before .if1 .left) in
     place-accepted _ _ (sound-number (test .before .before .is-sound .ensures) (not-false _ (test .before .if1 .left)) (place-next _ _ (test .if2 .left))) refl
-    (next-placed _ sound _ (test .if2 .left) (c .before .before .search-by .ensures .1))
-    (next-moved _ sound _ (test .if2 .left) (c .before .before .search-by .ensures .0))
+    (next-placed _ sound _ (test .if2 .left) (called .search-by .ensures .1))
+    (next-moved _ sound _ (test .if2 .left) (called .search-by .ensures .0))
 
 pub place-by-spec : {M : Type 1} → statement M
 place-by-spec =
@@ -78,11 +89,14 @@ place-by-spec =
     returns-2
     cast-end
     mul-end
+    slice-aggregate-index-of
+    index-of-requires
     cast-search-by
     mul-search-by
     shared-slice-read-search-by
     slice-aggregate-search-by
+    slice-aggregate-search-by-2
     search-by-requires
-    add-t20
+    add-t24
     same-length-3
     returns-3)

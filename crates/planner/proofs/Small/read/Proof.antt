@@ -8,7 +8,7 @@ use Rattle.planner.specs.State.{soundState}
 use Rattle.planner.specs.Calls.{conditions, callRefusal}
 use Rattle.planner.proofs.Conditions.{unsound-number, sound-number, read-allowed}
 use Rattle.planner.proofs.Outcomes.{read-refused, read-accepted}
-use Rattle.planner.proofs.Next.{checked, leaders-placed, choke-placed}
+use Rattle.planner.proofs.Next.{checked, sound-joining, leaders-placed, choke-placed}
 use borrow.Author.Needs.{needs}
 use Rattle.planner.proofs.Small.read.Statement.{statement}
 use Rattle.planner.proofs.Small.read.Tie as tie
@@ -43,9 +43,20 @@ mul-end c = search needs
 leaders-requires : tie.Need-leaders-requires
 leaders-requires c κs = search needs
 
-slice-aggregate-choke-set : tie.Need-slice-aggregate-choke-set
-slice-aggregate-choke-set c = let test = c .before .before .before .before .before .before .before .before .before in
+slice-aggregate-index-of : tie.Need-slice-aggregate-index-of
+slice-aggregate-index-of c = let test = c .before .before .before .before .before .before .before .before .before in
     sym (length-take-le _ _ (checked _ _ _ _ _ _ _ _ (test .before .is-sound .ensures) (test .if1 .left) .links-long))
+
+index-of-requires : tie.Need-index-of-requires
+index-of-requires c κs = let test = c .before .before .before .before .before .before .before .before .before in
+    sound-joining (checked _ _ _ _ _ _ _ _ (test .before .is-sound .ensures) (test .if1 .left))
+
+slice-aggregate-choke-set : tie.Need-slice-aggregate-choke-set
+slice-aggregate-choke-set c = let test = c .before .before .before .before .before .before .before .before .before .before .before in
+    sym (length-take-le _ _ (checked _ _ _ _ _ _ _ _ (test .before .is-sound .ensures) (test .if1 .left) .links-long))
+
+slice-aggregate-choke-set-2 : tie.Need-slice-aggregate-choke-set-2
+slice-aggregate-choke-set-2 c = search needs
 
 choke-set-requires : tie.Need-choke-set-requires
 choke-set-requires c κs = search needs
@@ -58,7 +69,7 @@ same-length-4 c = search needs
 
 returns-3 : tie.Need-returns-3
 unfolding callRefusal conditions soundState firstLinks written
-returns-3 c = let led = c .before .before .before .before .before .before .before in
+returns-3 c = let led = c .before .before .before .before .before .before .before .before .before .before in
     let asked = led .before .before .before in
     let test = asked .before .before .before in
     let sound = checked _ _ _ _ _ _ _ _ (test .before .is-sound .ensures) (test .if1 .left) in
@@ -79,7 +90,10 @@ read-spec =
     cast-end
     mul-end
     leaders-requires
+    slice-aggregate-index-of
+    index-of-requires
     slice-aggregate-choke-set
+    slice-aggregate-choke-set-2
     choke-set-requires
     same-length-3
     same-length-4

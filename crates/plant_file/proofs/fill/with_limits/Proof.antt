@@ -1,62 +1,49 @@
-use native.Mathlib.Omega.{arith}
-use Prim.Native.Nat.{_-_}
-use Rattle.packing.proofs.Lists.{Listed, list-start, list-turn, list-end}
-use Rattle.plant_file.specs.PlantFile.{fileN, fileLimit, fileLimits}
+use Rattle.plant_file.proofs.FilledLimits.{limits-two, limits-other}
 use borrow.Author.Needs.{needs}
 use Rattle.plant_file.proofs.fill.with_limits.Statement.{statement}
 use Rattle.plant_file.proofs.fill.with_limits.Tie as tie
 
-abbrev Inv-loop : tie.InvT-loop
-Inv-loop file limits₀ n v₀ limits v = Listed (fileN file) (fileLimit file) limits₀ limits v
+version-requires : tie.Need-version-requires
+version-requires c κs = search needs
 
-abbrev μ-loop : tie.MeasureT-loop
-μ-loop file limits₀ n v₀ limits v = n - v
+with-pairs-requires : tie.Need-with-pairs-requires
+with-pairs-requires c κs = search needs
 
-gateways-requires : tie.Need-gateways-requires Inv-loop μ-loop
-gateways-requires c κs = search needs
-
-loop-holds : tie.Need-loop-holds Inv-loop μ-loop
-loop-holds c = list-start _ _ _
-
-limit-of-requires : tie.Need-limit-of-requires Inv-loop μ-loop
-limit-of-requires c κs = search needs
-
-cast-limits : tie.Need-cast-limits Inv-loop μ-loop
-cast-limits c = search needs
-
-slice-write-limits : tie.Need-slice-write-limits Inv-loop μ-loop
-slice-write-limits c = search needs
-
-add-v : tie.Need-add-v Inv-loop μ-loop
-add-v c = search needs
-
-loop-less : tie.Need-loop-less Inv-loop μ-loop
-loop-less c = search needs
-
-loop-again : tie.Need-loop-again Inv-loop μ-loop
-loop-again c = let at = c .before .before in
-    list-turn _ _ _ (at .before .before .before .before .pre) (at .loop .inv) (omega arith) (c .limit-of .ensures)
-
-same-length : tie.Need-same-length Inv-loop μ-loop
+same-length : tie.Need-same-length
 same-length c = search needs
 
-returns : tie.Need-returns Inv-loop μ-loop
-unfolding fileLimits
-returns c = list-end _ _ _ (c .before .loop .inv) (omega arith)
+returns : tie.Need-returns
+returns c = let pairs = c .before .before in
+    let two = pairs .before .before in
+    limits-two _ _ (two .before .version .ensures) (two .if1 .taken) (pairs .with-pairs .ensures .0) (pairs .with-pairs .ensures .1)
+
+gateways-requires : tie.Need-gateways-requires
+gateways-requires c κs = search needs
+
+limit-requires : tie.Need-limit-requires
+limit-requires c κs = search needs
+
+with-limit-requires : tie.Need-with-limit-requires
+with-limit-requires c κs = search needs
+
+same-length-2 : tie.Need-same-length-2
+same-length-2 c = search needs
+
+returns-2 : tie.Need-returns-2
+returns-2 c = let same = c .before .before in
+    let other = same .before .before .before .before in
+    limits-other _ _ (other .before .version .ensures) (other .if1 .left) (same .before .before .before .gateways .ensures) (same .before .before .limit .ensures) (same .with-limit .ensures)
 
 pub with-limits-spec : {M : Type 1} → statement M
 with-limits-spec =
     tie.close
     (tie.spec
-    Inv-loop
-    μ-loop
-    gateways-requires
-    loop-holds
-    limit-of-requires
-    cast-limits
-    slice-write-limits
-    add-v
-    loop-less
-    loop-again
+    version-requires
+    with-pairs-requires
     same-length
-    returns)
+    returns
+    gateways-requires
+    limit-requires
+    with-limit-requires
+    same-length-2
+    returns-2)

@@ -1,16 +1,15 @@
 -- Packing's laws of lists, two entries a turn.
 use native.Mathlib.Omega.{arith}
 use borrow.Author.Needs.{needs}
-use Prim.Native.Nat.{_*_, _-_}
-use Rattle.packing.proofs.Lists.{Listed, list-start, list-end}
-use Rattle.plant_file.specs.PlantFile.{fileM, fileLinks}
-use Rattle.plant_file.proofs.LinksByIndex.{linkNumber, index-less}
-use Rattle.plant_file.proofs.Filled.{links-turn}
+use Prim.Native.Nat.{_-_}
+use Rattle.packing.proofs.Lists.{list-start}
+use Rattle.plant_file.proofs.LinksByIndex.{index-less}
+use Rattle.plant_file.proofs.Filled.{LinksListed, links-turn, links-end}
 use Rattle.plant_file.proofs.fill.with_links.Statement.{statement}
 use Rattle.plant_file.proofs.fill.with_links.Tie as tie
 
 abbrev Inv-loop : tie.InvT-loop
-Inv-loop file links₀ m i₀ links i = Listed (2 * fileM file) (linkNumber file) links₀ links (2 * i)
+Inv-loop file links₀ m i₀ links i = LinksListed file links₀ links i
 
 abbrev μ-loop : tie.MeasureT-loop
 μ-loop file links₀ m i₀ links i = m - i
@@ -41,8 +40,7 @@ same-length : tie.Need-same-length Inv-loop μ-loop
 same-length c = search needs
 
 returns : tie.Need-returns Inv-loop μ-loop
-unfolding fileLinks
-returns c = list-end _ _ _ (c .before .loop .inv) (omega arith)
+returns c = links-end _ _ (c .before .loop .inv) (omega arith)
 
 pub with-links-spec : {M : Type 1} → statement M
 with-links-spec =

@@ -39,7 +39,7 @@ write-set-requires c κs = let marks = c .before .before .before .before in
     let gathered = zeros .before in
     let test = gathered .before in
     let (s, room) = choke-may _ _ _ (test .before .is-chokeable .ensures) (test .if1 .left) in
-    searchable-workable (zeros .zeros .ensures) (marks .nones .ensures) (gathered .gather .ensures) s room
+    (test .before .before .before .before .before .before .pre, searchable-workable (zeros .zeros .ensures) (marks .nones .ensures) (gathered .gather .ensures) s room)
 
 same-length : tie.Need-same-length
 same-length c = search needs

@@ -14,14 +14,14 @@ slice-aggregate-walk c = search needs
 
 walk-requires : tie.Need-walk-requires
 walk-requires c κs = let called = c .before .before .before .before .before .before in
-    let start = called .before .before .before .before .before .before .before in
-    set-some (start .pre) (called .queue-unheld .ensures) (called .queue-unheld .kept .1 .1 .0)
+    let start = called .before .before .before .before .before .before .before .before in
+    (start .pre .0, set-some (start .pre .1) (called .queue-unheld .ensures) (called .queue-unheld .kept .1 .1 .0))
 
 write-seen-requires : tie.Need-write-seen-requires
 write-seen-requires c κs = let walked = c .before .before .before .before .before .before in
     let called = walked .before .before .before .before .before .before .before in
-    let start = called .before .before .before .before .before .before .before in
-    set-places (start .pre) (called .queue-unheld .ensures) (walked .walk .kept .1 .1 .1 .1 .1 .0)
+    let start = called .before .before .before .before .before .before .before .before in
+    set-places (start .pre .1) (called .queue-unheld .ensures) (walked .walk .kept .1 .1 .1 .1 .1 .1 .0)
 
 same-length : tie.Need-same-length
 same-length c = search needs
@@ -36,8 +36,8 @@ returns : tie.Need-returns
 returns c = let walked = c .before .before .before .before .before .before .before .before .before in
     let made = walked .before .before .before .before in
     let called = made .before .before .before in
-    let start = called .before .before .before .before .before .before .before in
-    set-written (start .pre) (called .queue-unheld .ensures) _ _ (walked .walk .ensures) (made .bytes .ensures) (called .queue-unheld .kept .1 .1 .0) (walked .walk .kept .1 .1 .1 .1 .1 .0) (c .before .before .write-seen .ensures)
+    let start = called .before .before .before .before .before .before .before .before in
+    set-written (start .pre .1) (called .queue-unheld .ensures) _ _ (walked .walk .ensures) (made .bytes .ensures) (called .queue-unheld .kept .1 .1 .0) (walked .walk .kept .1 .1 .1 .1 .1 .1 .0) (c .before .before .write-seen .ensures)
 
 pub write-set-spec : {M : Type 1} → statement M
 write-set-spec =

@@ -24,7 +24,8 @@ slice-aggregate-walk-2 c = search needs
 
 walk-requires : tie.Need-walk-requires
 walk-requires c κs = let zeros = c .before .before .before .before .before in
-    settle-some (from-settles (zeros .before .before .before .before .before .pre) (zeros .zeros .ensures) (zeros .before .gather .ensures))
+    let start = zeros .before .before .before .before .before .before in
+    (start .pre .0, settle-some (from-settles (start .pre .1) (zeros .zeros .ensures) (zeros .before .gather .ensures)))
 
 same-length : tie.Need-same-length
 same-length c = search needs
@@ -33,7 +34,7 @@ returns : tie.Need-returns
 returns c = let walked = c .before .before .before in
     let made = walked .before .before .before .before .before in
     let zeros = made .before in
-    from-marks (zeros .before .before .before .before .before .pre) (zeros .zeros .ensures) (zeros .before .gather .ensures) _ _ (walked .walk .ensures) (made .bytes .ensures) (walked .walk .kept .1 .1 .1 .1 .1 .0)
+    from-marks (zeros .before .before .before .before .before .before .pre .1) (zeros .zeros .ensures) (zeros .before .gather .ensures) _ _ (walked .walk .ensures) (made .bytes .ensures) (walked .walk .kept .1 .1 .1 .1 .1 .1 .0)
 
 pub walk-from-spec : {M : Type 1} → statement M
 walk-from-spec =

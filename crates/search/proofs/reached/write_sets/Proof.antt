@@ -25,7 +25,7 @@ returns : tie.Need-returns
 returns c = let marked = c .before .before in
     let queued = marked .before .before .before .before .before in
     let walked = queued .before .before .before .before .before in
-    sets-written _ (walked .before .before .before .before .before .before .before .pre) (walked .walk-from .ensures) (queued .write-queued .ensures) (marked .write-marked .ensures)
+    sets-written _ (walked .before .before .before .before .before .before .before .before .pre .1) (walked .walk-from .ensures) (queued .write-queued .ensures) (marked .write-marked .ensures)
 
 pub write-sets-spec : {M : Type 1} → statement M
 write-sets-spec =

@@ -1,44 +1,33 @@
 use borrow.Author.Needs.{needs}
 use Prim.Native.Nat.{_-_}
-use lib.ListN.{length}
-use Rattle.packing.specs.Plant.{at}
-use Rattle.search.proofs.Looks.{Visiting, visit-start, visit-ready, visit-turn, visit-ends, visit-out}
+use Rattle.packing.specs.Plant.{NONE, at}
+use Rattle.search.proofs.Looks.{Visiting, ready-below, visit-start, visit-ready, visit-places, visit-turn, visit-ends, visit-out}
 use Rattle.search.proofs.walk.visit.Statement.{statement}
 use Rattle.search.proofs.walk.visit.Tie as tie
 
 abbrev Inv-loop : tie.InvT-loop
-Inv-loop limits x links rows queue₀ tail from₀ end₀ i₀ queue from end i = Visiting (at limits) x links rows queue₀ tail from₀ queue from end i
+Inv-loop limits x links next rows queue₀ tail from₀ end₀ e₀ queue from end e = Visiting (at limits) x links rows queue₀ tail from₀ queue from end e
 
 abbrev μ-loop : tie.MeasureT-loop
-μ-loop limits x links rows queue₀ tail from₀ end₀ i₀ queue from end i = length links - i
+μ-loop limits x links next rows queue₀ tail from₀ end₀ e₀ queue from end e = NONE - e
+
+first-end-requires : tie.Need-first-end-requires Inv-loop μ-loop
+first-end-requires c κs = let start = c .before .before .before .before .before in
+    (start .pre .0 .places, ready-below (start .pre .1))
 
 loop-holds : tie.Need-loop-holds Inv-loop μ-loop
-loop-holds c = visit-start _ _ _ _ _ _ _
+loop-holds c = let start = c .before .before .before .before .before .before in
+    visit-start _ _ _ _ _ _ _ _ (start .pre .0) (start .pre .1) (c .first-end .ensures)
 
-add-loop : tie.Need-add-loop Inv-loop μ-loop
-add-loop c = search needs
-
-mul-other-end : tie.Need-mul-other-end Inv-loop μ-loop
-mul-other-end c = search needs
-
-shared-slice-read-other-end : tie.Need-shared-slice-read-other-end Inv-loop μ-loop
-shared-slice-read-other-end c = search needs
-
-add-other-end : tie.Need-add-other-end Inv-loop μ-loop
-add-other-end c = search needs
-
-mul-other-end-2 : tie.Need-mul-other-end-2 Inv-loop μ-loop
-mul-other-end-2 c = search needs
-
-shared-slice-read-other-end-2 : tie.Need-shared-slice-read-other-end-2 Inv-loop μ-loop
-shared-slice-read-other-end-2 c = search needs
-
-other-end-requires : tie.Need-other-end-requires Inv-loop μ-loop
-other-end-requires c κs = search needs
+across-requires : tie.Need-across-requires Inv-loop μ-loop
+across-requires c κs = let turn = c .before in
+    let start = turn .before .before .before .before .before .before .before in
+    visit-places _ _ _ _ _ _ _ _ (start .pre .0) (start .pre .1) (turn .loop .inv) (c .loop-test .taken) .0
 
 look-requires : tie.Need-look-requires Inv-loop μ-loop
-look-requires c κs = let turn = c .before .before .before .before .before .before in
-    visit-ready _ _ _ _ _ _ _ (turn .loop .inv) (turn .before .before .before .before .before .pre)
+look-requires c κs = let turn = c .before .before .before .before in
+    let start = turn .before .before .before .before .before .before .before in
+    visit-ready _ _ _ _ _ _ _ _ (start .pre .0) (start .pre .1) (turn .loop .inv)
 
 enum-known-w : tie.Need-enum-known-w Inv-loop μ-loop
 enum-known-w c = search needs
@@ -51,25 +40,36 @@ same-length-2 c = search needs
 
 returns : tie.Need-returns Inv-loop μ-loop
 returns c = let called = c .before .before .before .before .before .before .before in
-    let ends = called .before .before .before in
-    let turn = ends .before .before .before in
-    visit-ends _ _ _ _ _ _ _ (turn .before .loop .inv) (turn .loop-test .taken) (ends .other-end .ensures) (called .look .ensures) (c .before .w .given .1)
+    let across = called .before .before .before in
+    let turn = across .before in
+    let start = turn .before .before .before .before .before .before .before .before in
+    visit-ends _ _ _ _ _ _ _ _ (start .pre .0) (start .pre .1) (turn .before .loop .inv) (turn .loop-test .taken) (across .across .ensures) (called .look .ensures) (c .before .w .given .1)
 
 enum-known-w-2 : tie.Need-enum-known-w-2 Inv-loop μ-loop
 enum-known-w-2 c = search needs
 
-add-i : tie.Need-add-i Inv-loop μ-loop
-add-i c = search needs
+next-end-requires : tie.Need-next-end-requires Inv-loop μ-loop
+next-end-requires c κs = let turn = c .before .before .before .before .before .before .before .before .before .before .before in
+    let start = turn .before .before .before .before .before .before .before .before in
+    visit-places _ _ _ _ _ _ _ _ (start .pre .0) (start .pre .1) (turn .before .loop .inv) (turn .loop-test .taken) .1
 
 loop-less : tie.Need-loop-less Inv-loop μ-loop
-loop-less c = search needs
+loop-less c = let told = c .before in
+    let called = told .before .before .before .before .before .before .before in
+    let across = called .before .before .before in
+    let turn = across .before in
+    let start = turn .before .before .before .before .before .before .before .before in
+    visit-turn _ _ _ _ _ _ _ _ (start .pre .0) (start .pre .1) (turn .before .loop .inv) (turn .loop-test .taken) (across .across .ensures) (called .look .ensures) (told .before .w2 .given .1)
+    (called .look .kept .1 .1 .1 .1 .0, called .look .kept .1 .1 .1 .1 .1 .1 .0) (c .next-end .ensures) .1
 
 loop-again : tie.Need-loop-again Inv-loop μ-loop
-loop-again c = let called = c .before .before .before .before .before .before .before in
-    let ends = called .before .before .before in
-    let turn = ends .before .before .before in
-    visit-turn _ _ _ _ _ _ _ (turn .before .loop .inv) (turn .loop-test .taken) (ends .other-end .ensures) (called .look .ensures) (c .before .w2 .given .1)
-    (called .look .kept .1 .1 .1 .1 .0, called .look .kept .1 .1 .1 .1 .1 .1 .0)
+loop-again c = let told = c .before in
+    let called = told .before .before .before .before .before .before .before in
+    let across = called .before .before .before in
+    let turn = across .before in
+    let start = turn .before .before .before .before .before .before .before .before in
+    visit-turn _ _ _ _ _ _ _ _ (start .pre .0) (start .pre .1) (turn .before .loop .inv) (turn .loop-test .taken) (across .across .ensures) (called .look .ensures) (told .before .w2 .given .1)
+    (called .look .kept .1 .1 .1 .1 .0, called .look .kept .1 .1 .1 .1 .1 .1 .0) (c .next-end .ensures) .0
 
 same-length-3 : tie.Need-same-length-3 Inv-loop μ-loop
 same-length-3 c = search needs
@@ -78,7 +78,8 @@ same-length-4 : tie.Need-same-length-4 Inv-loop μ-loop
 same-length-4 c = search needs
 
 returns-2 : tie.Need-returns-2 Inv-loop μ-loop
-returns-2 c = visit-out _ _ _ _ _ _ _ (c .before .loop .inv) (c .loop-test .left)
+returns-2 c = let start = c .before .before .before .before .before .before .before .before in
+    visit-out _ _ _ _ _ _ _ _ (start .pre .0) (start .pre .1) (c .before .loop .inv) (c .loop-test .left)
 
 pub visit-spec : {M : Type 1} → statement M
 visit-spec =
@@ -86,21 +87,16 @@ visit-spec =
     (tie.spec
     Inv-loop
     μ-loop
+    first-end-requires
     loop-holds
-    add-loop
-    mul-other-end
-    shared-slice-read-other-end
-    add-other-end
-    mul-other-end-2
-    shared-slice-read-other-end-2
-    other-end-requires
+    across-requires
     look-requires
     enum-known-w
     same-length
     same-length-2
     returns
     enum-known-w-2
-    add-i
+    next-end-requires
     loop-less
     loop-again
     same-length-3

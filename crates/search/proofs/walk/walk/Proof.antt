@@ -7,13 +7,13 @@ use Rattle.search.proofs.walk.walk.Statement.{statement}
 use Rattle.search.proofs.walk.walk.Tie as tie
 
 abbrev Inv-loop : tie.InvT-loop
-Inv-loop limits links rows queue₀ tail from₀ end₀ head₀ queue from end head = Walking (at limits) links rows queue₀ tail from₀ queue from end head
+Inv-loop limits links next rows queue₀ tail from₀ end₀ head₀ queue from end head = Walking (at limits) links rows queue₀ tail from₀ queue from end head
 
 abbrev μ-loop : tie.MeasureT-loop
-μ-loop limits links rows queue₀ tail from₀ end₀ head₀ queue from end head = length queue₀ - head
+μ-loop limits links next rows queue₀ tail from₀ end₀ head₀ queue from end head = length queue₀ - head
 
 loop-holds : tie.Need-loop-holds Inv-loop μ-loop
-loop-holds c = walk-start _ _ _ _ _ _ (c .before .before .before .before .pre)
+loop-holds c = walk-start _ _ _ _ _ _ (c .before .before .before .before .before .pre .1)
 
 mul-x : tie.Need-mul-x Inv-loop μ-loop
 mul-x c = search needs
@@ -23,7 +23,8 @@ slice-read-x c = search needs
 
 visit-requires : tie.Need-visit-requires Inv-loop μ-loop
 visit-requires c κs = let turn = c .before .before .before in
-    walk-ready _ _ _ _ _ _ (turn .before .before .before .before .before .before .pre) (turn .before .loop .inv) (turn .loop-test .taken)
+    let start = turn .before .before .before .before .before .before .before in
+    (start .pre .0, walk-ready _ _ _ _ _ _ (start .pre .1) (turn .before .loop .inv) (turn .loop-test .taken))
 
 enum-known-w : tie.Need-enum-known-w Inv-loop μ-loop
 enum-known-w c = search needs
@@ -37,7 +38,7 @@ same-length-2 c = search needs
 returns : tie.Need-returns Inv-loop μ-loop
 returns c = let called = c .before .before .before .before .before .before .before in
     let turn = called .before .before .before .before in
-    walk-ends _ _ _ _ _ _ (turn .before .before .before .before .before .before .pre) (turn .before .loop .inv) (turn .loop-test .taken) (called .visit .ensures) (c .before .w .given .1)
+    walk-ends _ _ _ _ _ _ (turn .before .before .before .before .before .before .before .pre .1) (turn .before .loop .inv) (turn .loop-test .taken) (called .visit .ensures) (c .before .w .given .1)
 
 enum-known-w-2 : tie.Need-enum-known-w-2 Inv-loop μ-loop
 enum-known-w-2 c = search needs
@@ -51,8 +52,8 @@ loop-less c = search needs
 loop-again : tie.Need-loop-again Inv-loop μ-loop
 loop-again c = let called = c .before .before .before .before .before .before .before in
     let turn = called .before .before .before .before in
-    walk-turn _ _ _ _ _ _ (turn .before .before .before .before .before .before .pre) (turn .before .loop .inv) (turn .loop-test .taken) (called .visit .ensures) (c .before .w2 .given .1)
-    (called .visit .kept .1 .1 .1 .1 .0, called .visit .kept .1 .1 .1 .1 .1 .1 .0)
+    walk-turn _ _ _ _ _ _ (turn .before .before .before .before .before .before .before .pre .1) (turn .before .loop .inv) (turn .loop-test .taken) (called .visit .ensures) (c .before .w2 .given .1)
+    (called .visit .kept .1 .1 .1 .1 .1 .0, called .visit .kept .1 .1 .1 .1 .1 .1 .1 .0)
 
 same-length-3 : tie.Need-same-length-3 Inv-loop μ-loop
 same-length-3 c = search needs
@@ -61,8 +62,8 @@ same-length-4 : tie.Need-same-length-4 Inv-loop μ-loop
 same-length-4 c = search needs
 
 returns-2 : tie.Need-returns-2 Inv-loop μ-loop
-returns-2 c = let start = c .before .before .before .before .before .before in
-    walk-out _ _ _ _ _ _ (start .pre) (c .before .loop .inv) (c .loop-test .left)
+returns-2 c = let start = c .before .before .before .before .before .before .before in
+    walk-out _ _ _ _ _ _ (start .pre .1) (c .before .loop .inv) (c .loop-test .left)
 
 pub walk-spec : {M : Type 1} → statement M
 walk-spec =

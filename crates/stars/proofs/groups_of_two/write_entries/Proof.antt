@@ -1,17 +1,17 @@
 -- The entries below v are written.
-use borrow.Author.Needs.{needs}
 use Prim.Native.Nat.{_-_}
 use Rattle.packing.specs.Plant.{at}
-use Rattle.stars.specs.Stars.{notLater, ruleFive}
 use Rattle.packing.proofs.Lists.{Listed, list-start, list-turn, list-end}
+use Rattle.stars.specs.Stars.{notLater, ruleFive}
+use borrow.Author.Needs.{needs}
 use Rattle.stars.proofs.groups_of_two.write_entries.Statement.{statement}
 use Rattle.stars.proofs.groups_of_two.write_entries.Tie as tie
 
 abbrev Inv-loop : tie.InvT-loop
-Inv-loop n places groups out₀ v₀ out v = Listed n (ruleFive (notLater (at places)) n (at groups)) out₀ out v
+Inv-loop n places partners groups out₀ v₀ out v = Listed n (ruleFive (notLater (at places)) n (at groups)) out₀ out v
 
 abbrev μ-loop : tie.MeasureT-loop
-μ-loop n places groups out₀ v₀ out v = n - v
+μ-loop n places partners groups out₀ v₀ out v = n - v
 
 loop-holds : tie.Need-loop-holds Inv-loop μ-loop
 loop-holds c = list-start _ _ _
@@ -36,7 +36,7 @@ loop-less c = search needs
 
 loop-again : tie.Need-loop-again Inv-loop μ-loop
 loop-again c = let turn = c .before in
-    list-turn _ _ _ (turn .before .before .before .before .before .pre) (turn .before .loop .inv) (turn .loop-test .taken) (c .rule-five .ensures)
+    list-turn _ _ _ (turn .before .before .before .before .before .before .pre .2) (turn .before .loop .inv) (turn .loop-test .taken) (c .rule-five .ensures)
 
 same-length : tie.Need-same-length Inv-loop μ-loop
 same-length c = search needs

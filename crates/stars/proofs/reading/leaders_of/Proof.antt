@@ -1,16 +1,16 @@
 -- The array is filled below v.
-use borrow.Author.Needs.{needs}
 use Prim.Native.Nat.{_-_}
 use Rattle.stars.specs.Stars.{leaderOf}
 use Rattle.stars.proofs.Tables.{blank, Filled, fill-start, fill-turn, fill-end}
+use borrow.Author.Needs.{needs}
 use Rattle.stars.proofs.reading.leaders_of.Statement.{statement}
 use Rattle.stars.proofs.reading.leaders_of.Tie as tie
 
 abbrev Inv-loop : tie.InvT-loop
-Inv-loop n holders cycles cuts leading groups₀ v₀ groups v = Filled n (leaderOf n holders) groups v
+Inv-loop n holders nexts leading groups₀ v₀ groups v = Filled n (leaderOf n holders) groups v
 
 abbrev μ-loop : tie.MeasureT-loop
-μ-loop n holders cycles cuts leading groups₀ v₀ groups v = n - v
+μ-loop n holders nexts leading groups₀ v₀ groups v = n - v
 
 zeros-requires : tie.Need-zeros-requires Inv-loop μ-loop
 zeros-requires c κs = search needs
@@ -38,7 +38,7 @@ loop-less c = search needs
 
 loop-again : tie.Need-loop-again Inv-loop μ-loop
 loop-again c = let turn = c .before in
-    fill-turn _ _ (turn .before .before .before .before .before .before .before .pre .few) (turn .before .loop .inv) (turn .loop-test .taken) (c .leader-of .ensures)
+    fill-turn _ _ (turn .before .before .before .before .before .before .pre .few) (turn .before .loop .inv) (turn .loop-test .taken) (c .leader-of .ensures)
 
 returns : tie.Need-returns Inv-loop μ-loop
 returns c = fill-end _ _ (c .before .loop .inv) (c .loop-test .left)

@@ -1,0 +1,70 @@
+-- Building the index of links, end by end: what the index and the list of last places hold once the first e ends of ls are in it.
+use Prim.Native.Nat.{ℕ, _+_, _*_, _<_, _≤_}
+use mathlib.Core.Path.{_≡_}
+use mathlib.Core.Logic.{_⊎_}
+use mathlib.Core.List.{List}
+use lib.ListN.{length}
+use Rattle.packing.specs.Plant.{NONE, GATEWAYS, ENDS, at}
+use Rattle.chains.specs.Index.{SLOTS, rootOf}
+
+-- link i joins two gateways that differ
+pub record JoinsTwo (ls : List ℕ) (i : ℕ) : Type 0 where
+  pub first : at ls (2 * i) < GATEWAYS
+  pub second : at ls (2 * i + 1) < GATEWAYS
+  pub differ : at ls (2 * i) ≡ at ls (2 * i + 1) → ⊥
+
+-- .. as all links of ls do. An odd list's last number is no link.
+unfoldable pub Joining : List ℕ → Type 0
+Joining ls = (i : ℕ) → 2 * i + 1 < length ls → JoinsTwo ls i
+
+-- s is a place of x's chain, and from end k on lie the ends that come after it: its root, or one of the first e ends
+abbrev pub Stands : List ℕ → ℕ → ℕ → ℕ → ℕ → Type 0
+Stands ls e x s k = ((s ≡ rootOf x) × (k ≡ 0)) ⊎ ((s < e) × (at ls s ≡ x) × (k ≡ s + 1))
+
+-- none of the ends from k up to e is x's
+abbrev pub Absent : List ℕ → ℕ → ℕ → ℕ → Type 0
+Absent ls x k e = (i : ℕ) → k ≤ i → i < e → at ls i ≡ x → ⊥
+
+-- i is x's first end from k up to e
+pub record FirstEnd (ls : List ℕ) (e x k i : ℕ) : Type 0 where
+  pub from : k ≤ i
+  pub below : i < e
+  pub here : at ls i ≡ x
+  pub before : Absent ls x k i
+
+-- i is x's first end from k up to e, or 65535 where there is none
+abbrev pub FirstOrNone : List ℕ → ℕ → ℕ → ℕ → ℕ → Type 0
+FirstOrNone ls e x k i = ((i ≡ NONE) × Absent ls x k e) ⊎ FirstEnd ls e x k i
+
+-- s is the last place of x's chain
+abbrev pub LastPlace : List ℕ → ℕ → ℕ → ℕ → Type 0
+LastPlace ls e x s = (k : ℕ) × Stands ls e x s k × Absent ls x k e
+
+-- the first e ends of ls are in the chains: each place of a chain has the end that comes next, last has each gateway's last place, and the places of later ends are unused
+pub record Hung (ls : List ℕ) (e : ℕ) (next last : List ℕ) : Type 0 where
+  pub chain : (x s k : ℕ) → x < GATEWAYS → Stands ls e x s k → FirstOrNone ls e x k (at next s)
+  pub tail : (x : ℕ) → x < GATEWAYS → LastPlace ls e x (at last x)
+  pub unused : (s : ℕ) → e ≤ s → s < ENDS → at next s ≡ NONE
+
+-- the lists that the first m links of ls are in
+pub record Built (ls : List ℕ) (m : ℕ) (next last : List ℕ) : Type 0 where
+  pub long : length ls ≤ ENDS
+  pub room : 2 * m ≤ length ls
+  pub places : length next ≡ SLOTS
+  pub gateways : length last ≡ GATEWAYS
+  pub joining : (i : ℕ) → i < m → JoinsTwo ls i
+  pub hung : Hung ls (2 * m) next last
+
+-- .. where there is a link m, the next to go in
+pub record Ready (ls : List ℕ) (m : ℕ) (next last : List ℕ) : Type 0 where
+  pub built : Built ls m next last
+  pub more : 2 * m + 1 < length ls
+  pub two : JoinsTwo ls m
+
+-- .. where there are places for link m, which is to join a and b
+pub record Adding (ls : List ℕ) (m a b : ℕ) (next last : List ℕ) : Type 0 where
+  pub built : Built ls m next last
+  pub more : 2 * m + 1 < length ls
+  pub first : a < GATEWAYS
+  pub second : b < GATEWAYS
+  pub differ : a ≡ b → ⊥

@@ -1,0 +1,58 @@
+-- A loop that writes the front of a list: packing's laws of lists.
+use borrow.Author.Needs.{needs}
+use Prim.Native.Nat.{_-_}
+use mathlib.Core.Path.{refl}
+use Rattle.packing.specs.Orders.{upTo}
+use Rattle.packing.proofs.Lists.{Listed, list-start, list-turn, list-end}
+use Rattle.lists.proofs.fill.with_places.Statement.{statement}
+use Rattle.lists.proofs.fill.with_places.Tie as tie
+
+abbrev Inv-loop : tie.InvT-loop
+Inv-loop n list₀ i₀ list i = Listed n (λ j. j) list₀ list i
+
+abbrev μ-loop : tie.MeasureT-loop
+μ-loop n list₀ i₀ list i = n - i
+
+loop-holds : tie.Need-loop-holds Inv-loop μ-loop
+loop-holds c = list-start _ _ _
+
+cast-list : tie.Need-cast-list Inv-loop μ-loop
+cast-list c = search needs
+
+mul-list : tie.Need-mul-list Inv-loop μ-loop
+mul-list c = search needs
+
+slice-write-list : tie.Need-slice-write-list Inv-loop μ-loop
+slice-write-list c = search needs
+
+add-i : tie.Need-add-i Inv-loop μ-loop
+add-i c = search needs
+
+loop-less : tie.Need-loop-less Inv-loop μ-loop
+loop-less c = search needs
+
+loop-again : tie.Need-loop-again Inv-loop μ-loop
+loop-again c = list-turn _ _ _ (c .before .before .pre .1) (c .before .loop .inv) (c .loop-test .taken) refl
+
+same-length : tie.Need-same-length Inv-loop μ-loop
+same-length c = search needs
+
+returns : tie.Need-returns Inv-loop μ-loop
+unfolding upTo
+returns c = list-end _ _ _ (c .before .loop .inv) (c .loop-test .left)
+
+pub with-places-spec : {M : Type 1} → statement M
+with-places-spec =
+    tie.close
+    (tie.spec
+    Inv-loop
+    μ-loop
+    loop-holds
+    cast-list
+    mul-list
+    slice-write-list
+    add-i
+    loop-less
+    loop-again
+    same-length
+    returns)
