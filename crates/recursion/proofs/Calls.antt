@@ -77,3 +77,6 @@ module _ (n : ℕ) (limit : ℕ → ℕ) (ls hs : List ℕ) (room : n ≤ length
 
   pub find-ended : (calls : ℕ) → Find calls
   find-ended calls = both calls .0
+
+  pub free-ended : (calls : ℕ) → Free calls
+  free-ended calls = both calls .1

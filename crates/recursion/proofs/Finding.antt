@@ -1,112 +1,207 @@
--- The loop over v's links: each call in it is the next of the model's, and what is left of the model gives what the whole gives.
-use Prim.Native.Nat.{ℕ, suc, _+_, _*_, _<_, _≤_}
+-- The loop over v's links, along its chain: each call in it is the next of the model's, and what is left of the model gives what the whole gives.
+use Prim.Native.Nat.{ℕ, suc, _+_, _-_, _*_, _/_, _<_, _≤_}
 use mathlib.Core.Path.{_≡_, refl, sym, ap, _∙_}
-use mathlib.Core.Bool.{Bool, true, false, cond, true≢false}
-use mathlib.Core.List.{List, [], _∷_}
+use mathlib.Core.Bool.{Bool, true, false, not}
+use mathlib.Core.List.{List}
 use native.Mathlib.Omega.{arith}
 use lib.Dec.{eqb}
 use lib.ListN.{length, set, drop, length-set}
-use borrow.Author.Tests.{eq-eqb, ne-eqb}
-use Rattle.packing.specs.Plant.{NONE, GATEWAYS, at, neighbours}
-use Rattle.packing.proofs.Tests.{by-bool, not-i, not-i-false}
-use Rattle.packing.proofs.Flat.{pair-at, pair-end}
-use Rattle.search.proofs.States.{none-seen}
-use Rattle.recursion.specs.Recursion.{Try, failed, tried, mark, orElse, tryEach, takes, unlessTried, findHolder, freePlace}
-use Rattle.recursion.specs.Pre.{untried, asTry}
-use Rattle.recursion.proofs.Marks.{untried-falls}
-use Rattle.recursion.proofs.Promises.{FoundBy, FreedBy, one-more}
+use borrow.Author.Tests.{eqb-true, eq-eqb, ne-eqb}
+use Rattle.packing.specs.Count.{pick}
+use Rattle.packing.specs.Plant.{NONE, GATEWAYS, HIGHEST, at, neighbours}
+use Rattle.packing.specs.Holders.{holds}
+use Rattle.packing.specs.Moved.{moved}
+use Rattle.packing.proofs.Tests.{by-bool, iff-test, not-i, not-i-false}
+use Rattle.packing.proofs.Sums.{count-ext}
+use Rattle.packing.proofs.Moved.{moved-one}
+use Rattle.chains.specs.Index.{rootOf, mate, EndOf}
+use Rattle.chains.proofs.Following.{Standing, chain-first, chain-next, chain-end, chain-there, chain-places}
+use Rattle.search.specs.Pre.{TableOf}
+use Rattle.search.specs.RowPre.{Taken}
+use Rattle.search.proofs.States.{seen-kept}
+use Rattle.search.proofs.Taken.{taken-here, taken-other}
+use Rattle.search.proofs.RowMoves.{table-moved}
+use Rattle.recursion.specs.Recursion.{Try, tried, mark, orElse, tryEach, takes, unlessTried, findHolder, freePlace}
+use Rattle.recursion.specs.Pre.{untried, asTry, Working, SmallLimits}
+use Rattle.recursion.proofs.Marks.{untried-below, untried-falls, marked}
+use Rattle.recursion.proofs.Freed.{FreedAt, own-kept}
+use Rattle.recursion.proofs.Promises.{FoundBy, FoundRows, FreedBy, FreedRows, one-more, one-at-least, working-below, free-grown, free-freed}
 
--- one link: its other end is tried, where NONE stands for a link that v is no end of
-link-try : (attempt : ℕ → List ℕ → Try) (v a b : ℕ) (rest marks : List ℕ) {u : ℕ} → length marks ≤ GATEWAYS → u ≡ cond (eqb a v) b (cond (eqb b v) a NONE)
-    → tryEach (unlessTried attempt) (neighbours (a ∷ b ∷ rest) v) marks ≡ orElse (unlessTried attempt u marks) (tryEach (unlessTried attempt) (neighbours rest v))
-unfolding tryEach neighbours
-link-try attempt v a b rest marks few e =
-    by-bool (eqb a v) (λ p. rw (e, p)) (λ p. by-bool (eqb b v) (λ q. rw (e, p, q)) (λ q. rw (e, p, q, none-seen marks few)))
+-- the number moved, either way round
+moved-back : (n : ℕ) (h h' : ℕ → ℕ) → moved n h h' ≡ moved n h' h
+unfolding moved
+moved-back n h h' = count-ext n (λ w. not (eqb (h w) (h' w))) (λ w. not (eqb (h' w) (h w))) (λ w l. ap not (iff-test (eqb (h w) (h' w)) (eqb (h' w) (h w)) (λ e. eq-eqb (h' w) (h w) (sym (eqb-true (h w) (h' w) e))) (λ e. eq-eqb (h w) (h' w) (sym (eqb-true (h' w) (h w) e)))))
 
-short-try : (attempt : ℕ → List ℕ → Try) (v : ℕ) (ls marks : List ℕ) → length ls ≤ 1 → tryEach attempt (neighbours ls v) marks ≡ failed marks
-unfolding tryEach neighbours
-short-try attempt v [] marks h = refl
-short-try attempt v (a ∷ []) marks h = refl
-short-try attempt v (a ∷ b ∷ ls) marks h = absurd (omega arith)
-
--- the loop over v's links, before link i / 2
-pub record Finding (n : ℕ) (limit : ℕ → ℕ) (ls : List ℕ) (v : ℕ) (hs₀ marks₀ hs marks : List ℕ) (i : ℕ) : Type 0 where
-  pub upto : i ≤ length ls
-  pub few : length marks ≤ GATEWAYS
-  pub long : length marks ≡ length marks₀
+-- the loop over v's links, before the link with v's end at place e
+pub record Finding (n : ℕ) (limit : ℕ → ℕ) (ls : List ℕ) (v : ℕ) (rows₀ : List (List ℕ)) (hs₀ marks₀ : List ℕ) (rows : List (List ℕ)) (hs marks : List ℕ) (e : ℕ) : Type 0 where
+  pub standing : Standing ls v e
+  pub long : length marks ≡ n
   pub unchanged : hs ≡ hs₀
+  pub same : rows ≡ rows₀
+  pub own : tried marks (at hs₀ v) ≡ true
   pub fewer : untried marks ≤ untried marks₀
   pub rest : (calls : ℕ) → 2 * untried marks₀ ≤ calls
-      → tryEach (unlessTried (λ u now. takes v u (freePlace calls n limit ls hs₀ u now))) (neighbours (drop i ls) v) marks ≡ findHolder (suc calls) n limit ls hs₀ v marks₀
+      → tryEach (unlessTried (λ u now. takes v u (freePlace calls n limit ls hs₀ u now))) (neighbours (drop (2 * (e / 2)) ls) v) marks ≡ findHolder (suc calls) n limit ls hs₀ v marks₀
 
-module _ (n : ℕ) (limit : ℕ → ℕ) (ls : List ℕ) (v : ℕ) (hs₀ marks₀ : List ℕ) where
-  whole : ℕ → Try
-  whole calls = findHolder calls n limit ls hs₀ v marks₀
+module _
+    (n : ℕ) (limit : ℕ → ℕ) (ls next : List ℕ) (v : ℕ) (rows₀ : List (List ℕ)) (hs₀ marks₀ : List ℕ) (size : length marks₀ ≡ n)
+    (w : Working v (at hs₀ v) ls next rows₀ hs₀ marks₀)
+  where
+    whole : ℕ → Try
+    whole calls = findHolder calls n limit ls hs₀ v marks₀
 
-  pub finding-start : length marks₀ ≤ GATEWAYS → Finding n limit ls v hs₀ marks₀ hs₀ marks₀ 0
-  unfolding findHolder
-  finding-start few = record { upto = omega arith; few = few; long = refl; unchanged = refl; fewer = omega arith; rest = λ calls l. refl }
+    few : n ≤ GATEWAYS
+    few = rw (← size) (w .few)
 
-  pub finding-out : {hs marks : List ℕ} {i : ℕ} → Finding n limit ls v hs₀ marks₀ hs marks i → length ls ≤ i + 1 → FoundBy n limit ls v hs₀ marks₀ false hs marks
-  unfolding whole
-  finding-out {marks = marks} {i} f l =
-      record { is = one-more whole (2 * untried marks₀) (λ calls k. sym (short-try _ v (drop i ls) marks (pair-end ls i l)) ∙ f .rest calls k); unchanged = λ e. f .unchanged; fewer = f .fewer }
+    room : n ≤ length hs₀
+    room = rw (← size) (w .holders)
 
-  module _
-      {hs marks : List ℕ} {i u : ℕ} (f : Finding n limit ls v hs₀ marks₀ hs marks i) (l : i + 1 < length ls)
-      (e : u ≡ cond (eqb (at ls i) v) (at ls (i + 1)) (cond (eqb (at ls (i + 1)) v) (at ls i) NONE)) {k : ℕ} (is : k ≡ at marks u)
-    where
-      -- the model's next is u
-      step : (calls : ℕ) → 2 * untried marks₀ ≤ calls
-          → orElse (unlessTried (λ w now. takes v w (freePlace calls n limit ls hs₀ w now)) u marks)
-          (tryEach (unlessTried (λ w now. takes v w (freePlace calls n limit ls hs₀ w now))) (neighbours (drop (i + 2) ls) v))
-          ≡ findHolder (suc calls) n limit ls hs₀ v marks₀
-      step calls q =
-          sym (link-try (λ w now. takes v w (freePlace calls n limit ls hs₀ w now)) v (at ls i) (at ls (i + 1)) (drop (i + 2) ls) marks (f .few) e)
-          ∙ (rw (pair-at ls i l) at (f .rest calls q))
+    inside : v < n
+    inside = rw (← size) (w .inside)
 
-      -- it was tried before
-      pub finding-passed : (k ≡ NONE → ⊥) → Finding n limit ls v hs₀ marks₀ hs marks (i + 2)
-      finding-passed some =
-          let was : tried marks u ≡ true = not-i _ (ne-eqb (at marks u) NONE (λ q. some (is ∙ q))) in
-          record { upto = omega arith; few = f .few; long = f .long; unchanged = f .unchanged; fewer = f .fewer; rest = λ calls q. rw was at (step calls q) }
+    table : TableOf n hs₀ rows₀
+    table = rw size at (w .table)
 
-      module _ (none : k ≡ NONE) {now : List ℕ} (marked : now ≡ set marks u 0) where
-        was : tried marks u ≡ false
-        was = not-i-false _ (eq-eqb (at marks u) NONE (sym is ∙ none))
+    below : v < GATEWAYS
+    below = working-below w .1
 
-        falls : untried marks ≡ untried now + 1
-        falls = rw marked (untried-falls marks u was)
+    pub finding-start : {e : ℕ} → e ≡ at next (rootOf v) → Finding n limit ls v rows₀ hs₀ marks₀ rows₀ hs₀ marks₀ e
+    unfolding findHolder
+    finding-start q =
+        let (same, standing) = chain-first (w .index) below in
+        record { standing = rw q standing; long = size; unchanged = refl; same = refl; own = w .own; fewer = omega arith; rest = λ calls l. rw (q, ← same) }
 
-        -- "the count of untried neighbours falls"
-        pub finding-less : 2 * untried now + 2 < 2 * untried marks₀ + 1
-        finding-less = omega (arith, falls, f .fewer)
+    module _ {rows : List (List ℕ)} {hs marks : List ℕ} {e : ℕ} (f : Finding n limit ls v rows₀ hs₀ marks₀ rows hs marks e) where
+      pub finding-out : e ≡ NONE → FoundBy n limit ls v hs₀ marks₀ 0 hs marks × FoundRows n limit v hs₀ 0 hs rows₀ rows
+      unfolding whole tryEach
+      finding-out q = (
+        record {
+          is = one-more whole (2 * untried marks₀) (λ calls l. rw (chain-end (w .index) below q) at (f .rest calls l));
+          unchanged = λ z. f .unchanged;
+          fewer = f .fewer;
+          counted = λ some. absurd (some refl);
+        },
+        record { unchanged = λ z. f .same; kept = λ fit. rw (f .same, f .unchanged) (table .is) },
+      )
 
-        pub finding-few : length now ≤ GATEWAYS
-        finding-few = rw (marked, length-set) (f .few)
+      -- a chain that is not at its end is at an end of v
+      module _ (some : e ≡ NONE → ⊥) where
+        finding-there : EndOf ls v e
+        finding-there = chain-there (w .index) below (f .standing) some
 
-        module _ {b : Bool} {hs' marks' : List ℕ} (d : FreedBy n limit ls u hs now b hs' marks') where
-          called : (calls : ℕ) → 2 * untried marks₀ ≤ calls → asTry b hs' marks' ≡ freePlace calls n limit ls hs₀ u (mark marks u)
-          called calls q = rw (← f .unchanged, ← marked) (d .is calls (omega (arith, falls, f .fewer)))
+        pub finding-places : (mate e < length ls) × (e < length next)
+        finding-places = chain-places (w .index) below (f .standing) some
 
-          -- no place was freed there
-          pub finding-next : b ≡ false → length marks' ≡ length now → Finding n limit ls v hs₀ marks₀ hs' marks' (i + 2)
-          finding-next none' long =
-              record {
-                upto = omega arith;
-                few = omega (arith, long, finding-few);
-                long = long ∙ ap length marked ∙ length-set marks u 0 ∙ f .long;
-                unchanged = d .unchanged none' ∙ f .unchanged;
-                fewer = omega (arith, d .fewer, falls, f .fewer);
-                rest = λ calls q. rw (was, ← called calls q, none') at (step calls q);
-              }
+        module _ {e' : ℕ} (later : e' ≡ at next e) where
+          -- fewer links are left
+          pub finding-on : NONE - e' < NONE - e
+          finding-on = let on : e < e' = rw later (chain-next (w .index) below finding-there .2) in omega (arith, finding-there .inside, w .index .long)
 
-          -- one was: v gets u as its holder
-          pub finding-found : b ≡ true → {new : List ℕ} → new ≡ set hs' v u → FoundBy n limit ls v hs₀ marks₀ true new marks'
-          unfolding whole
-          finding-found some is' =
-              record {
-                is = one-more whole (2 * untried marks₀) (λ calls q. rw is' (rw (was, ← called calls q, some) at (step calls q)));
-                unchanged = λ q. absurd (true≢false q);
-                fewer = omega (arith, d .fewer, falls, f .fewer);
-              }
+          -- what is known with the marks then, before the next link
+          turn : {rows' : List (List ℕ)} {hs' marks' : List ℕ} → length marks' ≡ n → hs' ≡ hs₀ → rows' ≡ rows₀ → tried marks' (at hs₀ v) ≡ true → untried marks' ≤ untried marks₀
+              → ((calls : ℕ) → 2 * untried marks₀ ≤ calls
+              → tryEach (unlessTried (λ u now. takes v u (freePlace calls n limit ls hs₀ u now))) (neighbours (drop (2 * (at next e / 2)) ls) v) marks' ≡ findHolder (suc calls) n limit ls hs₀ v marks₀)
+              → Finding n limit ls v rows₀ hs₀ marks₀ rows' hs' marks' e'
+          turn long unchanged same own fewer rest =
+              record { standing = rw later (chain-next (w .index) below finding-there .1); long = long; unchanged = unchanged; same = same; own = own; fewer = fewer; rest = λ calls q. rw later (rest calls q) }
+
+        module _ {u : ℕ} (its : u ≡ at ls (mate e)) {k : ℕ} (is : k ≡ at marks u) where
+          -- the model's next is u
+          step : (calls : ℕ) → 2 * untried marks₀ ≤ calls
+              → orElse (unlessTried (λ y now. takes v y (freePlace calls n limit ls hs₀ y now)) u marks)
+              (tryEach (unlessTried (λ y now. takes v y (freePlace calls n limit ls hs₀ y now))) (neighbours (drop (2 * (at next e / 2)) ls) v))
+              ≡ findHolder (suc calls) n limit ls hs₀ v marks₀
+          unfolding tryEach
+          step calls q = rw (chain-next (w .index) below finding-there .0, ← its) at (f .rest calls q)
+
+          -- it was tried before
+          pub finding-passed : {e' : ℕ} → e' ≡ at next e → (k ≡ NONE → ⊥) → Finding n limit ls v rows₀ hs₀ marks₀ rows hs marks e'
+          finding-passed later mark' =
+              let was : tried marks u ≡ true = not-i _ (ne-eqb (at marks u) NONE (λ q. mark' (is ∙ q))) in
+              turn later (f .long) (f .unchanged) (f .same) (f .own) (f .fewer) (λ calls q. rw was at (step calls q))
+
+          module _ (none : k ≡ NONE) {now : List ℕ} (set-now : now ≡ set marks u 0) where
+            was : tried marks u ≡ false
+            was = not-i-false _ (eq-eqb (at marks u) NONE (sym is ∙ none))
+
+            falls : untried marks ≡ untried now + 1
+            falls = rw set-now (untried-falls marks u was)
+
+            now-long : length now ≡ n
+            now-long = rw (set-now, length-set) (f .long)
+
+            u-below : u < n
+            u-below = rw (← f .long) (untried-below marks u was)
+
+            -- "the count of untried neighbours falls"
+            pub finding-less : 2 * untried now + 2 < 2 * untried marks₀ + 1
+            finding-less = omega (arith, falls, f .fewer)
+
+            pub finding-works : Working u u ls next rows hs now
+            finding-works =
+                record {
+                  few = rw now-long few;
+                  holders = rw (now-long, f .unchanged) room;
+                  index = w .index;
+                  table = rw (now-long, f .unchanged, f .same) table;
+                  inside = rw now-long u-below;
+                  own = rw set-now (marked marks u was);
+                }
+
+            module _ {j : ℕ} {hs' marks' : List ℕ} (d : FreedBy (length now) limit ls u hs now j hs' marks') where
+              promise : FreedBy n limit ls u hs₀ (mark marks u) j hs' marks'
+              promise = rw (now-long, f .unchanged, set-now) at d
+
+              called : (calls : ℕ) → 2 * untried marks₀ ≤ calls → asTry j hs' marks' ≡ freePlace calls n limit ls hs₀ u (mark marks u)
+              called calls q = promise .is calls (omega (arith, untried-falls marks u was, f .fewer))
+
+              -- no place was freed there
+              pub finding-next : {rows' : List (List ℕ)} → FreedRows (length now) limit j hs' rows rows' → j ≡ 0 → length marks' ≡ length now → {e' : ℕ} → e' ≡ at next e → Finding n limit ls v rows₀ hs₀ marks₀ rows' hs' marks' e'
+              finding-next r zero' long later =
+                  let grown = free-grown n limit ls hs₀ room (rw length-set (f .long)) u u-below (marked marks u was) promise zero' in
+                  turn later (long ∙ now-long) (promise .unchanged zero') (r .unchanged zero' ∙ f .same) (grown .stay (at hs₀ v) (seen-kept marks u 0 (at hs₀ v) was (f .own)))
+                  (omega (arith, promise .fewer, untried-falls marks u was, f .fewer)) (λ calls q. rw (was, ← called calls q, zero') at (step calls q))
+
+              -- one was: v gets u as its holder, and loses its old one, which had nothing to do with that
+              module _ (freed' : j ≡ 0 → ⊥) where
+                freed-there : FreedAt n limit ls hs₀ u (mark marks u) hs'
+                freed-there = free-freed n limit ls hs₀ room (rw length-set (f .long)) u u-below (marked marks u was) promise freed'
+
+                room' : n ≤ length hs'
+                room' = omega (arith, freed-there .long, room)
+
+                mine : (at hs' v ≡ at hs₀ v) × (at hs₀ v ≡ u → ⊥)
+                mine = own-kept n limit ls hs₀ v u marks hs' was (f .own) freed-there
+
+                one-more-moved : moved n (at hs₀) (at (set hs' v u)) ≡ suc (moved n (at hs₀) (at hs'))
+                one-more-moved =
+                    moved-back n (at hs₀) (at (set hs' v u))
+                    ∙ moved-one n (at (set hs' v u)) (at hs') (at hs₀) v inside (λ y other. sym (taken-other n hs' v u room' inside y other)) (sym (mine .0)) (λ q. mine .1 (sym q ∙ taken-here n hs' v u room' inside))
+                    ∙ ap suc (moved-back n (at hs') (at hs₀))
+
+                -- whoever holds no more than a row has places, holds no more then
+                within : SmallLimits n limit → (y : ℕ) → holds n (at hs₀) y ≤ HIGHEST → holds n (at hs') y ≤ HIGHEST
+                within small y h =
+                    by-bool (eqb (freed-there .place) y)
+                    (λ q. rw (← eqb-true (freed-there .place) y q)
+                    (omega (arith, freed-there .loads (freed-there .place), freed-there .room, small (freed-there .place) (freed-there .below), ap (λ (b : Bool). pick b 1) (eq-eqb (freed-there .place) (freed-there .place) refl))))
+                    (λ q. omega (arith, freed-there .loads y, ap (λ (b : Bool). pick b 1) q))
+
+                pub finding-found : {rows' newRows : List (List ℕ)} {new : List ℕ} {old : ℕ} → FreedRows (length now) limit j hs' rows rows' → Taken v u hs' new rows' newRows old
+                    → FoundBy n limit ls v hs₀ marks₀ j new marks' × FoundRows n limit v hs₀ j new rows₀ newRows
+                unfolding whole
+                finding-found {rows'} r t =
+                    let left : FreedRows n limit j hs' rows rows' = rw now-long at r in (
+                      record {
+                        is = one-more whole (2 * untried marks₀) (λ calls q. rw (t .holders, one-at-least j freed') (rw (was, ← called calls q, one-at-least j freed') at (step calls q)));
+                        unchanged = λ q. absurd (freed' q);
+                        fewer = omega (arith, promise .fewer, untried-falls marks u was, f .fewer);
+                        counted = λ q. rw (t .holders, one-more-moved) (promise .counted freed');
+                      },
+                      record {
+                        unchanged = λ q. absurd (freed' q);
+                        kept = λ fit.
+                            rw (t .table, t .holders)
+                            (table-moved n hs' v u few room' inside (rw (mine .0) (λ l. within (fit .limits) (at hs₀ v) (fit .own l))) (left .kept (fit .limits)));
+                      },
+                    )

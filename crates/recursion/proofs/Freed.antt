@@ -85,6 +85,14 @@ module _ (n : ℕ) (limit : ℕ → ℕ) (ls hs : List ℕ) where
         past = f .past;
       }
 
+  -- where a place is freed at u, which was not tried, v keeps its old holder, which was: it is not u
+  module _ (v u : ℕ) (marks hs' : List ℕ) (e : tried marks u ≡ false) where
+    apart : (w : ℕ) → tried marks (at hs w) ≡ true → at hs w ≡ u → ⊥
+    apart w q r = clash (tried marks u) (rw r at q) e
+
+    pub own-kept : tried marks (at hs v) ≡ true → FreedAt u (mark marks u) hs' → (at hs' v ≡ at hs v) × (at hs v ≡ u → ⊥)
+    own-kept t f = (f .keeps v (ne-eqb (at hs v) u (apart v t)) (seen-kept marks u 0 (at hs v) e t), apart v t)
+
   -- v gets u as its holder, where a place is freed at u
   pub found-by : (v u : ℕ) (marks hs' : List ℕ) → v < n → n ≤ length hs → u < n → tried marks u ≡ false → tried marks (at hs v) ≡ true → linked ls v u ≡ true
       → FreedAt u (mark marks u) hs' → FoundFor v marks (set hs' v u)
@@ -94,7 +102,7 @@ module _ (n : ℕ) (limit : ℕ → ℕ) (ls hs : List ℕ) where
         below = f .below;
         room = f .room;
         loads = λ y. omega (arith, f .loads y, taken-holds n hs' v u long' inside y, ap (λ (k : ℕ). pick (eqb k y) 1) own);
-        keeps = λ w m q. taken-other n hs' v u long' inside w (eqb-false w v m) ∙ f .keeps w (apart w q) (seen-kept marks u 0 (at hs w) e q);
+        keeps = λ w m q. taken-other n hs' v u long' inside w (eqb-false w v m) ∙ f .keeps w (ne-eqb (at hs w) u (apart v u marks hs' e w q)) (seen-kept marks u 0 (at hs w) e q);
         entries = λ w.
             by-bool (eqb w v) (λ q. inr (rw (eqb-true w v q, taken-here n hs' v u long' inside) (l, link)))
             (λ q. rw (taken-other n hs' v u long' inside w (eqb-false w v q)) (f .entries w));
@@ -106,8 +114,5 @@ module _ (n : ℕ) (limit : ℕ → ℕ) (ls hs : List ℕ) where
       long' : n ≤ length hs'
       long' = omega (arith, f .long)
 
-      apart : (w : ℕ) → tried marks (at hs w) ≡ true → eqb (at hs w) u ≡ false
-      apart w q = ne-eqb (at hs w) u (λ r. clash (tried marks u) (rw r at q) e)
-
       own : at hs' v ≡ at hs v
-      own = f .keeps v (apart v t) (seen-kept marks u 0 (at hs v) e t)
+      own = own-kept v u marks hs' e t f .0

@@ -1,107 +1,178 @@
--- The loop over what u holds, ascending: each call in it is the next of the model's, and what is left of the model gives what the whole gives.
-use Prim.Native.Nat.{ℕ, suc, _+_, _-_, _*_, _<_, _≤_}
-use mathlib.Core.Path.{_≡_, refl, sym, _∙_}
-use mathlib.Core.Bool.{Bool, true, false, true≢false}
-use mathlib.Core.List.{List}
+-- The loop over what u holds, along its row: each call in it is the next of the model's, and what is left of the model gives what the whole gives.
+use Prim.Native.Nat.{ℕ, suc, _+_, _*_, _<_, _≤_}
+use mathlib.Core.Path.{_≡_, refl, sym, ap, _∙_}
+use mathlib.Core.Bool.{Bool, true, false}
+use mathlib.Core.List.{List, [], _∷_}
 use native.Mathlib.Numerals.{add-one}
 use native.Mathlib.Omega.{arith}
-use lib.Dec.{eqb}
-use lib.ListN.{length}
-use borrow.Author.Tests.{eq-eqb, ne-eqb, le-ltb, lt-ltb}
-use Rattle.packing.specs.Count.{count}
-use Rattle.packing.specs.Plant.{GATEWAYS, at}
+use lib.Dec.{eqb, ltb}
+use lib.ListN.{length, drop}
+use borrow.Author.Tests.{eq-eqb}
+use Rattle.packing.specs.Lists.{memberOf}
+use Rattle.packing.specs.Plant.{NONE, GATEWAYS, HIGHEST, at}
 use Rattle.packing.specs.Holders.{holds}
-use Rattle.packing.proofs.Lists.{whereFrom, where-all}
+use Rattle.packing.proofs.Tests.{or-l, or-r}
+use Rattle.packing.proofs.Moved.{moved-none, moved-bound}
 use Rattle.search.specs.Search.{heldBy}
-use Rattle.recursion.specs.Recursion.{Try, orElse, tryEach, findHolder, freePlace}
-use Rattle.recursion.specs.Pre.{untried, asTry}
-use Rattle.recursion.proofs.Promises.{FoundBy, FreedBy, one-more}
+use Rattle.search.specs.Table.{rowAt}
+use Rattle.search.specs.Pre.{TableOf, inRow, rowHasPlace}
+use Rattle.search.proofs.Queue.{heldBy-out}
+use Rattle.search.proofs.Rows.{table-holds, table-place, row-long}
+use Rattle.search.proofs.Joining.{from-place, free-place, past-end}
+use Rattle.recursion.specs.Recursion.{Try, tried, orElse, tryEach, findHolder, freePlace}
+use Rattle.recursion.specs.Pre.{untried, asTry, Working}
+use Rattle.recursion.proofs.Promises.{FoundBy, FoundRows, FreedBy, FreedRows, one-more, one-at-least, working-below, find-grown}
 
--- the loop over what u holds, before x
-pub record Freeing (n : ℕ) (limit : ℕ → ℕ) (ls : List ℕ) (u : ℕ) (hs₀ marks₀ hs marks : List ℕ) (x : ℕ) : Type 0 where
-  pub upto : x ≤ n
-  pub few : length marks ≤ GATEWAYS
-  pub long : length marks ≡ length marks₀
+-- the loop over what u holds, before place i of its row
+pub record Freeing (n : ℕ) (limit : ℕ → ℕ) (ls : List ℕ) (u : ℕ) (rows₀ : List (List ℕ)) (hs₀ marks₀ : List ℕ) (rows : List (List ℕ)) (hs marks : List ℕ) (i : ℕ) : Type 0 where
+  pub long : length marks ≡ n
   pub unchanged : hs ≡ hs₀
+  pub same : rows ≡ rows₀
+  pub own : tried marks u ≡ true
   pub fewer : untried marks ≤ untried marks₀
+  pub theirs : (y : ℕ) → memberOf (inRow (drop i (rowAt rows₀ u))) y ≡ true → (y < n) × (at hs₀ y ≡ u)
   pub rest : (calls : ℕ) → 2 * untried marks₀ + 1 ≤ calls
-      → tryEach (λ y now. findHolder calls n limit ls hs₀ y now) (whereFrom (n - x) x (λ y. eqb (at hs₀ y) u)) marks ≡ freePlace (suc calls) n limit ls hs₀ u marks₀
+      → tryEach (λ y now. findHolder calls n limit ls hs₀ y now) (inRow (drop i (rowAt rows₀ u))) marks ≡ freePlace (suc calls) n limit ls hs₀ u marks₀
 
-module _ (n : ℕ) (limit : ℕ → ℕ) (ls : List ℕ) (u : ℕ) (hs₀ marks₀ : List ℕ) where
-  whole : ℕ → Try
-  whole calls = freePlace calls n limit ls hs₀ u marks₀
+module _
+    (n : ℕ) (limit : ℕ → ℕ) (ls next : List ℕ) (u : ℕ) (rows₀ : List (List ℕ)) (hs₀ marks₀ : List ℕ) (size : length marks₀ ≡ n) (w : Working u u ls next rows₀ hs₀ marks₀)
+  where
+    whole : ℕ → Try
+    whole calls = freePlace calls n limit ls hs₀ u marks₀
 
-  freed-calls : (b : Bool) (hs marks : List ℕ) → ((calls : ℕ) → 2 * untried marks₀ + 1 ≤ calls → asTry b hs marks ≡ freePlace (suc calls) n limit ls hs₀ u marks₀)
-      → (calls : ℕ) → 2 * untried marks₀ + 2 ≤ calls → asTry b hs marks ≡ freePlace calls n limit ls hs₀ u marks₀
-  unfolding whole
-  freed-calls b hs marks f calls l = one-more whole (2 * untried marks₀ + 1) f calls (omega arith)
+    freed-calls : (k : ℕ) (hs marks : List ℕ) → ((calls : ℕ) → 2 * untried marks₀ + 1 ≤ calls → asTry k hs marks ≡ freePlace (suc calls) n limit ls hs₀ u marks₀)
+        → (calls : ℕ) → 2 * untried marks₀ + 2 ≤ calls → asTry k hs marks ≡ freePlace calls n limit ls hs₀ u marks₀
+    unfolding whole
+    freed-calls k hs marks f calls l = one-more whole (2 * untried marks₀ + 1) f calls (omega arith)
 
-  -- by the number that u holds and its limit
-  module _ {held most : ℕ} (is : held ≡ count n (λ y. eqb (at hs₀ y) u)) (its : most ≡ limit u) where
-    pub freeing-at-once : held < most → FreedBy n limit ls u hs₀ marks₀ true hs₀ marks₀
-    unfolding freePlace holds
-    freeing-at-once l =
+    few : n ≤ GATEWAYS
+    few = rw (← size) (w .few)
+
+    room : n ≤ length hs₀
+    room = rw (← size) (w .holders)
+
+    inside : u < n
+    inside = rw (← size) (w .inside)
+
+    table : TableOf n hs₀ rows₀
+    table = rw size at (w .table)
+
+    -- u has a row of sixteen places
+    places : length (rowAt rows₀ u) ≡ HIGHEST
+    places = rw (table .is) (row-long n hs₀ u (working-below w .1))
+
+    -- by whether there is a place free in the row, by u's limit
+    module _ {most : ℕ} {b : Bool} (its : most ≡ limit u) (free : b ≡ rowHasPlace (rowAt rows₀ u) most) where
+      fewer-held : ltb (holds n (at hs₀) u) (limit u) ≡ b
+      fewer-held = sym (free ∙ table-place table few inside most ∙ ap (λ (k : ℕ). ltb (holds n (at hs₀) u) k) its)
+
+      pub freeing-at-once : b ≡ true → FreedBy n limit ls u hs₀ marks₀ 1 hs₀ marks₀ × FreedRows n limit 1 hs₀ rows₀ rows₀
+      unfolding freePlace
+      freeing-at-once e = (
         record {
-          is = freed-calls true hs₀ marks₀ (λ calls q. rw (lt-ltb (count n (λ y. eqb (at hs₀ y) u)) (limit u) (omega (arith, is, its))));
-          unchanged = λ q. absurd (true≢false q);
+          is = freed-calls 1 hs₀ marks₀ (λ calls q. rw (fewer-held ∙ e));
+          unchanged = λ q. absurd (omega arith);
           fewer = omega arith;
-        }
+          counted = λ q. ap suc (sym (moved-none n (at hs₀)));
+        },
+        record { unchanged = λ q. absurd (omega arith); kept = λ small. table .is },
+      )
 
-    pub freeing-start : most ≤ held → length marks₀ ≤ GATEWAYS → Freeing n limit ls u hs₀ marks₀ hs₀ marks₀ 0
-    unfolding freePlace holds heldBy
-    freeing-start l few =
-        let all : n - 0 ≡ n = omega arith in
-        record {
-          upto = omega arith;
-          few = few;
-          long = refl;
-          unchanged = refl;
-          fewer = omega arith;
-          rest = λ calls q. rw (le-ltb (count n (λ y. eqb (at hs₀ y) u)) (limit u) (omega (arith, is, its)), where-all n (λ y. eqb (at hs₀ y) u), all);
-        }
-
-  pub freeing-out : {hs marks : List ℕ} {x : ℕ} → Freeing n limit ls u hs₀ marks₀ hs marks x → n ≤ x → FreedBy n limit ls u hs₀ marks₀ false hs marks
-  unfolding whereFrom tryEach
-  freeing-out {hs} {marks} {x} f l =
-      let none : n - x ≡ 0 = omega arith in
-      record { is = freed-calls false hs marks (λ calls q. rw none at (f .rest calls q)); unchanged = λ q. f .unchanged; fewer = f .fewer }
-
-  module _ {hs marks : List ℕ} {x : ℕ} (f : Freeing n limit ls u hs₀ marks₀ hs marks x) (l : x < n) {k : ℕ} (is : k ≡ at hs x) where
-    -- what is left begins with x, or x is none of it
-    one-fewer : n - x ≡ suc (n - (x + 1))
-    one-fewer = omega arith
-
-    -- u does not hold x
-    pub freeing-passed : (k ≡ u → ⊥) → Freeing n limit ls u hs₀ marks₀ hs marks (x + 1)
-    unfolding whereFrom
-    freeing-passed other =
-        let not-held : eqb (at hs₀ x) u ≡ false = rw (← f .unchanged) (ne-eqb (at hs x) u (λ q. other (is ∙ q))) in
-        record { upto = omega arith; few = f .few; long = f .long; unchanged = f .unchanged; fewer = f .fewer; rest = λ calls q. rw (one-fewer, not-held, ← add-one x) at (f .rest calls q) }
-
-    module _ (holds-it : k ≡ u) {b : Bool} {hs' marks' : List ℕ} (d : FoundBy n limit ls x hs marks b hs' marks') where
-      called : (calls : ℕ) → 2 * untried marks₀ + 1 ≤ calls → asTry b hs' marks' ≡ findHolder calls n limit ls hs₀ x marks
-      called calls q = rw (← f .unchanged) (d .is calls (omega (arith, f .fewer)))
-
-      step : (calls : ℕ) → 2 * untried marks₀ + 1 ≤ calls
-          → orElse (asTry b hs' marks') (tryEach (λ y now. findHolder calls n limit ls hs₀ y now) (whereFrom (n - (x + 1)) (x + 1) (λ y. eqb (at hs₀ y) u)))
-          ≡ freePlace (suc calls) n limit ls hs₀ u marks₀
-      unfolding whereFrom tryEach
-      step calls q =
-          let held-it : eqb (at hs₀ x) u ≡ true = rw (← f .unchanged) (eq-eqb (at hs x) u (sym is ∙ holds-it)) in
-          rw (one-fewer, held-it, ← add-one x, ← called calls q) at (f .rest calls q)
-
-      -- x found no other holder
-      pub freeing-next : b ≡ false → length marks' ≡ length marks → Freeing n limit ls u hs₀ marks₀ hs' marks' (x + 1)
-      freeing-next none long =
+      pub freeing-start : b ≡ false → Freeing n limit ls u rows₀ hs₀ marks₀ rows₀ hs₀ marks₀ 0
+      unfolding freePlace
+      freeing-start e =
+          let all : inRow (drop 0 (rowAt rows₀ u)) ≡ heldBy n hs₀ u = table-holds table few inside in
           record {
-            upto = omega arith;
-            few = omega (arith, long, f .few);
-            long = long ∙ f .long;
-            unchanged = d .unchanged none ∙ f .unchanged;
-            fewer = omega (arith, d .fewer, f .fewer);
-            rest = λ calls q. rw none at (step calls q);
+            long = size;
+            unchanged = refl;
+            same = refl;
+            own = w .own;
+            fewer = omega arith;
+            theirs = λ y m. heldBy-out n hs₀ u y (rw all at m);
+            rest = λ calls q. rw (fewer-held ∙ e, all);
           }
 
-      -- x found one
-      pub freeing-freed : b ≡ true → FreedBy n limit ls u hs₀ marks₀ true hs' marks'
-      freeing-freed some = record { is = freed-calls true hs' marks' (λ calls q. rw some at (step calls q)); unchanged = λ q. absurd (true≢false q); fewer = omega (arith, d .fewer, f .fewer) }
+    module _ {rows : List (List ℕ)} {hs marks : List ℕ} {i : ℕ} (f : Freeing n limit ls u rows₀ hs₀ marks₀ rows hs marks i) where
+      -- nothing more stands in the row
+      ends : inRow (drop i (rowAt rows₀ u)) ≡ [] → FreedBy n limit ls u hs₀ marks₀ 0 hs marks × FreedRows n limit 0 hs rows₀ rows
+      unfolding tryEach
+      ends e = (
+        record {
+          is = freed-calls 0 hs marks (λ calls q. rw e at (f .rest calls q));
+          unchanged = λ q. f .unchanged;
+          fewer = f .fewer;
+          counted = λ some. absurd (some refl);
+        },
+        record { unchanged = λ q. f .same; kept = λ small. rw (f .same, f .unchanged) (table .is) },
+      )
+
+      pub freeing-out : HIGHEST ≤ i → FreedBy n limit ls u hs₀ marks₀ 0 hs marks × FreedRows n limit 0 hs rows₀ rows
+      freeing-out l = ends (past-end (rowAt rows₀ u) i (rw places l))
+
+      module _ (l : i < HIGHEST) {x : ℕ} (is : x ≡ at (rowAt rows u) i) where
+        is₀ : at (rowAt rows₀ u) i ≡ x
+        is₀ = sym (rw (f .same) at is)
+
+        pub freeing-none : x ≡ NONE → FreedBy n limit ls u hs₀ marks₀ 0 hs marks × FreedRows n limit 0 hs rows₀ rows
+        freeing-none e = ends (free-place (rowAt rows₀ u) i (rw places l) (is₀ ∙ e))
+
+        module _ (some : x ≡ NONE → ⊥) where
+          here : inRow (drop i (rowAt rows₀ u)) ≡ x ∷ inRow (drop (i + 1) (rowAt rows₀ u))
+          here = rw (← is₀) (from-place (rowAt rows₀ u) i (rw places l) (λ q. some (sym is₀ ∙ q)))
+
+          -- x is a gateway that u holds
+          mine : (x < n) × (at hs₀ x ≡ u)
+          unfolding memberOf
+          mine = f .theirs x (rw here (or-l (eqb x x) (memberOf (inRow (drop (i + 1) (rowAt rows₀ u))) x) (eq-eqb x x refl)))
+
+          pub freeing-works : Working x (at hs x) ls next rows hs marks
+          freeing-works =
+              record {
+                few = rw (f .long) few;
+                holders = rw (f .long, f .unchanged) room;
+                index = w .index;
+                table = rw (f .long, f .unchanged, f .same) table;
+                inside = rw (f .long) (mine .0);
+                own = rw (f .unchanged, mine .1) (f .own);
+              }
+
+          module _ {k : ℕ} {hs' marks' : List ℕ} (d : FoundBy (length marks) limit ls x hs marks k hs' marks') where
+            promise : FoundBy n limit ls x hs₀ marks k hs' marks'
+            promise = rw (f .long, f .unchanged) at d
+
+            step : (calls : ℕ) → 2 * untried marks₀ + 1 ≤ calls
+                → orElse (asTry k hs' marks') (tryEach (λ y now. findHolder calls n limit ls hs₀ y now) (inRow (drop (i + 1) (rowAt rows₀ u)))) ≡ freePlace (suc calls) n limit ls hs₀ u marks₀
+            unfolding tryEach
+            step calls q = rw (here, ← promise .is calls (omega (arith, f .fewer))) at (f .rest calls q)
+
+            -- x found no other holder
+            pub freeing-next : {rows' : List (List ℕ)} → FoundRows (length marks) limit x hs k hs' rows rows' → k ≡ 0 → length marks' ≡ length marks → Freeing n limit ls u rows₀ hs₀ marks₀ rows' hs' marks' (i + 1)
+            unfolding memberOf
+            freeing-next r none long =
+                let grown = find-grown n limit ls hs₀ room (f .long) x (mine .0) (rw (mine .1) (f .own)) promise none in
+                record {
+                  long = long ∙ f .long;
+                  unchanged = promise .unchanged none;
+                  same = r .unchanged none ∙ f .same;
+                  own = grown .stay u (f .own);
+                  fewer = omega (arith, promise .fewer, f .fewer);
+                  theirs = λ y m. f .theirs y (rw here (or-r (eqb x y) (memberOf (inRow (drop (i + 1) (rowAt rows₀ u))) y) m));
+                  rest = λ calls q. rw none at (step calls q);
+                }
+
+            -- x found one
+            module _ (found' : k ≡ 0 → ⊥) where
+              pub freeing-few : k ≤ GATEWAYS
+              freeing-few = omega (arith, promise .counted found', moved-bound n (at hs₀) (at hs'), few)
+
+              pub freeing-freed : {rows' : List (List ℕ)} → FoundRows (length marks) limit x hs k hs' rows rows' → FreedBy n limit ls u hs₀ marks₀ (k + 1) hs' marks' × FreedRows n limit (k + 1) hs' rows₀ rows'
+              freeing-freed {rows'} r =
+                  let left : FoundRows n limit x hs₀ k hs' rows rows' = rw (f .long, f .unchanged) at r in (
+                    record {
+                      is = freed-calls (k + 1) hs' marks' (λ calls q. rw add-one (rw (one-at-least k found') at (step calls q)));
+                      unchanged = λ q. absurd (omega arith);
+                      fewer = omega (arith, promise .fewer, f .fewer);
+                      counted = λ q. rw add-one (ap suc (promise .counted found'));
+                    },
+                    record { unchanged = λ q. absurd (omega arith); kept = λ small. left .kept (record { limits = small; own = λ q. rw (mine .1) (table .within u inside) }) },
+                  )

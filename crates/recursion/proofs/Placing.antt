@@ -23,17 +23,17 @@ use Rattle.recursion.proofs.Closed.{Around, Closed}
 use Rattle.recursion.proofs.Freed.{FoundFor}
 use Rattle.recursion.proofs.Calls.{find-ended}
 
+-- v has no holder, and what is no gateway counts as tried
+pub own-tried : {n : ℕ} {hs : List ℕ} {v : ℕ} → Placeable n hs v → tried (replicate n NONE) (at hs v) ≡ true
+own-tried {n} {hs} {v} p = rw (List·getD-eq-default {A = ℕ} (replicate n NONE) 0 {n = at hs v} (omega (arith, length-replicate {A = ℕ} n NONE, ltb-false (at hs v) n (p .free))))
+
 module _ {n : ℕ} (limit : ℕ → ℕ) (ls : List ℕ) {hs : List ℕ} {v : ℕ} (p : Placeable n hs v) where
   abbrev start : List ℕ
   start = replicate n NONE
 
-  -- v has no holder
-  own : tried start (at hs v) ≡ true
-  own = rw (List·getD-eq-default {A = ℕ} start 0 {n = at hs v} (omega (arith, length-replicate {A = ℕ} n NONE, ltb-false (at hs v) n (p .free))))
-
   searched : Ended (λ end. Closed n limit ls hs start end × Around n limit ls hs v end) (FoundFor n limit ls hs v start) (search n limit ls hs v)
   unfolding search
-  searched = find-ended n limit ls hs (p .holders) (2 * n + 2) v start (p .inside) (length-replicate n NONE) own (omega (arith, untried-start n))
+  searched = find-ended n limit ls hs (p .holders) (2 * n + 2) v start (p .inside) (length-replicate n NONE) (own-tried p) (omega (arith, untried-start n))
 
   module _ (f : Feasible n limit (linked ls) (at hs)) where
     -- a place is freed

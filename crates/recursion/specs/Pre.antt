@@ -1,10 +1,15 @@
--- What the contracts of private functions cite. A reader of the public ones needs none of it.
-use Prim.Native.Nat.{ℕ, _≤_}
+-- What the contracts of private functions cite. A reader of the public ones needs none of it but `Kept`.
+use Prim.Native.Nat.{ℕ, zero, suc, _<_, _≤_}
 use mathlib.Core.Path.{_≡_}
-use mathlib.Core.Bool.{Bool, true, false, not, _&&_}
+use mathlib.Core.Bool.{Bool, true, not, _&&_}
 use mathlib.Core.List.{List}
 use lib.ListN.{length}
 use Rattle.packing.specs.Count.{count}
+use Rattle.packing.specs.Plant.{GATEWAYS, HIGHEST, at}
+use Rattle.packing.specs.Holders.{holds}
+use Rattle.chains.specs.Index.{Index}
+use Rattle.search.specs.Table.{heldTable}
+use Rattle.search.specs.Pre.{TableOf, Placeable}
 use Rattle.recursion.specs.Recursion.{Try, freed, failed, tried}
 
 -- how many of a set are yet to be tried, ..
@@ -15,13 +20,43 @@ untriedIn set marks = count (length marks) (λ u. not (tried marks u) && set u)
 unfoldable pub untried : List ℕ → ℕ
 untried marks = untriedIn (λ u. true) marks
 
--- what a call stands for that returned b and left these holders and marks
-abbrev pub asTry : Bool → List ℕ → List ℕ → Try
-asTry true hs marks = freed hs
-asTry false hs marks = failed marks
+-- What either function is lent: the links with their index, the table of the holders, and a mark for each gateway. x is a gateway, and h has been tried.
+pub record Working (x h : ℕ) (ls next : List ℕ) (rows : List (List ℕ)) (hs marks : List ℕ) : Type 0 where
+  pub few : length marks ≤ GATEWAYS
+  pub holders : length marks ≤ length hs
+  pub index : Index ls next
+  pub table : TableOf (length marks) hs rows
+  pub inside : x < length marks
+  pub own : tried marks h ≡ true
 
--- A call that may have so many calls within it: what it returned and left is what the model says, nothing is changed where it failed, and nobody's mark is lost.
-pub record Ends (b : Bool) (hs hs' marks marks' : List ℕ) (try : ℕ → Try) (least : ℕ) : Type 0 where
-  pub is : (calls : ℕ) → least ≤ calls → asTry b hs' marks' ≡ try calls
-  pub unchanged : b ≡ false → hs' ≡ hs
+-- what a call stands for that returned k and left these holders and marks: 0 where it failed
+abbrev pub asTry : ℕ → List ℕ → List ℕ → Try
+asTry zero hs marks = failed marks
+asTry (suc k) hs marks = freed hs
+
+-- A call that may have so many calls within it: what it returned and left is what the model says, nothing is changed where it failed, and nobody's mark is lost. Where a place is freed, it returned that number.
+pub record Ends (k : ℕ) (hs hs' marks marks' : List ℕ) (try : ℕ → Try) (least number : ℕ) : Type 0 where
+  pub is : (calls : ℕ) → least ≤ calls → asTry k hs' marks' ≡ try calls
+  pub unchanged : k ≡ 0 → hs' ≡ hs
   pub fewer : untried marks' ≤ untried marks
+  pub counted : (k ≡ 0 → ⊥) → k ≡ number
+
+-- The rows that it left: nothing is changed where it failed, and they are the table of the holders hs' of n gateways, if they fit.
+pub record RowsEnd (k n : ℕ) (hs' : List ℕ) (rows rows' : List (List ℕ)) (Fit : Type 0) : Type 0 where
+  pub unchanged : k ≡ 0 → rows' ≡ rows
+  pub kept : Fit → rows' ≡ heldTable n hs'
+
+-- nobody's limit is above the places of a row
+abbrev pub SmallLimits : ℕ → (ℕ → ℕ) → Type 0
+SmallLimits n limit = (w : ℕ) → w < n → limit w ≤ HIGHEST
+
+-- .. and v's old holder, where it has a row, holds no more than that
+pub record Fits (n : ℕ) (limit : ℕ → ℕ) (hs : List ℕ) (v : ℕ) : Type 0 where
+  pub limits : SmallLimits n limit
+  pub own : at hs v < GATEWAYS → holds n (at hs) (at hs v) ≤ HIGHEST
+
+-- v may be placed, with the index of the links and the table of the holders
+pub record PlaceableBy (n : ℕ) (hs : List ℕ) (v : ℕ) (ls next : List ℕ) (rows : List (List ℕ)) : Type 0 where
+  pub free : Placeable n hs v
+  pub index : Index ls next
+  pub table : rows ≡ heldTable n hs

@@ -1,86 +1,110 @@
 // The short search (02, change 7): finds a holder for a gateway by two functions that call each other.
-mod moved;
-
 use search::Placed;
-use search::walk::other_end;
+use search::held::ROW;
+use search::held::Rows;
+use search::shift::take;
 ghost use mathlib.Core.Path.{_≡_};
-ghost use Prim.Native.Nat.{_+_, _*_, _≤_};
+ghost use Prim.Native.Nat.{suc, _+_, _*_};
 ghost use lib.ListN.{length};
-ghost use Rattle.packing.specs.Plant.{GATEWAYS, at};
+ghost use Rattle.packing.specs.Plant.{at};
 ghost use Rattle.packing.specs.Moved.{moved};
-ghost use Rattle.search.specs.Pre.{Placeable};
+ghost use Rattle.chains.specs.Index.{Index};
+ghost use Rattle.search.specs.Table.{heldTable};
 ghost use Rattle.recursion.specs.Recursion.{findHolder, freePlace, recursiveHolders, recursiveAfter, recursiveAnswer};
-ghost use Rattle.recursion.specs.Pre.{untried, Ends};
+ghost use Rattle.recursion.specs.Pre.{untried, Working, Ends, RowsEnd, SmallLimits, Fits, PlaceableBy};
 
-// Finds a holder for v: goes through its links in order of arrival and frees a place at a neighbour not yet tried. If one is freed, v has that neighbour as its holder.
+// Finds a holder for v: goes through its links in order of arrival and frees a place at a neighbour not yet tried. If one is freed, v has that neighbour as its holder. Returns how many have another holder then, and 0 where no place is freed.
 fn find_holder(
+    v: u16,
+    limits: &[u8],
+    links: &[u16],
+    next: &[u16],
+    rows: &mut Rows,
+    holders: &mut [u16],
+    tried: &mut [u16],
+) -> u16
+    requires { ⌜ Working v (at (now holders) v) (now links) (now next) (now rows) (now holders) (now tried) ⌝ }
+    ensures ends { λ r. ⌜ Ends r (now (holders .entry)) (now (holders .exit)) (now (tried .entry)) (now (tried .exit)) (λ calls. findHolder calls (length (now (tried .entry))) (at (now (limits .entry))) (now (links .entry)) (now (holders .entry)) v (now (tried .entry))) (2 * untried (now (tried .entry)) + 1) (moved (length (now (tried .entry))) (at (now (holders .entry))) (at (now (holders .exit)))) ⌝ }
+    ensures rows { λ r. ⌜ RowsEnd r (length (now (tried .entry))) (now (holders .exit)) (now (rows .entry)) (now (rows .exit)) (Fits (length (now (tried .entry))) (at (now (limits .entry))) (now (holders .entry)) v) ⌝ }
+{
+    let mut e = chains::first_end(next, v);
+    while e != lists::NONE {
+        let u = chains::across(links, e);
+        if lists::entry(tried, u) == lists::NONE {
+            lists::put(tried, u, 0);
+            let k = free_place(u, limits, links, next, rows, holders, tried);
+            if k != 0 {
+                take(v, u, rows, holders);
+                return k;
+            }
+        }
+        e = chains::next_end(next, e);
+    }
+    0
+}
+
+// Frees a place at u: at once where u holds fewer than its limit; else goes through what it holds, ascending, and finds another holder for one of them. Returns one more than have another holder then, and 0 where no place is freed.
+fn free_place(
+    u: u16,
+    limits: &[u8],
+    links: &[u16],
+    next: &[u16],
+    rows: &mut Rows,
+    holders: &mut [u16],
+    tried: &mut [u16],
+) -> u16
+    requires { ⌜ Working u u (now links) (now next) (now rows) (now holders) (now tried) ⌝ }
+    ensures ends { λ r. ⌜ Ends r (now (holders .entry)) (now (holders .exit)) (now (tried .entry)) (now (tried .exit)) (λ calls. freePlace calls (length (now (tried .entry))) (at (now (limits .entry))) (now (links .entry)) (now (holders .entry)) u (now (tried .entry))) (2 * untried (now (tried .entry)) + 2) (suc (moved (length (now (tried .entry))) (at (now (holders .entry))) (at (now (holders .exit))))) ⌝ }
+    ensures rows { λ r. ⌜ RowsEnd r (length (now (tried .entry))) (now (holders .exit)) (now (rows .entry)) (now (rows .exit)) (SmallLimits (length (now (tried .entry))) (at (now (limits .entry)))) ⌝ }
+{
+    if search::held::has_place(&rows[u as usize], lists::byte(limits, u as usize)) {
+        return 1;
+    }
+    let mut i: usize = 0;
+    while i < ROW {
+        let x = rows[u as usize][i];
+        if x == lists::NONE {
+            return 0;
+        }
+        let k = find_holder(x, limits, links, next, rows, holders, tried);
+        if k != 0 {
+            return k + 1;
+        }
+        i += 1;
+    }
+    0
+}
+
+// Places v, which may be placed, with the index of the links and the table of the holders, which is kept. Returns how many have another holder afterwards.
+pub fn place_kept(
     n: u16,
     v: u16,
     limits: &[u8],
     links: &[u16],
+    next: &[u16],
+    rows: &mut Rows,
     holders: &mut [u16],
-    tried: &mut [u16],
-) -> bool
-    requires { ⌜ length (now tried) ≤ GATEWAYS ⌝ }
-    ensures { λ r. ⌜ Ends r (now (holders .entry)) (now (holders .exit)) (now (tried .entry)) (now (tried .exit)) (λ calls. findHolder calls n (at (now (limits .entry))) (now (links .entry)) (now (holders .entry)) v (now (tried .entry))) (2 * untried (now (tried .entry)) + 1) ⌝ }
-{
-    let mut i: usize = 0;
-    while i + 1 < links.len() {
-        let u = other_end(links[i], links[i + 1], v);
-        if lists::entry(tried, u) == lists::NONE {
-            lists::put(tried, u, 0);
-            if free_place(n, u, limits, links, holders, tried) {
-                lists::put(holders, v, u);
-                return true;
-            }
-        }
-        i += 2;
-    }
-    false
-}
-
-// Frees a place at u: at once where u holds fewer than its limit; else goes through what it holds, ascending, and finds another holder for one of them.
-fn free_place(
-    n: u16,
-    u: u16,
-    limits: &[u8],
-    links: &[u16],
-    holders: &mut [u16],
-    tried: &mut [u16],
-) -> bool
-    requires { ⌜ length (now tried) ≤ GATEWAYS ⌝ }
-    ensures { λ r. ⌜ Ends r (now (holders .entry)) (now (holders .exit)) (now (tried .entry)) (now (tried .exit)) (λ calls. freePlace calls n (at (now (limits .entry))) (now (links .entry)) (now (holders .entry)) u (now (tried .entry))) (2 * untried (now (tried .entry)) + 2) ⌝ }
-{
-    if lists::counts::count_of(n, holders, u) < lists::byte(limits, u as usize) as u16 {
-        return true;
-    }
-    let mut x: u16 = 0;
-    while x < n {
-        if lists::entry(holders, x) == u {
-            if find_holder(n, x, limits, links, holders, tried) {
-                return true;
-            }
-        }
-        x += 1;
-    }
-    false
-}
-
-// Places v, which may be placed. Returns how many have another holder afterwards.
-fn place_unheld(n: u16, v: u16, limits: &[u8], links: &[u16], holders: &mut [u16]) -> u16
-    requires { ⌜ Placeable n (now holders) v ⌝ }
+) -> u16
+    requires { ⌜ PlaceableBy n (now holders) v (now links) (now next) (now rows) ⌝ }
     ensures holders { λ _. ⌜ now (holders .exit) ≡ recursiveHolders n (at (now (limits .entry))) (now (links .entry)) (now (holders .entry)) v ⌝ }
     ensures moved { λ r. ⌜ r ≡ moved n (at (now (holders .entry))) (at (recursiveHolders n (at (now (limits .entry))) (now (links .entry)) (now (holders .entry)) v)) ⌝ }
+    ensures rows { λ _. ⌜ (Fits n (at (now (limits .entry))) (now (holders .entry)) v → now (rows .exit) ≡ heldTable n (recursiveHolders n (at (now (limits .entry))) (now (links .entry)) (now (holders .entry)) v)) ⌝ }
 {
-    let before = moved::copy(holders);
     let mut tried = lists::marks::nones();
     let end = n as usize;
-    find_holder(n, v, limits, links, holders, &mut tried[..end]);
-    moved::count(n, &before, holders)
+    find_holder(v, limits, links, next, rows, holders, &mut tried[..end])
 }
 
-// Places v by a limit for each gateway, 0 past the list's end. Answers whether v may be placed, and how many gateways have another holder afterwards; if it may not, nothing is changed.
-pub fn place(n: u16, v: u16, limits: &[u8], links: &[u16], holders: &mut [u16]) -> Placed
+// Places v by a limit for each gateway, 0 past the list's end, and the index of the links. Answers whether v may be placed, and how many gateways have another holder afterwards; if it may not, nothing is changed.
+pub fn place(
+    n: u16,
+    v: u16,
+    limits: &[u8],
+    links: &[u16],
+    next: &[u16],
+    holders: &mut [u16],
+) -> Placed
+    requires { ⌜ Index (now links) (now next) ⌝ }
     ensures answer { λ r. ⌜ r ≡ recursiveAnswer n (at (now (limits .entry))) (now (links .entry)) (now (holders .entry)) v ⌝ }
     ensures holders { λ _. ⌜ now (holders .exit) ≡ recursiveAfter n (at (now (limits .entry))) (now (links .entry)) (now (holders .entry)) v ⌝ }
 {
@@ -90,6 +114,7 @@ pub fn place(n: u16, v: u16, limits: &[u8], links: &[u16], holders: &mut [u16]) 
             moved: 0,
         };
     }
-    let moved = place_unheld(n, v, limits, links, holders);
+    let mut rows = search::held::gather(n, holders);
+    let moved = place_kept(n, v, limits, links, next, &mut rows, holders);
     Placed { done: true, moved }
 }

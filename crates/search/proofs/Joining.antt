@@ -11,15 +11,15 @@ use Rattle.packing.specs.Plant.{NONE, at}
 use Rattle.search.specs.Pre.{inRow, Joinable, Joined}
 
 -- what stands in a row from place i on
-from-place : (row : List ℕ) (i : ℕ) → i < length row → (at row i ≡ NONE → ⊥) → inRow (drop i row) ≡ at row i ∷ inRow (drop (i + 1) row)
+pub from-place : (row : List ℕ) (i : ℕ) → i < length row → (at row i ≡ NONE → ⊥) → inRow (drop i row) ≡ at row i ∷ inRow (drop (i + 1) row)
 unfolding inRow
 from-place row i l some = rw (add-one, drop-cons row i 0 l, ne-eqb (at row i) NONE some)
 
-free-place : (row : List ℕ) (i : ℕ) → i < length row → at row i ≡ NONE → inRow (drop i row) ≡ []
+pub free-place : (row : List ℕ) (i : ℕ) → i < length row → at row i ≡ NONE → inRow (drop i row) ≡ []
 unfolding inRow
 free-place row i l none = rw (drop-cons row i 0 l, eq-eqb (at row i) NONE none)
 
-past-end : (row : List ℕ) (i : ℕ) → length row ≤ i → inRow (drop i row) ≡ []
+pub past-end : (row : List ℕ) (i : ℕ) → length row ≤ i → inRow (drop i row) ≡ []
 unfolding inRow
 past-end row i l = rw (drop-of-length-le row {i = i} l)
 

@@ -15,7 +15,7 @@ use Rattle.packing.proofs.Tests.{by-bool}
 use Rattle.search.specs.Search.{found, walk, shift}
 use Rattle.search.specs.Table.{heldTable}
 use Rattle.search.specs.Pre.{takings, Placeable}
-use Rattle.search.specs.RowPre.{movedRows, RowsFit, RowsKept}
+use Rattle.search.specs.RowPre.{Taken, RowsFit, RowsKept}
 use Rattle.search.proofs.RowMoves.{table-moved}
 use Rattle.search.proofs.Taken.{taken-other, taken-holds}
 use Rattle.search.proofs.Shifting.{Rounds, rounds-start, rounds-turn, rounds-done, rounds-end, Chain, chain-next}
@@ -32,7 +32,7 @@ module _ (n v u x : ℕ) (from hs₀ : List ℕ) (rows₀ : List (List ℕ)) whe
 
   module _
       {hs : List ℕ} {rows : List (List ℕ)} {taker taken k : ℕ} (r : RowRounds n v u x from hs₀ rows₀ hs rows taker taken k) (l : k < n)
-      {old : ℕ} {hs' : List ℕ} {rows' : List (List ℕ)} (was : old ≡ at hs taken) (now : hs' ≡ set hs taken taker) (moved : rows' ≡ movedRows taken old taker rows)
+      {old : ℕ} {hs' : List ℕ} {rows' : List (List ℕ)} (t : Taken taken taker hs hs' rows rows' old)
     where
       -- the rows after one more round, and the rounds then left
       one-more : n ≤ GATEWAYS → n ≤ length hs₀ → RowsFit n n v from u x hs₀ → rows₀ ≡ heldTable n hs₀
@@ -42,19 +42,19 @@ module _ (n v u x : ℕ) (from hs₀ : List ℕ) (rows₀ : List (List ℕ)) whe
           let before = r .kept few long fits is in
           let next : n - k ≡ suc (n - (k + 1)) = omega arith in
           let round = rw next at (before .0) in
-          (rw (moved, was, now) (table-moved n hs taken taker few (rw (r .rounds .same) long) (round .0) (round .1) (before .1)), round .2)
+          (rw (t .table, t .holders) (table-moved n hs taken taker few (rw (r .rounds .same) long) (round .0) (round .1) (before .1)), round .2)
 
       pub row-rounds-turn : {taken' : ℕ} → (taken ≡ v → ⊥) → taken' ≡ at from old → RowRounds n v u x from hs₀ rows₀ hs' rows' old taken' (k + 1)
       row-rounds-turn go next =
           record {
-            rounds = rounds-turn n v u x from hs₀ (r .rounds) l was now go next;
-            kept = λ few long fits is. let m = one-more few long fits is in (rw (next, was, now) (m .1 go), m .0);
+            rounds = rounds-turn n v u x from hs₀ (r .rounds) l (t .old) (t .holders) go next;
+            kept = λ few long fits is. let m = one-more few long fits is in (rw (next, t .old, t .holders) (m .1 go), m .0);
           }
 
       pub row-rounds-done : taken ≡ v → (hs' ≡ shift n v from u x hs₀) × ((k + 1 ≡ takings n v from u x hs₀) × RowsKept n v from u x hs₀ rows₀ rows')
       unfolding RowsKept
       row-rounds-done done =
-          let e = rounds-done n v u x from hs₀ (r .rounds) l now done in
+          let e = rounds-done n v u x from hs₀ (r .rounds) l (t .holders) done in
           (e .0, (e .1, λ few long fits is. one-more few long fits is .0 ∙ ap (heldTable n) (e .0)))
 
   pub row-rounds-end : {hs : List ℕ} {rows : List (List ℕ)} {taker taken k : ℕ} → RowRounds n v u x from hs₀ rows₀ hs rows taker taken k → n ≤ k

@@ -10,7 +10,7 @@ use lib.Seq.{take-suc, take-suc-set, take-all, drop-cons, drop-set-lt, append-sn
 use borrow.Author.Tests.{eq-eqb, ne-eqb, lt-ltb, le-ltb}
 use Rattle.packing.specs.Plant.{NONE, GATEWAYS, at}
 use Rattle.search.specs.Table.{rowAt}
-use Rattle.search.specs.RowPre.{entered, movedUp, without, leftRow, joinedRow, movedRows}
+use Rattle.search.specs.RowPre.{entered, movedUp, without, leftRow, joinedRow, movedRows, Taken}
 use Rattle.search.proofs.Rows.{default-below}
 
 -- the number at a place, and 65535 past the end
@@ -148,3 +148,7 @@ module _ (x u : ℕ) (rows : List (List ℕ)) where
 
 pub moved-rows : (x old u : ℕ) (rows : List (List ℕ)) {rows₁ rows₂ : List (List ℕ)} → rows₁ ≡ leftRow x old rows → rows₂ ≡ joinedRow x u rows₁ → rows₂ ≡ movedRows x old u rows
 moved-rows x old u rows e f = f ∙ ap (joinedRow x u) e
+
+-- u takes x
+pub takes : {x u old : ℕ} {hs hs' : List ℕ} {rows rows' : List (List ℕ)} → old ≡ at hs x → hs' ≡ set hs x u → rows' ≡ movedRows x old u rows → Taken x u hs hs' rows rows' old
+takes {x} {u} {rows = rows} was now moved = record { old = was; holders = now; table = moved ∙ ap (λ (k : ℕ). movedRows x k u rows) was }

@@ -81,6 +81,10 @@ row-all k a l h =
 pub row-length : (k a : ℕ) (l : List ℕ) → length (take k (l ++ replicate k a)) ≡ k
 row-length k a l = length-take-le k (l ++ replicate k a) (omega (arith, length-append l (replicate k a), length-replicate k a))
 
+pub row-long : (n : ℕ) (hs : List ℕ) (u : ℕ) → u < GATEWAYS → length (rowAt (heldTable n hs) u) ≡ HIGHEST
+unfolding heldRow asRow
+row-long n hs u l = ap length (table-row n hs u l) ∙ row-length HIGHEST NONE (heldBy n hs u)
+
 -- what stands in a row, where no entry is 65535
 in-padded : (l : List ℕ) (k : ℕ) → ((i : ℕ) → i < length l → at l i ≡ NONE → ⊥) → inRow (l ++ replicate k NONE) ≡ l
 unfolding inRow

@@ -37,6 +37,12 @@ joinedRow x u rows = cond (ltb u GATEWAYS) (set rows u (entered x (rowAt rows u)
 abbrev pub movedRows : ℕ → ℕ → ℕ → List (List ℕ) → List (List ℕ)
 movedRows x old u rows = joinedRow x u (leftRow x old rows)
 
+-- the holders and the rows once u takes x, whose old holder was r
+pub record Taken (x u : ℕ) (hs hs' : List ℕ) (rows rows' : List (List ℕ)) (r : ℕ) : Type 0 where
+  pub old : r ≡ at hs x
+  pub holders : hs' ≡ set hs x u
+  pub table : rows' ≡ movedRows x (at hs x) u rows
+
 -- In each round of a shift a gateway is taken, and its old holder holds no more than a row has places: so the row says all that the old holder holds.
 unfoldable pub RowsFit : (fuel n v : ℕ) (from : List ℕ) (u x : ℕ) (hs : List ℕ) → Type 0
 RowsFit zero n v from u x hs = Unit {0}

@@ -8,7 +8,7 @@ ghost use Rattle.search.specs.Pre.{Joinable, Joined, rowHasPlace};
 ghost use Rattle.search.specs.RowPre.{entered, movedUp, without, leftRow, joinedRow, movedRows};
 
 // The places of a row: as many as the highest limit.
-const ROW: usize = 16;
+pub const ROW: usize = 16;
 
 // A row for each number below 1,024.
 pub type Rows = [[u16; ROW]; lists::PLACES];
@@ -40,7 +40,7 @@ pub fn gather(n: u16, holders: &[u16]) -> Rows
 }
 
 // Whether fewer stand in the row than the limit: nobody is in the last place that the limit allows.
-pub(crate) fn has_place(row: &[u16], limit: u8) -> bool
+pub fn has_place(row: &[u16], limit: u8) -> bool
     ensures { λ r. ⌜ r ≡ rowHasPlace (now (row .entry)) limit ⌝ }
 {
     if limit == 0 {

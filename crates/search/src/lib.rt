@@ -4,7 +4,7 @@ pub mod choke;
 pub mod held;
 pub mod past;
 pub mod reached;
-mod shift;
+pub mod shift;
 mod start;
 pub mod walk;
 

@@ -4,9 +4,19 @@ use crate::held::move_row;
 ghost use mathlib.Core.Path.{_≡_};
 ghost use Rattle.search.specs.Search.{shift};
 ghost use Rattle.search.specs.Pre.{takings};
-ghost use Rattle.search.specs.RowPre.{RowsKept};
+ghost use Rattle.search.specs.RowPre.{Taken, RowsKept};
 
-// Each that is taken leaves the row of its old holder and joins that of its new one. Returns how many were taken.
+// u takes x, which leaves the row of its old holder and joins that of u. Returns the old holder.
+pub fn take(x: u16, u: u16, rows: &mut Rows, holders: &mut [u16]) -> u16
+    ensures { λ r. ⌜ Taken x u (now (holders .entry)) (now (holders .exit)) (now (rows .entry)) (now (rows .exit)) r ⌝ }
+{
+    let old = lists::entry(holders, x);
+    lists::put(holders, x, u);
+    move_row(rows, x, old, u);
+    old
+}
+
+// Returns how many were taken.
 pub(crate) fn shift_back(
     n: u16,
     v: u16,
@@ -24,9 +34,7 @@ pub(crate) fn shift_back(
     let mut taken = x;
     let mut k: u16 = 0;
     while k < n {
-        let old = lists::entry(holders, taken);
-        lists::put(holders, taken, taker);
-        move_row(rows, taken, old, taker);
+        let old = take(taken, taker, rows, holders);
         if taken == v {
             return k + 1;
         }

@@ -3,29 +3,13 @@ use crate::Walked;
 use crate::held::Rows;
 use crate::held::has_place;
 use crate::held::join;
-ghost use mathlib.Core.Path.{_≡_};
-ghost use mathlib.Core.Bool.{cond};
-ghost use lib.Dec.{eqb};
 ghost use lib.ListN.{take};
-ghost use Rattle.packing.specs.Plant.{NONE, at, neighbours};
+ghost use Rattle.packing.specs.Plant.{at, neighbours};
 ghost use Rattle.chains.specs.Index.{Index};
 ghost use Rattle.search.specs.Search as model;
 ghost use Rattle.search.specs.Search.{more};
 ghost use Rattle.search.specs.Dead.{walkPast};
 ghost use Rattle.search.specs.Pre.{ForEach, ForSome, Is, Ready, Walkable};
-
-// The other end of the link a-b where x is an end of it; else none.
-pub fn other_end(a: u16, b: u16, x: u16) -> u16
-    ensures { λ r. ⌜ r ≡ cond (eqb a x) b (cond (eqb b x) a NONE) ⌝ }
-{
-    if a == x {
-        return b;
-    }
-    if b == x {
-        return a;
-    }
-    lists::NONE
-}
 
 // Looks at u from x.
 fn look(

@@ -41,13 +41,7 @@ fn take(
 }
 
 // Takes all that can be taken, each as soon as it can: from v on in turn, and from one that is taken on to its holder.
-fn peel(
-    n: u16,
-    holders: &[u16],
-    waits: &mut [u16],
-    taken: &mut [u16],
-    leading: &mut [u16],
-)
+fn peel(n: u16, holders: &[u16], waits: &mut [u16], taken: &mut [u16], leading: &mut [u16])
     requires { ⌜ Peelable n (now holders) (now waits) (now taken) (now leading) ⌝ }
     ensures { λ _. ⌜ Hanging n (now (holders .entry)) (now (taken .exit)) (now (leading .exit)) ⌝ }
 {

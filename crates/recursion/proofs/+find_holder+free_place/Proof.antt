@@ -3,90 +3,94 @@ use borrow.Author.Needs.{needs}
 use borrow.Fn.Kinds.{In}
 use borrow.Fn.PlainCycle.{Measures, is, falls, and}
 use Prim.Native.Nat.{ℕ, _+_, _-_, _*_, _<_}
-use mathlib.Core.Path.{ap, _∙_}
+use mathlib.Core.Path.{refl, ap, _∙_}
 use mathlib.Core.Logic.{⊎-elim}
 use native.Mathlib.Omega.{arith}
 use lib.ListN.{length}
-use Rattle.packing.specs.Plant.{at}
+use Rattle.packing.specs.Plant.{NONE, HIGHEST, at}
 use Rattle.recursion.specs.Pre.{untried}
-use Rattle.recursion.proofs.Finding.{Finding, finding-start, finding-passed, finding-less, finding-few, finding-next, finding-found, finding-out}
-use Rattle.recursion.proofs.Freeing.{Freeing, freeing-at-once, freeing-start, freeing-passed, freeing-next, freeing-freed, freeing-out}
+use Rattle.recursion.proofs.Promises.{working-below}
+use Rattle.recursion.proofs.Finding.{Finding, finding-start, finding-places, finding-passed, finding-less, finding-works, finding-next, finding-found, finding-on, finding-out}
+use Rattle.recursion.proofs.Freeing.{Freeing, freeing-at-once, freeing-start, freeing-none, freeing-works, freeing-few, freeing-next, freeing-freed, freeing-out}
 use Rattle.recursion.proofs.find_holder.Reads as find-holder
 use Rattle.recursion.proofs.find_holder.Kinds as find-kinds
 use Rattle.recursion.proofs.+find_holder+free_place.Lts-find_holder as find
 use Rattle.recursion.proofs.free_place.Reads as free-place
 use Rattle.recursion.proofs.free_place.Kinds as free-kinds
 use Rattle.recursion.proofs.+find_holder+free_place.Lts-free_place as free
+use Rattle.chains.proofs.across.Reads as across-reads
+use Rattle.chains.proofs.first_end.Reads as first-end-reads
+use Rattle.chains.proofs.next_end.Reads as next-end-reads
 use Rattle.lists.proofs.byte.Reads as byte-reads
-use Rattle.lists.proofs.counts.count_of.Reads as count-of-reads
 use Rattle.lists.proofs.entry.Reads as entry-reads
 use Rattle.lists.proofs.put.Reads as put-reads
-use Rattle.search.proofs.walk.other_end.Reads as other-end-reads
+use Rattle.search.proofs.held.has_place.Reads as has-place-reads
+use Rattle.search.proofs.shift.take.Reads as take-reads
 use Rattle.recursion.proofs.+find_holder+free_place.{statement}
 use Rattle.recursion.proofs.+find_holder+free_place.Tie.{close}
 
-abbrev μ-find-holder : Measures 4 find-kinds.ps ℕ
-μ-find-holder κs a = 2 * untried (a .1 .1 .1 .1 .1 .0 .now) + 1
+abbrev μ-find-holder : Measures 6 find-kinds.ps ℕ
+μ-find-holder κs a = 2 * untried (a .1 .1 .1 .1 .1 .1 .0 .now) + 1
 
-abbrev μ-free-place : Measures 4 free-kinds.ps ℕ
-μ-free-place κs a = 2 * untried (a .1 .1 .1 .1 .1 .0 .now) + 2
+abbrev μ-free-place : Measures 6 free-kinds.ps ℕ
+μ-free-place κs a = 2 * untried (a .1 .1 .1 .1 .1 .1 .0 .now) + 2
 
 -- what each is given at the measure t, and what a call of it asks below t
-abbrev find-at : ℕ → In 4 find-kinds.ps
-find-at t = and 4 find-kinds.ps (is 4 find-kinds.ps μ-find-holder t) find-holder.Pre
+abbrev find-at : ℕ → In 6 find-kinds.ps
+find-at t = and 6 find-kinds.ps (is 6 find-kinds.ps μ-find-holder t) find-holder.Pre
 
-abbrev find-below : ℕ → In 4 find-kinds.ps
-find-below t = and 4 find-kinds.ps (falls 4 find-kinds.ps _<_ μ-find-holder t) find-holder.Pre
+abbrev find-below : ℕ → In 6 find-kinds.ps
+find-below t = and 6 find-kinds.ps (falls 6 find-kinds.ps _<_ μ-find-holder t) find-holder.Pre
 
-abbrev free-at : ℕ → In 4 free-kinds.ps
-free-at t = and 4 free-kinds.ps (is 4 free-kinds.ps μ-free-place t) free-place.Pre
+abbrev free-at : ℕ → In 6 free-kinds.ps
+free-at t = and 6 free-kinds.ps (is 6 free-kinds.ps μ-free-place t) free-place.Pre
 
-abbrev free-below : ℕ → In 4 free-kinds.ps
-free-below t = and 4 free-kinds.ps (falls 4 free-kinds.ps _<_ μ-free-place t) free-place.Pre
+abbrev free-below : ℕ → In 6 free-kinds.ps
+free-below t = and 6 free-kinds.ps (falls 6 free-kinds.ps _<_ μ-free-place t) free-place.Pre
 
 -- what each may use of the functions that it calls
 abbrev find-claims : ℕ → find.Claims
-find-claims t = (other-end-reads.Asked, other-end-reads.Learnt, entry-reads.Asked, entry-reads.Learnt, put-reads.Asked, put-reads.Learnt, free-below t, free-place.Post)
+find-claims t = (
+  first-end-reads.Asked,
+  first-end-reads.Learnt,
+  across-reads.Asked,
+  across-reads.Learnt,
+  entry-reads.Asked,
+  entry-reads.Learnt,
+  put-reads.Asked,
+  put-reads.Learnt,
+  free-below t,
+  free-place.Post,
+  take-reads.Asked,
+  take-reads.Learnt,
+  next-end-reads.Asked,
+  next-end-reads.Learnt,
+)
 
 abbrev free-claims : ℕ → free.Claims
-free-claims t = (count-of-reads.Asked, count-of-reads.Learnt, byte-reads.Asked, byte-reads.Learnt, entry-reads.Asked, entry-reads.Learnt, find-below t, find-holder.Post)
+free-claims t = (byte-reads.Asked, byte-reads.Learnt, has-place-reads.Asked, has-place-reads.Learnt, find-below t, find-holder.Post)
 
 abbrev Inv-find : find.InvT-loop
-Inv-find n v limits links holders₀ tried₀ i₀ holders tried i = Finding n (at limits) links v holders₀ tried₀ holders tried i
+Inv-find v limits links next rows₀ holders₀ tried₀ e₀ rows holders tried e = Finding (length tried₀) (at limits) links v rows₀ holders₀ tried₀ rows holders tried e
 
 abbrev μ-find : find.MeasureT-loop
-μ-find n v limits links holders₀ tried₀ i₀ holders tried i = length links - i
+μ-find v limits links next rows₀ holders₀ tried₀ e₀ rows holders tried e = NONE - e
 
 abbrev Inv-free : free.InvT-loop
-Inv-free n u limits links holders₀ tried₀ x₀ holders tried x = Freeing n (at limits) links u holders₀ tried₀ holders tried x
+Inv-free u limits links next rows₀ holders₀ tried₀ i₀ rows holders tried i = Freeing (length tried₀) (at limits) links u rows₀ holders₀ tried₀ rows holders tried i
 
 abbrev μ-free : free.MeasureT-loop
-μ-free n u limits links holders₀ tried₀ x₀ holders tried x = n - x
+μ-free u limits links next rows₀ holders₀ tried₀ i₀ rows holders tried i = HIGHEST - i
 
 module _ (t : ℕ) where
+  find-first-end-requires : find.Need-first-end-requires (find-claims t) (find-at t) find-holder.Post Inv-find μ-find
+  find-first-end-requires c κs = working-below (c .before .before .before .before .before .pre .1)
+
   find-loop-holds : find.Need-loop-holds (find-claims t) (find-at t) find-holder.Post Inv-find μ-find
-  find-loop-holds c = finding-start _ _ _ _ _ _ (c .before .before .before .before .pre .1)
+  find-loop-holds c = finding-start _ _ _ _ _ _ _ _ refl (c .before .before .before .before .before .before .pre .1) (c .first-end .ensures)
 
-  find-add-loop : find.Need-add-loop (find-claims t) (find-at t) find-holder.Post Inv-find μ-find
-  find-add-loop c = search needs
-
-  find-mul-other-end : find.Need-mul-other-end (find-claims t) (find-at t) find-holder.Post Inv-find μ-find
-  find-mul-other-end c = search needs
-
-  find-shared-slice-read-other-end : find.Need-shared-slice-read-other-end (find-claims t) (find-at t) find-holder.Post Inv-find μ-find
-  find-shared-slice-read-other-end c = search needs
-
-  find-add-other-end : find.Need-add-other-end (find-claims t) (find-at t) find-holder.Post Inv-find μ-find
-  find-add-other-end c = search needs
-
-  find-mul-other-end-2 : find.Need-mul-other-end-2 (find-claims t) (find-at t) find-holder.Post Inv-find μ-find
-  find-mul-other-end-2 c = search needs
-
-  find-shared-slice-read-other-end-2 : find.Need-shared-slice-read-other-end-2 (find-claims t) (find-at t) find-holder.Post Inv-find μ-find
-  find-shared-slice-read-other-end-2 c = search needs
-
-  find-other-end-requires : find.Need-other-end-requires (find-claims t) (find-at t) find-holder.Post Inv-find μ-find
-  find-other-end-requires c κs = search needs
+  find-across-requires : find.Need-across-requires (find-claims t) (find-at t) find-holder.Post Inv-find μ-find
+  find-across-requires c κs = finding-places _ _ _ _ _ _ _ _ refl (c .before .before .before .before .before .before .before .before .pre .1) (c .before .loop .inv) (c .loop-test .taken) .0
 
   find-entry-requires : find.Need-entry-requires (find-claims t) (find-at t) find-holder.Post Inv-find μ-find
   find-entry-requires c κs = search needs
@@ -95,53 +99,58 @@ module _ (t : ℕ) where
   find-put-requires c κs = search needs
 
   find-free-place-requires : find.Need-free-place-requires (find-claims t) (find-at t) find-holder.Post Inv-find μ-find
-  find-free-place-requires c κs = let put = c .before .before .before .before in
+  find-free-place-requires c κs = let put = c .before .before .before .before .before in
       let entry = put .before .before .before in
-      let ends = entry .before .before in
-      let turn = ends .before .before .before in
-      let start = turn .before .before .before .before .before .before in (
-        omega (arith, start .pre .0, finding-less _ _ _ _ _ _ (turn .before .loop .inv) (turn .loop-test .taken) (ends .other-end .ensures) (entry .entry .ensures) (put .before .before .if1 .taken) (put .put .ensures)),
-        finding-few _ _ _ _ _ _ (turn .before .loop .inv) (turn .loop-test .taken) (ends .other-end .ensures) (entry .entry .ensures) (put .before .before .if1 .taken) (put .put .ensures),
+      let across = entry .before .before in
+      let turn = across .before in
+      let start = turn .before .before .before .before .before .before .before .before in (
+        omega (arith, start .pre .0, finding-less _ _ _ _ _ _ _ _ refl (start .pre .1) (turn .before .loop .inv) (turn .loop-test .taken) (across .across .ensures) (entry .entry .ensures) (put .before .before .if1 .taken) (put .put .ensures)),
+        finding-works _ _ _ _ _ _ _ _ refl (start .pre .1) (turn .before .loop .inv) (turn .loop-test .taken) (across .across .ensures) (entry .entry .ensures) (put .before .before .if1 .taken) (put .put .ensures),
       )
 
-  find-put-requires-2 : find.Need-put-requires-2 (find-claims t) (find-at t) find-holder.Post Inv-find μ-find
-  find-put-requires-2 c κs = search needs
+  find-take-requires : find.Need-take-requires (find-claims t) (find-at t) find-holder.Post Inv-find μ-find
+  find-take-requires c κs = search needs
 
   find-same-length : find.Need-same-length (find-claims t) (find-at t) find-holder.Post Inv-find μ-find
-  find-same-length c =
-      let called = c .before .before .before .before .before .before .before .before .before in
-      let turn = called .before .before .before .before .before .before .before .before .before .before .before .before .before in
-      c .before .before .put2 .kept .0 ∙ called .free-place .kept .1 .1 .1 .1 .0 ∙ ap length (turn .before .loop .inv .unchanged)
+  find-same-length c = let called = c .before .before .before .before .before .before .before .before .before .before in
+      let turn = called .before .before .before .before .before .before .before .before .before .before .before .before in
+      c .before .before .take .kept .1 .1 .1 .0 ∙ called .free-place .kept .1 .1 .1 .1 .1 .0 ∙ ap length (turn .before .loop .inv .unchanged)
 
   find-same-length-2 : find.Need-same-length-2 (find-claims t) (find-at t) find-holder.Post Inv-find μ-find
   find-same-length-2 c = search needs
 
   find-returns : find.Need-returns (find-claims t) (find-at t) find-holder.Post Inv-find μ-find
-  find-returns c = let then = c .before .before .before .before in
+  find-returns c = let taken = c .before .before in
+      let then = taken .before .before .before in
       let called = then .before .before .before .before .before in
-      let put = called .before .before .before .before .before in
+      let put = called .before .before .before .before .before .before in
       let entry = put .before .before .before in
-      let ends = entry .before .before in
-      let turn = ends .before .before .before in
-      finding-found _ _ _ _ _ _ (turn .before .loop .inv) (turn .loop-test .taken) (ends .other-end .ensures) (entry .entry .ensures) (put .before .before .if1 .taken) (put .put .ensures)
-      (called .free-place .ensures) (then .if2 .taken) (c .before .before .put2 .ensures)
+      let across = entry .before .before in
+      let turn = across .before in
+      let start = turn .before .before .before .before .before .before .before .before in
+      finding-found _ _ _ _ _ _ _ _ refl (start .pre .1) (turn .before .loop .inv) (turn .loop-test .taken) (across .across .ensures) (entry .entry .ensures) (put .before .before .if1 .taken) (put .put .ensures)
+      (called .free-place .ensures .0) (then .if2 .taken) (called .free-place .ensures .1) (taken .take .ensures)
 
-  find-add-i : find.Need-add-i (find-claims t) (find-at t) find-holder.Post Inv-find μ-find
-  find-add-i c = search needs
+  find-next-end-requires : find.Need-next-end-requires (find-claims t) (find-at t) find-holder.Post Inv-find μ-find
+  find-next-end-requires c κs = let turn = c .before .before .before .before in
+      finding-places _ _ _ _ _ _ _ _ refl (turn .before .before .before .before .before .before .before .before .pre .1) (turn .before .loop .inv) (turn .loop-test .taken) .1
 
   find-loop-less : find.Need-loop-less (find-claims t) (find-at t) find-holder.Post Inv-find μ-find
-  find-loop-less c = search needs
+  find-loop-less c = let turn = c .before .before .before .before .before in
+      finding-on _ _ _ _ _ _ _ _ refl (turn .before .before .before .before .before .before .before .before .pre .1) (turn .before .loop .inv) (turn .loop-test .taken) (c .next-end .ensures)
 
   find-loop-again : find.Need-loop-again (find-claims t) (find-at t) find-holder.Post Inv-find μ-find
-  find-loop-again c = let entry = c .before in
-      let ends = entry .before .before in
-      let turn = ends .before .before .before in
+  find-loop-again c = let entry = c .before .before in
+      let across = entry .before .before in
+      let turn = across .before in
+      let start = turn .before .before .before .before .before .before .before .before in
       ⊎-elim
       (λ k.
-      rw (k .13, k .14)
-      (finding-next _ _ _ _ _ _ (turn .before .loop .inv) (turn .loop-test .taken) (ends .other-end .ensures) (entry .entry .ensures) (k .0 .taken) (k .2 .ensures) (k .7 .ensures) (k .12 .left) (k .7 .kept .1 .1 .1 .1 .1 .0)))
-      (λ k. rw (k .1, k .2) (finding-passed _ _ _ _ _ _ (turn .before .loop .inv) (turn .loop-test .taken) (ends .other-end .ensures) (entry .entry .ensures) (k .0 .left)))
-      (c .if1 .came)
+      rw (k .14, k .15, k .16)
+      (finding-next _ _ _ _ _ _ _ _ refl (start .pre .1) (turn .before .loop .inv) (turn .loop-test .taken) (across .across .ensures) (entry .entry .ensures) (k .0 .taken) (k .2 .ensures) (k .8 .ensures .0) (k .8 .ensures .1) (k .13 .left)
+      (k .8 .kept .1 .1 .1 .1 .1 .1 .0) (c .next-end .ensures)))
+      (λ k. rw (k .1, k .2, k .3) (finding-passed _ _ _ _ _ _ _ _ refl (start .pre .1) (turn .before .loop .inv) (turn .loop-test .taken) (across .across .ensures) (entry .entry .ensures) (c .next-end .ensures) (k .0 .left)))
+      (c .before .if1 .came)
 
   find-same-length-3 : find.Need-same-length-3 (find-claims t) (find-at t) find-holder.Post Inv-find μ-find
   find-same-length-3 c = search needs
@@ -150,75 +159,103 @@ module _ (t : ℕ) where
   find-same-length-4 c = search needs
 
   find-returns-2 : find.Need-returns-2 (find-claims t) (find-at t) find-holder.Post Inv-find μ-find
-  find-returns-2 c = finding-out _ _ _ _ _ _ (c .before .loop .inv) (c .loop-test .left)
+  find-returns-2 c = finding-out _ _ _ _ _ _ _ _ refl (c .before .before .before .before .before .before .before .before .pre .1) (c .before .loop .inv) (c .loop-test .left)
 
 module _ (t : ℕ) where
-  free-count-of-requires : free.Need-count-of-requires (free-claims t) (free-at t) free-place.Post Inv-free μ-free
-  free-count-of-requires c κs = search needs
+  free-mul-has-place : free.Need-mul-has-place (free-claims t) (free-at t) free-place.Post Inv-free μ-free
+  free-mul-has-place c = search needs
+
+  free-index-1-has-place : free.Need-index-1-has-place (free-claims t) (free-at t) free-place.Post Inv-free μ-free
+  free-index-1-has-place c = working-below (c .before .before .before .before .before .pre .1) .1
 
   free-byte-requires : free.Need-byte-requires (free-claims t) (free-at t) free-place.Post Inv-free μ-free
   free-byte-requires c κs = search needs
 
-  free-cast-if1 : free.Need-cast-if1 (free-claims t) (free-at t) free-place.Post Inv-free μ-free
-  free-cast-if1 c = search needs
+  free-has-place-requires : free.Need-has-place-requires (free-claims t) (free-at t) free-place.Post Inv-free μ-free
+  free-has-place-requires c κs = search needs
+
+  free-returns : free.Need-returns (free-claims t) (free-at t) free-place.Post Inv-free μ-free
+  free-returns c = let byte = c .before .before in
+      freeing-at-once _ _ _ _ _ _ _ _ refl (byte .before .before .before .before .before .before .before .before .pre .1) (byte .byte .ensures) (c .before .has-place .ensures) (c .if1 .taken)
+
+  free-loop-holds : free.Need-loop-holds (free-claims t) (free-at t) free-place.Post Inv-free μ-free
+  free-loop-holds c = let byte = c .before .before in
+      freeing-start _ _ _ _ _ _ _ _ refl (byte .before .before .before .before .before .before .before .before .pre .1) (byte .byte .ensures) (c .before .has-place .ensures) (c .if1 .left)
+
+  free-mul-x : free.Need-mul-x (free-claims t) (free-at t) free-place.Post Inv-free μ-free
+  free-mul-x c = search needs
+
+  free-mul-x-2 : free.Need-mul-x-2 (free-claims t) (free-at t) free-place.Post Inv-free μ-free
+  free-mul-x-2 c = search needs
+
+  free-index-1-x : free.Need-index-1-x (free-claims t) (free-at t) free-place.Post Inv-free μ-free
+  free-index-1-x c = working-below (c .before .before .before .before .before .before .before .before .before .before .before .before .pre .1) .1
+
+  free-index-2-x : free.Need-index-2-x (free-claims t) (free-at t) free-place.Post Inv-free μ-free
+  free-index-2-x c = search needs
 
   free-same-length : free.Need-same-length (free-claims t) (free-at t) free-place.Post Inv-free μ-free
   free-same-length c = search needs
 
-  free-returns : free.Need-returns (free-claims t) (free-at t) free-place.Post Inv-free μ-free
-  free-returns c = let byte = c .before in
-      freeing-at-once _ _ _ _ _ _ (byte .before .count-of .ensures) (byte .byte .ensures) (c .if1 .taken)
-
-  free-loop-holds : free.Need-loop-holds (free-claims t) (free-at t) free-place.Post Inv-free μ-free
-  free-loop-holds c = let byte = c .before in
-      freeing-start _ _ _ _ _ _ (byte .before .count-of .ensures) (byte .byte .ensures) (c .if1 .left) (byte .before .before .before .before .before .before .before .pre .1)
-
-  free-entry-requires : free.Need-entry-requires (free-claims t) (free-at t) free-place.Post Inv-free μ-free
-  free-entry-requires c κs = search needs
-
-  free-find-holder-requires : free.Need-find-holder-requires (free-claims t) (free-at t) free-place.Post Inv-free μ-free
-  free-find-holder-requires c κs = search needs
-
   free-same-length-2 : free.Need-same-length-2 (free-claims t) (free-at t) free-place.Post Inv-free μ-free
   free-same-length-2 c = search needs
 
-  free-same-length-3 : free.Need-same-length-3 (free-claims t) (free-at t) free-place.Post Inv-free μ-free
-  free-same-length-3 c = search needs
-
   free-returns-2 : free.Need-returns-2 (free-claims t) (free-at t) free-place.Post Inv-free μ-free
-  free-returns-2 c = let called = c .before .before .before .before .before in
-      let then = called .before .before .before in
-      let entry = then .before in
-      let turn = entry .before .before in
-      freeing-freed _ _ _ _ _ _ (turn .before .loop .inv) (turn .loop-test .taken) (entry .entry .ensures) (then .if2 .taken) (called .find-holder .ensures) (c .if3 .taken)
+  free-returns-2 c = let turn = c .before .before in
+      freeing-none _ _ _ _ _ _ _ _ refl (turn .before .before .before .before .before .before .before .before .before .before .before .before .pre .1) (turn .before .loop .inv) (turn .loop-test .taken) refl (c .if2 .taken)
 
-  free-add-x : free.Need-add-x (free-claims t) (free-at t) free-place.Post Inv-free μ-free
-  free-add-x c = search needs
+  free-find-holder-requires : free.Need-find-holder-requires (free-claims t) (free-at t) free-place.Post Inv-free μ-free
+  free-find-holder-requires c κs = let else = c .before .before .before in
+      let turn = else .before .before in
+      let start = turn .before .before .before .before .before .before .before .before .before .before .before .before in
+      (omega (arith, start .pre .0, turn .before .loop .inv .fewer), freeing-works _ _ _ _ _ _ _ _ refl (start .pre .1) (turn .before .loop .inv) (turn .loop-test .taken) refl (else .if2 .left))
+
+  free-add-result : free.Need-add-result (free-claims t) (free-at t) free-place.Post Inv-free μ-free
+  free-add-result c = let called = c .before .before .before .before .before in
+      let else = called .before .before .before .before in
+      let turn = else .before .before in
+      let start = turn .before .before .before .before .before .before .before .before .before .before .before .before in
+      omega (arith, freeing-few _ _ _ _ _ _ _ _ refl (start .pre .1) (turn .before .loop .inv) (turn .loop-test .taken) refl (else .if2 .left) (called .find-holder .ensures .0) (c .if3 .taken))
+
+  free-same-length-3 : free.Need-same-length-3 (free-claims t) (free-at t) free-place.Post Inv-free μ-free
+  free-same-length-3 c = let called = c .before .before .before .before .before in
+      let turn = called .before .before .before .before .before .before in
+      called .find-holder .kept .1 .1 .1 .1 .1 .0 ∙ ap length (turn .before .loop .inv .unchanged)
+
+  free-same-length-4 : free.Need-same-length-4 (free-claims t) (free-at t) free-place.Post Inv-free μ-free
+  free-same-length-4 c = search needs
+
+  free-returns-3 : free.Need-returns-3 (free-claims t) (free-at t) free-place.Post Inv-free μ-free
+  free-returns-3 c = let called = c .before .before .before .before .before in
+      let else = called .before .before .before .before in
+      let turn = else .before .before in
+      let start = turn .before .before .before .before .before .before .before .before .before .before .before .before in
+      freeing-freed _ _ _ _ _ _ _ _ refl (start .pre .1) (turn .before .loop .inv) (turn .loop-test .taken) refl (else .if2 .left) (called .find-holder .ensures .0) (c .if3 .taken) (called .find-holder .ensures .1)
+
+  free-add-i : free.Need-add-i (free-claims t) (free-at t) free-place.Post Inv-free μ-free
+  free-add-i c = search needs
 
   free-loop-less : free.Need-loop-less (free-claims t) (free-at t) free-place.Post Inv-free μ-free
   free-loop-less c = search needs
 
   free-loop-again : free.Need-loop-again (free-claims t) (free-at t) free-place.Post Inv-free μ-free
-  free-loop-again c = let entry = c .before in
-      let turn = entry .before .before in
-      ⊎-elim
-      (λ k.
-      rw (k .9, k .10)
-      (freeing-next _ _ _ _ _ _ (turn .before .loop .inv) (turn .loop-test .taken) (entry .entry .ensures) (k .0 .taken) (k .3 .ensures) (k .8 .left) (k .3 .kept .1 .1 .1 .1 .1 .0)))
-      (λ k. rw (k .1, k .2) (freeing-passed _ _ _ _ _ _ (turn .before .loop .inv) (turn .loop-test .taken) (entry .entry .ensures) (k .0 .left)))
-      (c .if2 .came)
-
-  free-same-length-4 : free.Need-same-length-4 (free-claims t) (free-at t) free-place.Post Inv-free μ-free
-  free-same-length-4 c = search needs
+  free-loop-again c = let called = c .before .before .before .before .before in
+      let else = called .before .before .before .before in
+      let turn = else .before .before in
+      let start = turn .before .before .before .before .before .before .before .before .before .before .before .before in
+      freeing-next _ _ _ _ _ _ _ _ refl (start .pre .1) (turn .before .loop .inv) (turn .loop-test .taken) refl (else .if2 .left) (called .find-holder .ensures .0) (called .find-holder .ensures .1) (c .if3 .left) (called .find-holder .kept .1 .1 .1 .1 .1 .1 .0)
 
   free-same-length-5 : free.Need-same-length-5 (free-claims t) (free-at t) free-place.Post Inv-free μ-free
   free-same-length-5 c = search needs
 
-  free-returns-3 : free.Need-returns-3 (free-claims t) (free-at t) free-place.Post Inv-free μ-free
-  free-returns-3 c = freeing-out _ _ _ _ _ _ (c .before .loop .inv) (c .loop-test .left)
+  free-same-length-6 : free.Need-same-length-6 (free-claims t) (free-at t) free-place.Post Inv-free μ-free
+  free-same-length-6 c = search needs
+
+  free-returns-4 : free.Need-returns-4 (free-claims t) (free-at t) free-place.Post Inv-free μ-free
+  free-returns-4 c = freeing-out _ _ _ _ _ _ _ _ refl (c .before .before .before .before .before .before .before .before .before .before .before .before .pre .1) (c .before .loop .inv) (c .loop-test .left)
 
 pub +find-holder+free-place-spec : {M : Type 1} → statement M
 +find-holder+free-place-spec =
     close μ-find-holder μ-free-place
-    (λ t. find.spec (find-claims t) (find-at t) find-holder.Post Inv-find μ-find (find-loop-holds t) (find-add-loop t) (find-mul-other-end t) (find-shared-slice-read-other-end t) (find-add-other-end t) (find-mul-other-end-2 t) (find-shared-slice-read-other-end-2 t) (find-other-end-requires t) (find-entry-requires t) (find-put-requires t) (find-free-place-requires t) (find-put-requires-2 t) (find-same-length t) (find-same-length-2 t) (find-returns t) (find-add-i t) (find-loop-less t) (find-loop-again t) (find-same-length-3 t) (find-same-length-4 t) (find-returns-2 t))
-    (λ t. free.spec (free-claims t) (free-at t) free-place.Post Inv-free μ-free (free-count-of-requires t) (free-byte-requires t) (free-cast-if1 t) (free-same-length t) (free-returns t) (free-loop-holds t) (free-entry-requires t) (free-find-holder-requires t) (free-same-length-2 t) (free-same-length-3 t) (free-returns-2 t) (free-add-x t) (free-loop-less t) (free-loop-again t) (free-same-length-4 t) (free-same-length-5 t) (free-returns-3 t))
+    (λ t. find.spec (find-claims t) (find-at t) find-holder.Post Inv-find μ-find (find-first-end-requires t) (find-loop-holds t) (find-across-requires t) (find-entry-requires t) (find-put-requires t) (find-free-place-requires t) (find-take-requires t) (find-same-length t) (find-same-length-2 t) (find-returns t) (find-next-end-requires t) (find-loop-less t) (find-loop-again t) (find-same-length-3 t) (find-same-length-4 t) (find-returns-2 t))
+    (λ t. free.spec (free-claims t) (free-at t) free-place.Post Inv-free μ-free (free-mul-has-place t) (free-index-1-has-place t) (free-byte-requires t) (free-has-place-requires t) (free-returns t) (free-loop-holds t) (free-mul-x t) (free-mul-x-2 t) (free-index-1-x t) (free-index-2-x t) (free-same-length t) (free-same-length-2 t) (free-returns-2 t) (free-find-holder-requires t) (free-add-result t) (free-same-length-3 t) (free-same-length-4 t) (free-returns-3 t) (free-add-i t) (free-loop-less t) (free-loop-again t) (free-same-length-5 t) (free-same-length-6 t) (free-returns-4 t))

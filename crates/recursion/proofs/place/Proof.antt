@@ -1,6 +1,6 @@
+use borrow.Author.Needs.{needs}
 use Rattle.search.proofs.Tested.{place-free, place-refuses, place-places}
 use Rattle.recursion.specs.Recursion.{recursiveAfter, recursiveMoved}
-use borrow.Author.Needs.{needs}
 use Rattle.recursion.proofs.place.Statement.{statement}
 use Rattle.recursion.proofs.place.Tie as tie
 
@@ -14,16 +14,22 @@ returns : tie.Need-returns
 unfolding recursiveAfter recursiveMoved
 returns c = place-refuses _ _ _ (c .before .is-placeable .ensures) _ (c .if1 .taken)
 
-place-unheld-requires : tie.Need-place-unheld-requires
-place-unheld-requires c κs = place-free _ _ _ (c .before .before .is-placeable .ensures) (c .before .if1 .left)
+gather-requires : tie.Need-gather-requires
+gather-requires c κs = search needs
+
+place-kept-requires : tie.Need-place-kept-requires
+place-kept-requires c κs = let gathered = c .before .before in
+    let test = gathered .before .before in
+    record { free = place-free _ _ _ (test .before .is-placeable .ensures) (test .if1 .left); index = test .before .before .before .before .before .before .before .pre; table = gathered .gather .ensures }
 
 same-length-2 : tie.Need-same-length-2
 same-length-2 c = search needs
 
 returns-2 : tie.Need-returns-2
 unfolding recursiveAfter recursiveMoved
-returns-2 c = let test = c .before .before .before .before in
-    place-places _ _ _ (test .before .is-placeable .ensures) (test .if1 .left) (c .before .before .place-unheld .ensures .0) (c .before .before .place-unheld .ensures .1)
+returns-2 c = let called = c .before .before in
+    let test = called .before .before .before .before .before in
+    place-places _ _ _ (test .before .is-placeable .ensures) (test .if1 .left) (called .place-kept .ensures .0) (called .place-kept .ensures .1 .0)
 
 pub place-spec : {M : Type 1} → statement M
 place-spec =
@@ -32,6 +38,7 @@ place-spec =
     is-placeable-requires
     same-length
     returns
-    place-unheld-requires
+    gather-requires
+    place-kept-requires
     same-length-2
     returns-2)

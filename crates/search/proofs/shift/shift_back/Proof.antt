@@ -13,14 +13,8 @@ abbrev μ-loop : tie.MeasureT-loop
 loop-holds : tie.Need-loop-holds Inv-loop μ-loop
 loop-holds c = row-rounds-start _ _ _ _ _ _ _
 
-entry-requires : tie.Need-entry-requires Inv-loop μ-loop
-entry-requires c κs = search needs
-
-put-requires : tie.Need-put-requires Inv-loop μ-loop
-put-requires c κs = search needs
-
-move-row-requires : tie.Need-move-row-requires Inv-loop μ-loop
-move-row-requires c κs = search needs
+take-requires : tie.Need-take-requires Inv-loop μ-loop
+take-requires c κs = search needs
 
 add-result : tie.Need-add-result Inv-loop μ-loop
 add-result c = search needs
@@ -29,14 +23,12 @@ same-length : tie.Need-same-length Inv-loop μ-loop
 same-length c = search needs
 
 returns : tie.Need-returns Inv-loop μ-loop
-returns c = let moved = c .before in
-    let put = moved .before .before .before .before in
-    let entry = put .before .before in
-    let turn = entry .before .before in
-    row-rounds-done _ _ _ _ _ _ _ (turn .before .loop .inv) (turn .loop-test .taken) (entry .entry .ensures) (put .put .ensures) (moved .move-row .ensures) (c .if1 .taken)
+returns c = let called = c .before .before .before in
+    let turn = called .before .before .before in
+    row-rounds-done _ _ _ _ _ _ _ (turn .before .loop .inv) (turn .loop-test .taken) (called .take .ensures) (c .if1 .taken)
 
-entry-requires-2 : tie.Need-entry-requires-2 Inv-loop μ-loop
-entry-requires-2 c κs = search needs
+entry-requires : tie.Need-entry-requires Inv-loop μ-loop
+entry-requires c κs = search needs
 
 add-k : tie.Need-add-k Inv-loop μ-loop
 add-k c = search needs
@@ -45,11 +37,9 @@ loop-less : tie.Need-loop-less Inv-loop μ-loop
 loop-less c = search needs
 
 loop-again : tie.Need-loop-again Inv-loop μ-loop
-loop-again c = let moved = c .before .before in
-    let put = moved .before .before .before .before in
-    let entry = put .before .before in
-    let turn = entry .before .before in
-    row-rounds-turn _ _ _ _ _ _ _ (turn .before .loop .inv) (turn .loop-test .taken) (entry .entry .ensures) (put .put .ensures) (moved .move-row .ensures) (c .before .if1 .left) (c .entry2 .ensures)
+loop-again c = let called = c .before .before .before .before in
+    let turn = called .before .before .before in
+    row-rounds-turn _ _ _ _ _ _ _ (turn .before .loop .inv) (turn .loop-test .taken) (called .take .ensures) (c .before .if1 .left) (c .entry .ensures)
 
 same-length-2 : tie.Need-same-length-2 Inv-loop μ-loop
 same-length-2 c = search needs
@@ -64,13 +54,11 @@ shift-back-spec =
     Inv-loop
     μ-loop
     loop-holds
-    entry-requires
-    put-requires
-    move-row-requires
+    take-requires
     add-result
     same-length
     returns
-    entry-requires-2
+    entry-requires
     add-k
     loop-less
     loop-again
