@@ -1,8 +1,8 @@
 -- A cycle gone round from v: the loop marks it, counts its arcs, and finds one on it that leads, if there is one.
-use Prim.Native.Nat.{ℕ, zero, suc, _+_, _-_, _<_, _≤_}
+use Prim.Native.Nat.{ℕ, suc, _+_, _-_, _<_, _≤_}
 use mathlib.Core.Path.{_≡_, refl, sym, ap, _∙_}
 use mathlib.Core.Logic.{_⊎_, inl, inr, ⊎-elim}
-use mathlib.Core.Bool.{Bool, true, false, not, cond, _&&_, and-comm}
+use mathlib.Core.Bool.{Bool, true, false, not, cond}
 use mathlib.Core.List.{List}
 use native.Mathlib.Numerals.{add-one}
 use native.Mathlib.Omega.{arith}
@@ -10,13 +10,13 @@ use lib.Dec.{eqb, ltb}
 use lib.ListN.{length, set, length-set}
 use borrow.Author.Tests.{eqb-true, eqb-false, ltb-true, ltb-false, not-true, not-false}
 use Rattle.packing.specs.Count.{count}
-use Rattle.packing.specs.Plant.{GATEWAYS, NONE, at}
-use Rattle.packing.proofs.Tests.{by-bool, below-suc, clash, not-i}
-use Rattle.packing.proofs.Sums.{count-bound, count-ext}
-use Rattle.stars.specs.Stars.{holder, back, onCycle}
+use Rattle.packing.specs.Plant.{GATEWAYS, at}
+use Rattle.packing.proofs.Tests.{by-bool, below-suc, clash}
+use Rattle.packing.proofs.Sums.{count-bound}
+use Rattle.stars.specs.Stars.{holder, back}
 use Rattle.stars.specs.Pre.{Unmet, Rounded, marked}
 use Rattle.stars.proofs.Tables.{mark-here, mark-other}
-use Rattle.stars.proofs.Cycles.{holder-at, back-gap, round-back, round-return, round-met, cycle-below, cycle-back, cycle-round}
+use Rattle.stars.proofs.Cycles.{holder-at, back-gap, round-back, round-return, round-met, cycle-below, cycle-round}
 use Rattle.stars.proofs.Without.{unmarked-less}
 
 -- the next arc back from a gateway

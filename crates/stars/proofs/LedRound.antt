@@ -3,14 +3,13 @@ use Prim.Native.Nat.{ℕ, zero, suc, _+_, _-_, _<_, _≤_}
 use mathlib.Core.Path.{_≡_, refl, sym, ap, _∙_}
 use mathlib.Core.Bool.{Bool, true, false, not, cond, _&&_, _||_}
 use mathlib.Core.List.{List}
-use native.Mathlib.Numerals.{add-one}
 use native.Mathlib.Omega.{arith}
-use lib.Dec.{eqb, ltb}
+use lib.Dec.{eqb}
 use lib.ListN.{length, set}
-use borrow.Author.Tests.{eqb-true, eqb-false, eq-eqb, not-true}
+use borrow.Author.Tests.{eqb-true, eqb-false, not-true}
 use Rattle.packing.specs.Plant.{GATEWAYS, NONE, at}
-use Rattle.packing.proofs.Tests.{by-bool, below-suc, clash, and-l, and-r, or-l, or-r, or-false-l, or-false-r, not-i, not-test, iff-test}
-use Rattle.stars.specs.Stars.{back, onCycle, nextOnCycle, leadsInTrees, cut, leads}
+use Rattle.packing.proofs.Tests.{by-bool, below-suc, clash, and-l, and-r, or-false-l, or-false-r, not-test, iff-test}
+use Rattle.stars.specs.Stars.{back, onCycle, leadsInTrees, cut, leads}
 use Rattle.stars.specs.Pre.{Broken, Led, marked}
 use Rattle.stars.proofs.Tables.{mark-here, mark-other, written-long}
 use Rattle.stars.proofs.Cycles.{holder-at, round-met, cycle-below, cycle-back, next-only}

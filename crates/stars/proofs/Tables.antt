@@ -1,6 +1,6 @@
 -- Arrays with a place for each gateway: filled one after the other, and read.
-use Prim.Native.Nat.{ℕ, zero, _+_, _<_, _≤_}
-use mathlib.Core.Path.{_≡_, refl, sym, ap, _∙_}
+use Prim.Native.Nat.{ℕ, _+_, _<_, _≤_}
+use mathlib.Core.Path.{_≡_, refl, sym, _∙_}
 use mathlib.Core.Bool.{Bool, true, false, cond}
 use mathlib.Core.List.{List}
 use native.Mathlib.Nat.{not-suc-le-zero, le-antisymm}
@@ -8,8 +8,6 @@ use native.Mathlib.Numerals.{add-one}
 use native.Mathlib.Omega.{arith}
 use lib.ListN.{length, set, replicate, length-set}
 use lib.Seq.{getD-set-same, getD-set-other}
-use Rattle.packing.proofs.Counting.{pick-test}
-use Rattle.packing.specs.Count.{pick}
 use Rattle.packing.specs.Plant.{GATEWAYS, at}
 use Rattle.packing.proofs.Tests.{below-suc}
 use Rattle.packing.proofs.Lists.{zero-at}

@@ -38,12 +38,7 @@ fn leader_of(n: u16, holders: &[u16], nexts: &[u16], leading: &[u16], v: u16) ->
 }
 
 // The leader of each gateway.
-pub(crate) fn leaders_of(
-    n: u16,
-    holders: &[u16],
-    nexts: &[u16],
-    leading: &[u16],
-) -> [u16; PLACES]
+pub(crate) fn leaders_of(n: u16, holders: &[u16], nexts: &[u16], leading: &[u16]) -> [u16; PLACES]
     requires { ⌜ Read n (now holders) (now leading) (now nexts) ⌝ }
     ensures { λ r. ⌜ Table n (leaderOf n (now (holders .entry))) r ⌝ }
 {
