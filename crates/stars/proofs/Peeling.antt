@@ -14,7 +14,7 @@ use Rattle.packing.proofs.Tests.{by-bool, clash, and-i, not-i, not-test}
 use Rattle.packing.proofs.Sums.{count-ext, count-some}
 use Rattle.stars.specs.Stars.{onCycle, nextOnCycle}
 use Rattle.stars.specs.Pre.{Taken, marked}
-use Rattle.stars.proofs.Tables.{mark-here, mark-other, written-long}
+use Rattle.stars.proofs.Tables.{mark-here, mark-other, mark-keeps, written-long}
 use Rattle.stars.proofs.Without.{unmarked-less}
 use Rattle.stars.proofs.Cycles.{next-held}
 
@@ -132,7 +132,7 @@ module _
             old : marked ls x ≡ true → (w : ℕ) × (w < n) × (at hs w ≡ x) × (marked ts' w ≡ true) × (marked ls' w ≡ false)
             old s =
                 let (w, m, a, b, c) = p .leads x k s in
-                let still : marked ts' w ≡ true = by-bool (eqb w u) (λ q. rw (eqb-true w u q) taken-here) (λ q. taken-other w (eqb-false w u q) ∙ b) in
+                let still : marked ts' w ≡ true = rw (t .taken) (mark-keeps ts u (omega (arith, p .few, p .taken-long)) w b) in
                 (w, m, a, still, leading-other w (not-holder w m still) ∙ c)
 
             -- who did not lead before is u's holder

@@ -126,8 +126,8 @@ module _ {n : ℕ} {hs : List ℕ} where
 
   -- At the end all that hang in trees are taken, from the deepest upwards.
   module _ {ws ts ls : List ℕ} {v u : ℕ} (s : Passing n hs ws ts ls v u) (h : n ≤ v) where
-    few-named : n ≤ NONE
-    few-named = omega (arith, s .peeled .few)
+    few : n ≤ NONE
+    few = omega (arith, s .peeled .few)
 
     taken-all : (x : ℕ) → x < n → ((w : ℕ) → w < n → at hs w ≡ x → marked ts w ≡ true) → marked ts x ≡ true
     taken-all x k children =
@@ -136,19 +136,19 @@ module _ {n : ℕ} {hs : List ℕ} where
 
     taken-trees : (x : ℕ) → x < n → onCycle n hs x ≡ false → marked ts x ≡ true
     taken-trees =
-        upwards n hs few-named (λ w. not (onCycle n hs w)) (trees-broken n hs few-named) (λ f x. onCycle n hs x ≡ false → marked ts x ≡ true)
+        upwards n hs few (λ w. not (onCycle n hs w)) (trees-broken n hs few) (λ f x. onCycle n hs x ≡ false → marked ts x ≡ true)
         (λ x k none off. taken-all x k (λ w m e. absurd (none w m e (not-i _ (child-off x w m e off)))))
         (λ f x k all off. taken-all x k (λ w m e. let away = child-off x w m e off in all w m e (not-i _ away) away))
       where
         child-off : (x w : ℕ) → w < n → at hs w ≡ x → onCycle n hs x ≡ false → onCycle n hs w ≡ false
-        child-off x w m e off = not-test (onCycle n hs w) (λ on. clash _ (rw e at (cycle-holder n hs few-named w m on .1)) off)
+        child-off x w m e off = not-test (onCycle n hs w) (λ on. clash _ (rw e at (cycle-holder n hs few w m on .1)) off)
 
     pub passing-end : Treed n hs ts ls
     passing-end =
         record {
           few = s .peeled .few;
           trees = record { long = s .peeled .taken-long; mark = λ x k. trees x k };
-          leading = record { long = s .peeled .leading-long; mark = lead-only n hs few-named (marked ls) (λ x k. (leads x k, led x k)) };
+          leading = record { long = s .peeled .leading-long; mark = lead-only n hs few (marked ls) (λ x k. (leads x k, led x k)) };
         }
       where
         trees : (x : ℕ) → x < n → marked ts x ≡ not (onCycle n hs x)

@@ -53,10 +53,10 @@ fn lead_round(n: u16, holders: &[u16], leading: &mut [u16], start: u16, arcs: u1
     let mut u = start;
     let mut i: u16 = 0;
     while i < arcs {
-        let led = either(u == start, is_marked(leading, u));
+        let free = either(u == start, is_marked(leading, u));
         last = u;
         u = entry(holders, u);
-        mark_if(!led, leading, u);
+        mark_if(!free, leading, u);
         i += 1;
     }
     last
