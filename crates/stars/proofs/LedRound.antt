@@ -88,8 +88,8 @@ module _ {n : ℕ} {hs ls : List ℕ} {s arcs : ℕ} (p : Broken n hs ls s arcs)
           leads-child n hs few u' beyond .1 (u, below, sym d, kept-arc apart quiet, quiet)
 
       -- .. and only there, if it does not lead in the trees
-      holder-free : leads n hs u' ≡ true → leadsInTrees n hs u' ≡ false → free ≡ false
-      holder-free t still =
+      not-free : leads n hs u' ≡ true → leadsInTrees n hs u' ≡ false → free ≡ false
+      not-free t still =
           let both : (not (cut n hs u) && not (leads n hs u)) ≡ true = sym (cycle-leads n hs few u' u beyond below (rw (r .here) (met-on i)) (sym d) still) ∙ t in
           not-test free (λ q. by-bool (eqb u s) (λ w. clash _ (rw (← eqb-true u s w) at (p .stops)) (not-true _ (and-l _ _ both)))
           (λ w. clash (leads n hs u) (marked-leads (sym e ∙ rw w at (sym f ∙ q))) (not-true _ (and-r (not (cut n hs u)) _ both))))
@@ -122,7 +122,7 @@ module _ {n : ℕ} {hs ls : List ℕ} {s arcs : ℕ} (p : Broken n hs ls s arcs)
           holder-marked : leads n hs u' ≡ true → marked ms' u' ≡ true
           holder-marked t =
               by-bool (leadsInTrees n hs u') (λ q. kept u' (rw (← there) at (r .trees (i + 1) (rw there at q))))
-              (λ q. rw (g, holder-free t q) (mark-here ms u' room))
+              (λ q. rw (g, not-free t q) (mark-here ms u' room))
 
           not-marked : (x : ℕ) → (x ≡ u' → ⊥) → marked ms' x ≡ marked ms x
           not-marked x away = by-bool free (λ q. rw (g, q)) (λ q. rw (g, q) (mark-other ms u' x away))
