@@ -35,7 +35,7 @@ fn place_one(
         Way::Queued => search::past::place_past(
             n, v, limits, links, next, rows, holders, queue, dead, from,
         ),
-        Way::Recursive => search::past::place_past(n, v, limits, links, next, rows, holders, queue, dead, from),
+        Way::Recursive => recursion::place_kept(n, v, limits, links, next, rows, holders),
     }
 }
 

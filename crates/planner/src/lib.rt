@@ -54,7 +54,7 @@ fn search_by(
 {
     match way {
         Way::Queued => search::place(n, v, limits, links, next, holders),
-        Way::Recursive => recursion::place(n, v, limits, links, holders),
+        Way::Recursive => recursion::place(n, v, limits, links, next, holders),
     }
 }
 

@@ -1,25 +1,25 @@
 -- The pass over the cycles: the first met of a cycle is the lowest number on it, and once the cycle is read all on it have their leader.
 use Prim.Native.Nat.{ℕ, suc, _+_, _-_, _<_, _≤_}
-use mathlib.Core.Path.{_≡_, refl, sym, ap, _∙_}
+use mathlib.Core.Path.{_≡_, sym, ap, _∙_}
 use mathlib.Core.Logic.{⊎-elim}
-use mathlib.Core.Bool.{Bool, true, false, not, cond}
+use mathlib.Core.Bool.{true, false, not, cond}
 use mathlib.Core.List.{List}
 use native.Mathlib.Numerals.{add-one}
 use native.Mathlib.Omega.{arith}
 use lib.Dec.{eqb, ltb}
-use lib.ListN.{length, set, replicate, length-set, length-replicate, getD-replicate}
+use lib.ListN.{set, replicate, length-set, length-replicate, getD-replicate}
 use lib.Seq.{getD-set-same, getD-set-other}
-use borrow.Author.Tests.{eqb-true, eqb-false, ltb-true, ltb-false, not-true, not-false}
+use borrow.Author.Tests.{eqb-true, eqb-false, ltb-true, ltb-false, not-true}
 use Rattle.packing.specs.Plant.{GATEWAYS, NONE, at}
-use Rattle.packing.proofs.Tests.{by-bool, below-suc, clash, not-i-false, not-test}
-use Rattle.stars.specs.Stars.{back, onCycle, nextOnCycle, leadsInTrees, begins, cut, leads}
-use Rattle.stars.specs.Pre.{Hanging, Unmet, Rounded, Broken, Led, Reading, Read, goesWith, marked}
+use Rattle.packing.proofs.Tests.{by-bool, below-suc, clash, not-test}
+use Rattle.stars.specs.Stars.{back, onCycle, leadsInTrees, begins, cut, leads}
+use Rattle.stars.specs.Pre.{Treed, Unmet, Rounded, Broken, Led, Reading, Read, goesWith, marked}
 use Rattle.stars.specs.declared.rounds.Round.{Round}
 use Rattle.stars.proofs.Cycles.{back-add, round-back, round-return, cycle-below, cycle-back, cycle-round}
 use Rattle.stars.proofs.Leads.{Begins, begins-means, begins-is, cut-leads, cut-begins, cut-cycle, leads-tree}
 use Rattle.stars.proofs.Groups.{cut-starts}
 
-pub reading-start : {n : ℕ} {hs ds ls xs : List ℕ} → Hanging n hs ds ls → xs ≡ replicate GATEWAYS NONE → Reading n hs 0 ds ls xs
+pub reading-start : {n : ℕ} {hs ds ls xs : List ℕ} → Treed n hs ds ls → xs ≡ replicate GATEWAYS NONE → Reading n hs 0 ds ls xs
 reading-start {n} {hs} {ds} {ls} {xs} h e =
     record {
       few = h .few;

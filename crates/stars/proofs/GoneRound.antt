@@ -1,8 +1,8 @@
 -- A cycle gone round from v: the loop marks it, counts its arcs, and finds one on it that leads, if there is one.
-use Prim.Native.Nat.{ℕ, zero, suc, _+_, _-_, _<_, _≤_}
+use Prim.Native.Nat.{ℕ, suc, _+_, _-_, _<_, _≤_}
 use mathlib.Core.Path.{_≡_, refl, sym, ap, _∙_}
 use mathlib.Core.Logic.{_⊎_, inl, inr, ⊎-elim}
-use mathlib.Core.Bool.{Bool, true, false, not, cond, _&&_, and-comm}
+use mathlib.Core.Bool.{Bool, true, false, not, cond}
 use mathlib.Core.List.{List}
 use native.Mathlib.Numerals.{add-one}
 use native.Mathlib.Omega.{arith}
@@ -10,13 +10,13 @@ use lib.Dec.{eqb, ltb}
 use lib.ListN.{length, set, length-set}
 use borrow.Author.Tests.{eqb-true, eqb-false, ltb-true, ltb-false, not-true, not-false}
 use Rattle.packing.specs.Count.{count}
-use Rattle.packing.specs.Plant.{GATEWAYS, NONE, at}
-use Rattle.packing.proofs.Tests.{by-bool, below-suc, clash, not-i}
-use Rattle.packing.proofs.Sums.{count-bound, count-ext}
-use Rattle.stars.specs.Stars.{holder, back, onCycle}
+use Rattle.packing.specs.Plant.{GATEWAYS, at}
+use Rattle.packing.proofs.Tests.{by-bool, below-suc, clash}
+use Rattle.packing.proofs.Sums.{count-bound}
+use Rattle.stars.specs.Stars.{holder, back}
 use Rattle.stars.specs.Pre.{Unmet, Rounded, marked}
-use Rattle.stars.proofs.Tables.{mark-here, mark-other}
-use Rattle.stars.proofs.Cycles.{holder-at, back-gap, round-back, round-return, round-met, cycle-below, cycle-back, cycle-round}
+use Rattle.stars.proofs.Tables.{mark-here, mark-other, mark-keeps}
+use Rattle.stars.proofs.Cycles.{holder-at, back-gap, round-back, round-return, round-met, cycle-below, cycle-round}
 use Rattle.stars.proofs.Without.{unmarked-less}
 
 -- the next arc back from a gateway
@@ -56,13 +56,16 @@ module _ {n : ℕ} {hs ds : List ℕ} {v : ℕ} (ls : List ℕ) (m : Unmet n hs 
     below : u < n
     below = rw (r .here) (cycle-below n hs (omega (arith, m .few)) v (m .below) (m .on) i)
 
+    room : u < length es
+    room = omega (arith, below, m .few, r .long)
+
     -- u is not marked yet
     module _ (t : not b ≡ true) where
       blank : marked es u ≡ false
       blank = sym e ∙ not-true b t
 
       fewer : {es' : List ℕ} → es' ≡ set es u 1 → count n (λ x. not (marked es x)) ≡ 1 + count n (λ x. not (marked es' x))
-      fewer f = unmarked-less n (λ x. true) es u below (omega (arith, below, m .few, r .long)) refl blank f
+      fewer f = unmarked-less n (λ x. true) es u below room refl blank f
 
       pub rounding-less : {es' : List ℕ} → es' ≡ set es u 1 → count n (λ x. not (marked es' x)) < count n (λ x. not (marked es x))
       rounding-less f = omega (arith, fewer f)
@@ -87,13 +90,13 @@ module _ {n : ℕ} {hs ds : List ℕ} {v : ℕ} (ls : List ℕ) (m : Unmet n hs 
           }
         where
           new : marked es' u ≡ true
-          new = rw f (mark-here es u (omega (arith, m .few, r .long, below)))
+          new = rw f (mark-here es u room)
 
           other : (x : ℕ) → (x ≡ u → ⊥) → marked es' x ≡ marked es x
           other x h = rw f (mark-other es u x h)
 
           kept : (x : ℕ) → marked es x ≡ true → marked es' x ≡ true
-          kept x s = by-bool (eqb x u) (λ q. rw (eqb-true x u q) new) (λ q. other x (eqb-false x u q) ∙ s)
+          kept x s = rw f (mark-keeps es u room x s)
 
           -- v is marked, so that u is not v again
           again : (j : ℕ) → j ≡ i → 0 < j → back n hs j v ≡ v → ⊥

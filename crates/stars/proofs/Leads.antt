@@ -9,9 +9,8 @@ use lib.Dec.{eqb, ltb, leb}
 use borrow.Author.Tests.{eqb-true, eq-eqb, ltb-true, ltb-false, leb-true, le-leb, not-true}
 use Rattle.packing.specs.Count.{any}
 use Rattle.packing.specs.Plant.{NONE, at}
-use Rattle.packing.proofs.Tests.{by-bool, below-suc, clash, and-l, and-r, and-i, not-i, not-test, iff-test, all-elim, all-intro, any-intro, any-elim, any-none}
+use Rattle.packing.proofs.Tests.{by-bool, below-suc, clash, and-l, and-r, and-i, not-i, not-test, iff-test, all-elim, all-intro, any-intro, any-elim, any-none, any-ext}
 use Rattle.stars.specs.Stars.{back, onCycle, leadsIn, leadsInTrees, begins, cut, leads}
-use Rattle.stars.proofs.Loops.{any-ext}
 use Rattle.stars.proofs.Cycles.{back-add, round-met, round-cycle, cycle-met, cycle-back, cycle-holder}
 use Rattle.stars.proofs.Upwards.{upwards}
 

@@ -3,16 +3,15 @@ use Prim.Native.Nat.{ℕ, zero, suc, _+_, _-_, _<_, _≤_}
 use mathlib.Core.Path.{_≡_, refl, sym, ap, _∙_}
 use mathlib.Core.Bool.{Bool, true, false, not, cond, _&&_, _||_}
 use mathlib.Core.List.{List}
-use native.Mathlib.Numerals.{add-one}
 use native.Mathlib.Omega.{arith}
-use lib.Dec.{eqb, ltb}
+use lib.Dec.{eqb}
 use lib.ListN.{length, set}
-use borrow.Author.Tests.{eqb-true, eqb-false, eq-eqb, not-true}
+use borrow.Author.Tests.{eqb-true, eqb-false, not-true}
 use Rattle.packing.specs.Plant.{GATEWAYS, NONE, at}
-use Rattle.packing.proofs.Tests.{by-bool, below-suc, clash, and-l, and-r, or-l, or-r, or-false-l, or-false-r, not-i, not-test, iff-test}
-use Rattle.stars.specs.Stars.{back, onCycle, nextOnCycle, leadsInTrees, cut, leads}
+use Rattle.packing.proofs.Tests.{by-bool, below-suc, clash, and-l, and-r, or-false-l, or-false-r, not-test, iff-test}
+use Rattle.stars.specs.Stars.{back, onCycle, leadsInTrees, cut, leads}
 use Rattle.stars.specs.Pre.{Broken, Led, marked}
-use Rattle.stars.proofs.Tables.{mark-here, mark-other, written-long}
+use Rattle.stars.proofs.Tables.{mark-here, mark-other, mark-keeps, written-long}
 use Rattle.stars.proofs.Cycles.{holder-at, round-met, cycle-below, cycle-back, next-only}
 use Rattle.stars.proofs.Leads.{begins-is, leads-child, leads-more}
 use Rattle.stars.proofs.Groups.{cut-starts}
@@ -31,11 +30,11 @@ pub record Leading (n : ℕ) (hs ls : List ℕ) (s arcs : ℕ) (ms : List ℕ) (
   pub others : (x : ℕ) → ((j : ℕ) → back n hs j s ≡ x → ⊥) → marked ms x ≡ marked ls x
 
 module _ {n : ℕ} {hs ls : List ℕ} {s arcs : ℕ} (p : Broken n hs ls s arcs) where
-  named : n ≤ NONE
-  named = omega (arith, p .few)
+  few : n ≤ NONE
+  few = omega (arith, p .few)
 
   met-below : (j : ℕ) → back n hs j s < n
-  met-below = cycle-below n hs named s (p .below) (p .on)
+  met-below = cycle-below n hs few s (p .below) (p .on)
 
   met-on : (j : ℕ) → onCycle n hs (back n hs j s) ≡ true
   met-on = cycle-back n hs s (p .on)
@@ -48,7 +47,7 @@ module _ {n : ℕ} {hs ls : List ℕ} {s arcs : ℕ} (p : Broken n hs ls s arcs)
         long = p .long;
         here = refl;
         before = λ k e. absurd (omega arith);
-        sound = λ j e. leads-more n hs named (back n hs j s) (met-below j) (sym (p .trees j) ∙ e);
+        sound = λ j e. leads-more n hs few (back n hs j s) (met-below j) (sym (p .trees j) ∙ e);
         trees = λ j e. p .trees j ∙ e;
         done = λ j a b. absurd (omega arith);
         others = λ x h. refl;
@@ -60,7 +59,7 @@ module _ {n : ℕ} {hs ls : List ℕ} {s arcs : ℕ} (p : Broken n hs ls s arcs)
 
     -- no arc is cut into one that does not lead, but that into s
     kept-arc : (u ≡ s → ⊥) → leads n hs u ≡ false → cut n hs u ≡ false
-    kept-arc apart quiet = not-test (cut n hs u) (λ c. apart (r .here ∙ p .only i (rw (r .here) at (begins-is n hs (cut-starts n hs named u below quiet c)))))
+    kept-arc apart quiet = not-test (cut n hs u) (λ c. apart (r .here ∙ p .only i (rw (r .here) at (begins-is n hs (cut-starts n hs few u below quiet c)))))
 
     -- where u is not s and not marked it does not lead, and then its holder does
     quiet-here : (u ≡ s → ⊥) → marked ms u ≡ false → leads n hs u ≡ false
@@ -71,47 +70,47 @@ module _ {n : ℕ} {hs ls : List ℕ} {s arcs : ℕ} (p : Broken n hs ls s arcs)
         not-first zero q = absurd (apart q)
         not-first (suc k) q = omega arith
 
-    module _ {k led : Bool} {u' : ℕ} {ms' : List ℕ} (h : i < arcs) (e : k ≡ marked ms u) (f : led ≡ (eqb u s || k)) (d : u' ≡ at hs u) (g : ms' ≡ cond (not led) (set ms u' 1) ms) where
+    module _ {k free : Bool} {u' : ℕ} {ms' : List ℕ} (h : i < arcs) (e : k ≡ marked ms u) (f : free ≡ (eqb u s || k)) (d : u' ≡ at hs u) (g : ms' ≡ cond (not free) (set ms u' 1) ms) where
       there : u' ≡ back n hs (i + 1) s
       there = back-arc n hs i s below (r .here) d
 
       beyond : u' < n
       beyond = rw there (met-below (i + 1))
 
-      -- its holder leads where it is not led
-      holder-leads : led ≡ false → leads n hs u' ≡ true
+      room : u' < length ms
+      room = omega (arith, beyond, p .few, r .long)
+
+      -- its holder leads where u is not free: neither s nor one that leads
+      holder-leads : free ≡ false → leads n hs u' ≡ true
       holder-leads t =
           let apart : u ≡ s → ⊥ = eqb-false u s (or-false-l (eqb u s) k (sym f ∙ t)) in
           let quiet : leads n hs u ≡ false = quiet-here apart (sym e ∙ or-false-r (eqb u s) k (sym f ∙ t)) in
-          leads-child n hs named u' beyond .1 (u, below, sym d, kept-arc apart quiet, quiet)
+          leads-child n hs few u' beyond .1 (u, below, sym d, kept-arc apart quiet, quiet)
 
       -- .. and only there, if it does not lead in the trees
-      holder-led : leads n hs u' ≡ true → leadsInTrees n hs u' ≡ false → led ≡ false
-      holder-led t still =
-          let both : (not (cut n hs u) && not (leads n hs u)) ≡ true = sym (cycle-leads n hs named u' u beyond below (rw (r .here) (met-on i)) (sym d) still) ∙ t in
-          not-test led (λ q. by-bool (eqb u s) (λ w. clash _ (rw (← eqb-true u s w) at (p .stops)) (not-true _ (and-l _ _ both)))
+      not-free : leads n hs u' ≡ true → leadsInTrees n hs u' ≡ false → free ≡ false
+      not-free t still =
+          let both : (not (cut n hs u) && not (leads n hs u)) ≡ true = sym (cycle-leads n hs few u' u beyond below (rw (r .here) (met-on i)) (sym d) still) ∙ t in
+          not-test free (λ q. by-bool (eqb u s) (λ w. clash _ (rw (← eqb-true u s w) at (p .stops)) (not-true _ (and-l _ _ both)))
           (λ w. clash (leads n hs u) (marked-leads (sym e ∙ rw w at (sym f ∙ q))) (not-true _ (and-r (not (cut n hs u)) _ both))))
         where
           marked-leads : marked ms u ≡ true → leads n hs u ≡ true
           marked-leads w = rw (← r .here) at (r .sound i (rw (r .here) at w))
 
       kept : (x : ℕ) → marked ms x ≡ true → marked ms' x ≡ true
-      kept x t = by-bool led (λ q. rw (g, q) t) (λ q. rw (g, q) (by-bool (eqb x u') (λ w. rw (eqb-true x u' w) (mark-here ms u' room)) (λ w. mark-other ms u' x (eqb-false x u' w) ∙ t)))
-        where
-          room : u' < length ms
-          room = omega (arith, beyond, p .few, r .long)
+      kept x t = by-bool free (λ q. rw (g, q) t) (λ q. rw (g, q) (mark-keeps ms u' room x t))
 
       -- whoever is marked now was marked before, or is the holder
-      new : {A : Type 0} (x : ℕ) → marked ms' x ≡ true → (marked ms x ≡ true → A) → (x ≡ u' → led ≡ false → A) → A
+      new : {A : Type 0} (x : ℕ) → marked ms' x ≡ true → (marked ms x ≡ true → A) → (x ≡ u' → free ≡ false → A) → A
       new x t old here =
-          by-bool led (λ q. old (rw (g, q) at t))
+          by-bool free (λ q. old (rw (g, q) at t))
           (λ q. by-bool (eqb x u') (λ w. here (eqb-true x u' w) q) (λ w. old (sym (mark-other ms u' x (eqb-false x u' w)) ∙ rw (g, q) at t)))
 
       pub leading-turn : Leading n hs ls s arcs ms' u u' (i + 1)
       leading-turn =
           record {
             upto = omega arith;
-            long = written-long ms u' 1 (not led) (r .long) g;
+            long = written-long ms u' 1 (not free) (r .long) g;
             here = there;
             before = λ k q. let same : k ≡ i = omega arith in rw same (r .here);
             sound = λ j t. new (back n hs j s) t (r .sound j) (λ w q. rw w (holder-leads q));
@@ -123,17 +122,17 @@ module _ {n : ℕ} {hs ls : List ℕ} {s arcs : ℕ} (p : Broken n hs ls s arcs)
           holder-marked : leads n hs u' ≡ true → marked ms' u' ≡ true
           holder-marked t =
               by-bool (leadsInTrees n hs u') (λ q. kept u' (rw (← there) at (r .trees (i + 1) (rw there at q))))
-              (λ q. rw (g, holder-led t q) (mark-here ms u' (omega (arith, beyond, p .few, r .long))))
+              (λ q. rw (g, not-free t q) (mark-here ms u' room))
 
           not-marked : (x : ℕ) → (x ≡ u' → ⊥) → marked ms' x ≡ marked ms x
-          not-marked x away = by-bool led (λ q. rw (g, q)) (λ q. rw (g, q) (mark-other ms u' x away))
+          not-marked x away = by-bool free (λ q. rw (g, q)) (λ q. rw (g, q) (mark-other ms u' x away))
 
   pub leading-end : {ms : List ℕ} {last u i : ℕ} → Leading n hs ls s arcs ms last u i → arcs ≤ i → Led n hs ls ms s last
   unfolding back
   leading-end {ms} {last} {u} {i} r h =
       record {
         long = r .long;
-        next = sym (next-only n hs named s last (rw prior (met-below (arcs - 1))) (rw prior (met-on (arcs - 1))) (rw prior (sym (holder-at n hs _ (met-below (arcs - 1))) ∙ round)));
+        next = sym (next-only n hs few s last (rw prior (met-below (arcs - 1))) (rw prior (met-on (arcs - 1))) (rw prior (sym (holder-at n hs _ (met-below (arcs - 1))) ∙ round)));
         leading = λ j. iff-test _ _ (r .sound j) (λ t. let (k, a, q) = round-met n hs s (arcs - 1) round j in rw q (marks k a (rw q at t)));
         others = r .others;
       }

@@ -16,13 +16,14 @@ pub mod CyclePlaces
 pub mod NamedEntries
 pub mod Only
 pub mod Examples
-pub mod Loops
+pub mod Firsts
 pub mod Tables
 pub mod OrderPass
 pub mod LeaderTables
 pub mod Lent
 pub mod Without
 pub mod Peeling
+pub mod TreePass
 pub mod GoneRound
 pub mod LedRound
 pub mod CyclePass

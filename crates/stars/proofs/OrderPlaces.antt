@@ -10,7 +10,7 @@ use Rattle.packing.specs.Count.{any, firstWith}
 use Rattle.packing.specs.Pairs.{Earlier}
 use Rattle.packing.proofs.Tests.{by-bool, any-fails, first-found}
 use Rattle.stars.specs.Stars.{placeOf, notLater}
-use Rattle.stars.proofs.Loops.{first-least, first-none}
+use Rattle.stars.proofs.Firsts.{first-least, first-none}
 
 -- By a place for each, the one with the lower place leads a pair, and of two with one place the first named.
 module _ (place : ℕ → ℕ) (a b : ℕ) where

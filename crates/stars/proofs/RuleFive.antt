@@ -14,7 +14,7 @@ use Rattle.packing.proofs.Sums.{count-ext, count-find, count-one}
 use Rattle.packing.proofs.Below.{members-below}
 use Rattle.packing.proofs.Groupings.{Sym, Loopless, follows-is, follows-means, entry-cases, leader-within}
 use Rattle.stars.specs.Stars.{pairLeader, partner, ruleFive}
-use Rattle.stars.proofs.Loops.{first-ext}
+use Rattle.stars.proofs.Firsts.{first-ext}
 use Rattle.stars.proofs.Without.{count-without}
 
 -- an entry is one of a grouping's three kinds

@@ -1,17 +1,17 @@
 -- Arrays with a place for each gateway: filled one after the other, and read.
-use Prim.Native.Nat.{ℕ, zero, _+_, _<_, _≤_}
-use mathlib.Core.Path.{_≡_, refl, sym, ap, _∙_}
+use Prim.Native.Nat.{ℕ, _+_, _<_, _≤_}
+use mathlib.Core.Path.{_≡_, refl, sym, _∙_}
 use mathlib.Core.Bool.{Bool, true, false, cond}
 use mathlib.Core.List.{List}
 use native.Mathlib.Nat.{not-suc-le-zero, le-antisymm}
 use native.Mathlib.Numerals.{add-one}
 use native.Mathlib.Omega.{arith}
+use lib.Dec.{eqb}
 use lib.ListN.{length, set, replicate, length-set}
 use lib.Seq.{getD-set-same, getD-set-other}
-use Rattle.packing.proofs.Counting.{pick-test}
-use Rattle.packing.specs.Count.{pick}
+use borrow.Author.Tests.{eqb-true, eqb-false}
 use Rattle.packing.specs.Plant.{GATEWAYS, at}
-use Rattle.packing.proofs.Tests.{below-suc}
+use Rattle.packing.proofs.Tests.{by-bool, below-suc}
 use Rattle.packing.proofs.Lists.{zero-at}
 use Rattle.stars.specs.Pre.{Table, marked}
 
@@ -56,6 +56,9 @@ module _ (l : List ℕ) (u : ℕ) where
 
   pub mark-other : (x : ℕ) → (x ≡ u → ⊥) → marked (set l u 1) x ≡ marked l x
   mark-other x h = rw (getD-set-other l u x 1 0 h)
+
+  pub mark-keeps : u < length l → (x : ℕ) → marked l x ≡ true → marked (set l u 1) x ≡ true
+  mark-keeps h x e = by-bool (eqb x u) (λ q. rw (eqb-true x u q) (mark-here h)) (λ q. mark-other x (eqb-false x u q) ∙ e)
 
 -- an array that is written to or not keeps its length
 pub written-long : (l : List ℕ) {l' : List ℕ} (u x : ℕ) (b : Bool) → GATEWAYS ≡ length l → l' ≡ cond b (set l u x) l → GATEWAYS ≡ length l'

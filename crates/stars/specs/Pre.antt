@@ -1,5 +1,5 @@
--- What the functions of this crate ask of each other's arrays. hs are the holders of n gateways; ws says for how many of those that it holds a gateway waits, ts marks those who were taken, which are those in trees,
--- ds those whose leader can be read, ls those who lead, and xs says with whom the first of a cycle goes.
+-- What the functions of this crate ask and say of their arrays. hs are the holders of n gateways; ws says for how many of those that it holds each waits; ts marks who is taken, ds who is read, in a tree or on a cycle gone round, and ls who leads;
+-- xs says with whom the first of a cycle goes.
 use Prim.Native.Nat.{ℕ, _-_, _<_, _≤_}
 use mathlib.Core.Path.{_≡_}
 use mathlib.Core.Logic.{_⊎_}
@@ -43,18 +43,19 @@ pub record Taken (n : ℕ) (hs : List ℕ) (u : ℕ) (ws ts ls ws' ts' ls' : Lis
   pub waits : ws' ≡ cond (ltb (at hs u) n) (set ws (at hs u) (at ws (at hs u) - 1)) ws
   pub leading : ls' ≡ cond (ltb (at hs u) n && not (marked ls u)) (set ls (at hs u) 1) ls
 
--- the arrays before any is taken
-pub record Sprouting (n : ℕ) (ts ls : List ℕ) : Type 0 where
+-- the arrays before any is taken: nothing is marked, ..
+pub record NoneTaken (n : ℕ) (ts ls : List ℕ) : Type 0 where
   pub few : n ≤ GATEWAYS
   pub taken : ts ≡ replicate GATEWAYS 0
   pub leading : ls ≡ replicate GATEWAYS 0
 
-pub record Peelable (n : ℕ) (hs ws ts ls : List ℕ) : Type 0 where
+-- .. and each waits for all that it holds
+pub record Waiting (n : ℕ) (hs ws ts ls : List ℕ) : Type 0 where
   pub waits : ws ≡ tallyOf n hs
-  pub start : Sprouting n ts ls
+  pub start : NoneTaken n ts ls
 
--- .. and once all that can be are taken: those in trees
-pub record Hanging (n : ℕ) (hs ts ls : List ℕ) : Type 0 where
+-- once all that can be are taken: they are those in trees, and who leads by rule 1 is known
+pub record Treed (n : ℕ) (hs ts ls : List ℕ) : Type 0 where
   pub few : n ≤ GATEWAYS
   pub trees : Marks n (λ v. not (onCycle n hs v)) ts
   pub leading : Marks n (leadsInTrees n hs) ls
@@ -101,7 +102,7 @@ pub record Led (n : ℕ) (hs ls ls' : List ℕ) (s r : ℕ) : Type 0 where
 abbrev pub goesWith : ℕ → List ℕ → ℕ → ℕ
 goesWith n hs v = cond (cut n hs v) (nextOnCycle n hs v) NONE
 
--- the cycles with a number below v were read
+-- The trees and the cycles with a number below v are read: of those read it is known who leads by rules 1 to 4, and with whom the first of a cycle goes; of the others, who leads by rule 1.
 pub record Reading (n : ℕ) (hs : List ℕ) (v : ℕ) (ds ls xs : List ℕ) : Type 0 where
   pub few : n ≤ GATEWAYS
   pub upto : v ≤ n
@@ -115,7 +116,7 @@ pub record Reading (n : ℕ) (hs : List ℕ) (v : ℕ) (ds ls xs : List ℕ) : T
   pub next : (x : ℕ) → x < n → marked ds x ≡ true → leads n hs x ≡ false → at xs x ≡ goesWith n hs x
   pub blank : (x : ℕ) → x < n → marked ds x ≡ false → at xs x ≡ NONE
 
--- .. and all of them
+-- .. and all cycles are
 pub record Read (n : ℕ) (hs ls xs : List ℕ) : Type 0 where
   pub few : n ≤ GATEWAYS
   pub leading : Marks n (leads n hs) ls

@@ -1,4 +1,4 @@
-// Rules 3 and 4: who leads on the cycles, and with whom the first of an odd cycle goes. Each cycle is gone round twice, from the lowest number on it.
+// Rules 3 and 4: who leads on the cycles, and with whom the first of an odd cycle goes. Each cycle is gone round twice: from the lowest number on it to find where its reading starts, and from there to find who leads.
 use lists::PLACES;
 use lists::entry;
 use lists::marks::is_marked;
@@ -9,7 +9,7 @@ use lists::tests::either;
 ghost use mathlib.Core.Path.{_≡_};
 ghost use mathlib.Core.Bool.{false, cond};
 ghost use Prim.Native.Nat.{_+_, _<_};
-ghost use Rattle.stars.specs.Pre.{Broken, Hanging, Led, Read, Reading, Rounded, Unmet, marked};
+ghost use Rattle.stars.specs.Pre.{Broken, Led, Read, Reading, Rounded, Treed, Unmet, marked};
 
 // A cycle: the gateway on it at which its reading starts, and how many arcs it has.
 struct Round {
@@ -17,6 +17,7 @@ struct Round {
     arcs: u16,
 }
 
+// a where first is true, else b.
 fn choose(first: bool, a: u16, b: u16) -> u16
     ensures { λ r. ⌜ r ≡ cond first a b ⌝ }
 {
@@ -43,7 +44,7 @@ fn go_round(n: u16, holders: &[u16], leading: &[u16], read: &mut [u16], v: u16) 
     Round { start, arcs }
 }
 
-// Goes round the cycle from its start, the arc into which is cut: the holder of each other that does not lead leads. Returns the next after the start.
+// Goes round the cycle from its start, the arc into which is cut: each other on it that does not lead is led by its holder. Returns the next after the start.
 fn lead_round(n: u16, holders: &[u16], leading: &mut [u16], start: u16, arcs: u16) -> u16
     requires { ⌜ Broken n (now holders) (now leading) start arcs ⌝ }
     ensures { λ r. ⌜ Led n (now (holders .entry)) (now (leading .entry)) (now (leading .exit)) start r ⌝ }
@@ -52,10 +53,10 @@ fn lead_round(n: u16, holders: &[u16], leading: &mut [u16], start: u16, arcs: u1
     let mut u = start;
     let mut i: u16 = 0;
     while i < arcs {
-        let led = either(u == start, is_marked(leading, u));
+        let free = either(u == start, is_marked(leading, u));
         last = u;
         u = entry(holders, u);
-        mark_if(!led, leading, u);
+        mark_if(!free, leading, u);
         i += 1;
     }
     last
@@ -80,14 +81,14 @@ fn read_cycle(
     put(nexts, start, next);
 }
 
-// Reads the cycles in turn: marks who leads by rules 1 to 4, and returns with whom each goes that does not lead and whose arc is cut; 65535 for the others.
+// Reads the cycles in turn, by marks of those in trees and of those who lead by rule 1: marks who leads by rules 1 to 4. Returns with whom each goes that does not lead and whose arc is cut; 65535 for the others that do not lead.
 pub(crate) fn read_cycles(
     n: u16,
     holders: &[u16],
     read: &mut [u16],
     leading: &mut [u16],
 ) -> [u16; PLACES]
-    requires { ⌜ Hanging n (now holders) (now read) (now leading) ⌝ }
+    requires { ⌜ Treed n (now holders) (now read) (now leading) ⌝ }
     ensures { λ r. ⌜ Read n (now (holders .entry)) (now (leading .exit)) r ⌝ }
 {
     let mut nexts = nones();

@@ -6,7 +6,7 @@ use lists::marks::mark_if;
 use lists::put;
 use lists::tests::both;
 ghost use mathlib.Core.Path.{_≡_};
-ghost use Rattle.stars.specs.Pre.{Hanging, Peelable, Sprouting, Taken, Waited, isNext};
+ghost use Rattle.stars.specs.Pre.{NoneTaken, Taken, Treed, Waited, Waiting, isNext};
 
 // Whether u may be taken: it is a gateway, waits for none that it holds, and is not taken yet.
 fn is_next(n: u16, waits: &[u16], taken: &[u16], u: u16) -> bool
@@ -42,8 +42,8 @@ fn take(
 
 // Takes all that can be taken, each as soon as it can: from v on in turn, and from one that is taken on to its holder.
 fn peel(n: u16, holders: &[u16], waits: &mut [u16], taken: &mut [u16], leading: &mut [u16])
-    requires { ⌜ Peelable n (now holders) (now waits) (now taken) (now leading) ⌝ }
-    ensures { λ _. ⌜ Hanging n (now (holders .entry)) (now (taken .exit)) (now (leading .exit)) ⌝ }
+    requires { ⌜ Waiting n (now holders) (now waits) (now taken) (now leading) ⌝ }
+    ensures { λ _. ⌜ Treed n (now (holders .entry)) (now (taken .exit)) (now (leading .exit)) ⌝ }
 {
     let mut v: u16 = 0;
     let mut u: u16 = 0;
@@ -59,8 +59,8 @@ fn peel(n: u16, holders: &[u16], waits: &mut [u16], taken: &mut [u16], leading: 
 
 // Marks who hangs in a tree, and who leads by rule 1.
 pub(crate) fn lead_trees(n: u16, holders: &[u16], trees: &mut [u16], leading: &mut [u16])
-    requires { ⌜ Sprouting n (now trees) (now leading) ⌝ }
-    ensures { λ _. ⌜ Hanging n (now (holders .entry)) (now (trees .exit)) (now (leading .exit)) ⌝ }
+    requires { ⌜ NoneTaken n (now trees) (now leading) ⌝ }
+    ensures { λ _. ⌜ Treed n (now (holders .entry)) (now (trees .exit)) (now (leading .exit)) ⌝ }
 {
     let mut waits = tally(n, holders);
     peel(n, holders, &mut waits, trees, leading);

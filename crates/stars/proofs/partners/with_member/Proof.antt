@@ -1,5 +1,4 @@
 use borrow.Author.Tests.{eq-eqb, ne-eqb}
-use borrow.Author.Needs.{needs}
 use Rattle.stars.proofs.partners.with_member.Statement.{statement}
 use Rattle.stars.proofs.partners.with_member.Tie as tie
 

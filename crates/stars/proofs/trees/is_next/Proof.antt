@@ -2,7 +2,7 @@ use Prim.Native.Nat.{ℕ}
 use mathlib.Core.Path.{ap}
 use lib.Dec.{eqb}
 use borrow.Author.Needs.{needs}
-use Rattle.stars.proofs.Peeling.{next-past, next-tests}
+use Rattle.stars.proofs.TreePass.{next-past, next-tests}
 use Rattle.stars.proofs.trees.is_next.Statement.{statement}
 use Rattle.stars.proofs.trees.is_next.Tie as tie
 

@@ -5,7 +5,7 @@ use mathlib.Core.Bool.{not}
 use borrow.Author.Needs.{needs}
 use Rattle.packing.specs.Count.{count}
 use Rattle.stars.specs.Pre.{marked}
-use Rattle.stars.proofs.Peeling.{Passing, peelable-long, passing-start, passing-waited, passing-take, passing-less, passing-on, passing-end}
+use Rattle.stars.proofs.TreePass.{Passing, waiting-long, passing-start, passing-waited, passing-take, passing-less, passing-on, passing-end}
 use Rattle.stars.proofs.trees.peel.Statement.{statement}
 use Rattle.stars.proofs.trees.peel.Tie as tie
 
@@ -49,7 +49,7 @@ loop-again-2 c = let turn = c .before .before .before .before in
     passing-on (turn .before .loop .inv) (turn .loop-test .taken) (c .before .is-next .ensures) (c .if1 .left)
 
 same-length : tie.Need-same-length Inv-loop μ-loop
-same-length c = let start = c .before in sym (start .loop .inv .peeled .waits-long) ∙ peelable-long (start .before .before .before .before .before .pre)
+same-length c = let start = c .before in sym (start .loop .inv .peeled .waits-long) ∙ waiting-long (start .before .before .before .before .before .pre)
 
 same-length-2 : tie.Need-same-length-2 Inv-loop μ-loop
 same-length-2 c = search needs

@@ -1,6 +1,6 @@
 -- The two ways through the test are those of a holder that is a gateway and one that is none.
 use borrow.Author.Needs.{needs}
-use Rattle.stars.proofs.Peeling.{take-waited, take-held, take-root}
+use Rattle.stars.proofs.TreePass.{take-waited, take-held, take-root}
 use Rattle.stars.proofs.trees.take.Statement.{statement}
 use Rattle.stars.proofs.trees.take.Tie as tie
 
