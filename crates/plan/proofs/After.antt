@@ -66,7 +66,7 @@ module _ (file : List ℕ) (z : fileRefusal file ≡ 0) where
       file-read : refuses (placedTold file (length ownLinks) k) (read leaders choke) ≡ 0
       file-read = read-accepted file (length ownLinks) k leaders choke room room₂
 
-      reads : callRefusal (stateBy w file k) (read leaders choke) ≡ 0
+      pub reads : callRefusal (stateBy w file k) (read leaders choke) ≡ 0
       unfolding call
       reads = same-number file-agrees (read leaders choke) ∙ file-read
 

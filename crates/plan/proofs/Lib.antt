@@ -6,6 +6,7 @@ pub mod After
 pub mod FileMoves
 pub mod NextPlacing
 pub mod PlacingLoop
+pub mod ReadingLists
 pub mod Asking
 pub mod FilePlan
 pub mod FileWays

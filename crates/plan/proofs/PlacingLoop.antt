@@ -21,6 +21,8 @@ use Rattle.search.specs.Pre.{Placeable}
 use Rattle.search.specs.Dead.{Dead, Past, PastMarks, leftThen}
 use Rattle.search.proofs.Dead.{dead-none}
 use Rattle.search.proofs.DeadChoke.{dead-choke}
+use Rattle.chains.specs.Index.{Index}
+use Rattle.recursion.specs.Pre.{Fits, PlaceableBy}
 use Rattle.planner.specs.declared.Way.{Way}
 use Rattle.planner.specs.declared.Way.the-variants.{Queued, Recursive}
 use Rattle.planner.specs.Ways.{placedBy}
@@ -30,7 +32,9 @@ use Rattle.plant_file.specs.Limits.{LimitsInRange}
 use Rattle.plant_file.proofs.Accepted.{file-allowed}
 use Rattle.plant_file.proofs.GatewayLimits.{limits-in-range}
 use Rattle.plan.specs.Plan.{stateBy, fileMovesBy}
+use Rattle.plan.specs.Claim.{MovesFit}
 use Rattle.plan.specs.Pre.{isQueued, MarksBy, Placings, DeadChoke}
+use Rattle.plan.proofs.FileMoves.{file-moves-fit}
 use Rattle.plan.proofs.NextPlacing.{first-moves, placing-placeable, placing-next, placing-feasible, placing-moves, placing-none}
 
 -- those left among the first j, and the dead of them; the short search has none
@@ -42,14 +46,22 @@ pub record LeftSoFar (w : Way) (file : List ℕ) (j : ℕ) (limit : ℕ → ℕ)
   pub nobody : isQueued w ≡ false → dead ≡ replicate (fileN file) NONE
 
 -- the first j are placed
-pub record Placed (w : Way) (file : List ℕ) (k : ℕ) (ls next os ts queue₀ : List ℕ) (hs : List ℕ) (rows : List (List ℕ)) (queue dead from : List ℕ) (total j : ℕ) : Type 0 where
+pub record Placed (w : Way) (file : List ℕ) (k : ℕ) (ls ts hs₀ queue₀ dead₀ from₀ hs : List ℕ) (rows : List (List ℕ)) (queue dead from : List ℕ) (total j : ℕ) : Type 0 where
   pub upto : j ≤ k
   pub holders : hs ≡ stateBy w file j .holders
   pub table : rows ≡ heldTable (fileN file) hs
   pub same : from ≡ dead
-  pub room : length queue ≡ length queue₀
+  pub long : (length hs ≡ length hs₀) × (length queue ≡ length queue₀) × (length dead ≡ length dead₀) × (length from ≡ length from₀)
   pub moves : total ≡ fileMovesBy w file j
   pub so-far : LeftSoFar w file j (at ts) ls hs dead
+
+-- What the short search requires, and what it leaves.
+pub one-recursive : {n : ℕ} {limit : ℕ → ℕ} {ls next hs : List ℕ} {v : ℕ} {rows : List (List ℕ)} {queue dead from : List ℕ} → Index ls next → Past n limit ls hs v rows queue dead from → PlaceableBy n hs v ls next rows
+one-recursive d p = record { free = p .free; index = d; table = p .table }
+
+pub one-kept : {n : ℕ} {limit : ℕ → ℕ} {ls hs : List ℕ} {v : ℕ} {rows : List (List ℕ)} {queue dead from : List ℕ} → Past n limit ls hs v rows queue dead from → {hs' new : List ℕ} {r number : ℕ} {rows' : List (List ℕ)}
+    → (hs' ≡ new) × ((r ≡ number) × (Fits n limit hs v → rows' ≡ heldTable n new)) → (hs' ≡ new) × ((r ≡ number) × ((rows' ≡ heldTable n new) × ((dead ≡ dead) × (from ≡ from))))
+one-kept p (e, (f, g)) = (e, (f, (g (record { limits = p .fits; own = λ l. absurd (omega (arith, p .none)) }), (refl, refl))))
 
 -- the marks by the way
 module _ (n : ℕ) (limit : ℕ → ℕ) (ls hs : List ℕ) (v : ℕ) (dead from hs' dead' from' : List ℕ) where
@@ -81,21 +93,21 @@ module _
     z : fileRefusal file ≡ 0
     z = p .loaded .accepted
 
-    pub placed-start : Placed w file k ls next os ts queue₀ hs₀ rows₀ queue₀ dead₀ from₀ 0 0
+    pub placed-start : Placed w file k ls ts hs₀ queue₀ dead₀ from₀ hs₀ rows₀ queue₀ dead₀ from₀ 0 0
     placed-start =
         record {
           upto = omega arith;
           holders = p .first;
           table = p .table;
           same = p .same;
-          room = refl;
+          long = (refl, refl, refl, refl);
           moves = sym (first-moves file z w);
           so-far = left-nobody w file 0 (at ts) ls hs₀ (p .none) (λ _. refl);
         }
 
     module _
         {hs : List ℕ} {rows : List (List ℕ)} {queue dead from : List ℕ} {total j v : ℕ}
-        (now : Placed w file k ls next os ts queue₀ hs rows queue dead from total j) (l : j < k) (is : v ≡ at os j)
+        (now : Placed w file k ls ts hs₀ queue₀ dead₀ from₀ hs rows queue dead from total j) (l : j < k) (is : v ≡ at os j)
       where
         below : j < fileN file
         below = omega (arith, p .within)
@@ -115,16 +127,16 @@ module _
             not-test (now .so-far .left v)
             (λ e. let (i, less, same) = now .so-far .early v (free .inside) e in omega (arith, less, file-allowed file z .order .once i j (omega (arith, below, less)) below (same ∙ is-v)))
 
-        pub placed-past : Past (fileN file) (at ts) ls hs v rows queue dead from
+        past : Past (fileN file) (at ts) ls hs v rows queue dead from
         unfolding LimitsInRange
-        placed-past =
+        past =
             record {
               free = free;
               none = rw (now .holders, is-v) (placing-none file z w j below);
               feasible = feasible;
               fits = λ u q. rw (p .loaded .limits u q) (limits-in-range file z u q .1);
               table = now .table;
-              places = omega (arith, now .room, p .places);
+              places = omega (arith, now .long .1, p .places);
               same = now .same;
               left = now .so-far .left;
               new = new;
@@ -180,25 +192,47 @@ module _
             let (d, f) = marks-recursive (fileN file) (at ts) ls hs v dead from after dead' from' w q m in
             (f ∙ now .same ∙ sym d, left-nobody w file (j + 1) (at ts) ls after (d ∙ now .so-far .nobody q) (λ r. clash (isQueued w) r q)))
 
-        pub placed-turn : {hs' : List ℕ} {rows' : List (List ℕ)} (queue' dead' from' : List ℕ) {r : ℕ} → hs' ≡ after → r ≡ moved (fileN file) (at hs) (at after) → rows' ≡ heldTable (fileN file) after
-            → MarksBy w (fileN file) (at ts) ls hs v dead from after dead' from' → length queue' ≡ length queue
-            → Placed w file k ls next os ts queue₀ hs' rows' queue' dead' from' (total + r) (j + 1)
-        placed-turn {hs'} queue' dead' from' e m t marks long =
-            let (same, so-far) = marks-next dead' from' marks in
-            record {
-              upto = omega arith;
-              holders = e ∙ after-is;
-              table = t ∙ ap (heldTable (fileN file)) (sym e);
-              same = same;
-              room = long ∙ now .room;
-              moves = omega (arith, now .moves, m, placing-moves file z w j below ts (p .loaded .limits), moved-is);
-              so-far = subst (λ (l : List ℕ). LeftSoFar w file (j + 1) (at ts) ls l dead') (sym e) so-far;
-            }
-          where
-            moved-is : moved (fileN file) (at hs) (at after) ≡ moved (fileN file) (at (stateBy w file j .holders)) (at (stateBy w file (j + 1) .holders))
-            moved-is = ap (λ (l : List ℕ). moved (fileN file) (at l) (at after)) (now .holders) ∙ ap (λ (l : List ℕ). moved (fileN file) (at (stateBy w file j .holders)) (at l)) after-is
+        pub placed-place : j < length os
+        placed-place = omega (arith, below, p .loaded .order-long)
 
-    pub placed-end : {hs : List ℕ} {rows : List (List ℕ)} {queue dead from : List ℕ} {total j : ℕ} → Placed w file k ls next os ts queue₀ hs rows queue dead from total j → k ≤ j
+        pub placed-past : {n : ℕ} → n ≡ fileN file → Index ls next × Past n (at ts) ls hs v rows queue dead from
+        placed-past e = (p .loaded .index, subst (λ (n : ℕ). Past n (at ts) ls hs v rows queue dead from) (sym e) past)
+
+        -- what place_one leaves
+        module _
+            {n r : ℕ} {hs' : List ℕ} {rows' : List (List ℕ)} (dead' from' : List ℕ) (e : n ≡ fileN file)
+            (d : (hs' ≡ placedBy w n (at ts) ls hs v)
+            × ((r ≡ moved n (at hs) (at (placedBy w n (at ts) ls hs v)))
+            × ((rows' ≡ heldTable n (placedBy w n (at ts) ls hs v)) × MarksBy w n (at ts) ls hs v dead from (placedBy w n (at ts) ls hs v) dead' from')))
+          where
+            left-then : (hs' ≡ after) × ((r ≡ moved (fileN file) (at hs) (at after)) × ((rows' ≡ heldTable (fileN file) after) × MarksBy w (fileN file) (at ts) ls hs v dead from after dead' from'))
+            left-then = rw e at d
+
+            moves-next : total + r ≡ fileMovesBy w file (j + 1)
+            moves-next = omega (arith, now .moves, left-then .1 .0, placing-moves file z w j below ts (p .loaded .limits), moved-is)
+              where
+                moved-is : moved (fileN file) (at hs) (at after) ≡ moved (fileN file) (at (stateBy w file j .holders)) (at (stateBy w file (j + 1) .holders))
+                moved-is = ap (λ (l : List ℕ). moved (fileN file) (at l) (at after)) (now .holders) ∙ ap (λ (l : List ℕ). moved (fileN file) (at (stateBy w file j .holders)) (at l)) after-is
+
+            pub placed-fits : total + r ≤ 1048576
+            unfolding MovesFit
+            placed-fits = rw moves-next (file-moves-fit w file (j + 1))
+
+            pub placed-turn : (queue' : List ℕ) → (length hs' ≡ length hs) × (length queue' ≡ length queue) × (length dead' ≡ length dead) × (length from' ≡ length from)
+                → Placed w file k ls ts hs₀ queue₀ dead₀ from₀ hs' rows' queue' dead' from' (total + r) (j + 1)
+            placed-turn queue' long =
+                let (same, so-far) = marks-next dead' from' (left-then .1 .1 .1) in
+                record {
+                  upto = omega arith;
+                  holders = left-then .0 ∙ after-is;
+                  table = left-then .1 .1 .0 ∙ ap (heldTable (fileN file)) (sym (left-then .0));
+                  same = same;
+                  long = (long .0 ∙ now .long .0, long .1 ∙ now .long .1, long .2 ∙ now .long .2, long .3 ∙ now .long .3);
+                  moves = moves-next;
+                  so-far = subst (λ (l : List ℕ). LeftSoFar w file (j + 1) (at ts) ls l dead') (sym (left-then .0)) so-far;
+                }
+
+    pub placed-end : {hs : List ℕ} {rows : List (List ℕ)} {queue dead from : List ℕ} {total j : ℕ} → Placed w file k ls ts hs₀ queue₀ dead₀ from₀ hs rows queue dead from total j → k ≤ j
         → (hs ≡ stateBy w file k .holders) × ((total ≡ fileMovesBy w file k) × DeadChoke w file k dead)
     placed-end {hs} {dead = dead} {j = j} now l = let end : j ≡ k = le-antisymm (now .upto) l in (now .holders ∙ ap (λ (i : ℕ). stateBy w file i .holders) end, (now .moves ∙ ap (fileMovesBy w file) end, chosen end))
       where

@@ -33,7 +33,16 @@ fn place_one(
 {
     match way {
         Way::Queued => search::past::place_past(
-            n, v, limits, links, next, rows, holders, queue, dead, from,
+            n,
+            v,
+            limits,
+            links,
+            next,
+            rows,
+            holders,
+            queue,
+            dead,
+            from,
         ),
         Way::Recursive => recursion::place_kept(n, v, limits, links, next, rows, holders),
     }
@@ -65,7 +74,17 @@ pub(crate) fn place_all(
     while i < placings {
         let v = order[i as usize];
         moved += place_one(
-            way, n, v, limits, links, next, rows, holders, queue, dead, from,
+            way,
+            n,
+            v,
+            limits,
+            links,
+            next,
+            rows,
+            holders,
+            queue,
+            dead,
+            from,
         ) as u32;
         i += 1;
     }

@@ -80,7 +80,42 @@ fn write_choke(
     search::choke::choke_set(n, links, next, holders, choke);
 }
 
-// The leader list and the choke bytes after so many placings. Returns how many gateways these move.
+// The leader list and the choke bytes after so many placings, with holders and marks to work in. Returns how many gateways these move.
+fn read_made(
+    file: &[u8],
+    way: Way,
+    placings: u32,
+    limits: &[u8],
+    links: &[u16],
+    next: &[u16],
+    order: &[u16],
+    holders: &mut [u16],
+    dead: &mut [u16],
+    leaders: &mut [u16],
+    choke: &mut [u8],
+) -> u32
+    requires { ⌜ Readable (now file) placings (now links) (now next) (now order) (now limits) (now leaders) (now choke) × Making (now file) placings (now links) (now next) (now order) (now limits) (now holders) (now dead) ⌝ }
+    ensures leaders { λ _. ⌜ now (leaders .exit) ≡ readLeaders (stateBy way (now (file .entry)) placings) (now (leaders .entry)) (now (choke .entry)) ⌝ }
+    ensures choke { λ _. ⌜ now (choke .exit) ≡ readChoke (stateBy way (now (file .entry)) placings) (now (leaders .entry)) (now (choke .entry)) ⌝ }
+    ensures moved { λ r. ⌜ r ≡ fileMovesBy way (now (file .entry)) placings ⌝ }
+{
+    let moved = make(
+        file,
+        way,
+        placings,
+        limits,
+        links,
+        next,
+        order,
+        holders,
+        dead,
+    );
+    stars::leaders(plant_file::gateways(file), order, holders, leaders);
+    write_choke(file, way, placings, links, next, holders, dead, choke);
+    moved
+}
+
+// .. with lists of its own.
 pub(crate) fn read_lists(
     file: &[u8],
     way: Way,
@@ -97,11 +132,10 @@ pub(crate) fn read_lists(
     ensures choke { λ _. ⌜ now (choke .exit) ≡ readChoke (stateBy way (now (file .entry)) placings) (now (leaders .entry)) (now (choke .entry)) ⌝ }
     ensures moved { λ r. ⌜ r ≡ fileMovesBy way (now (file .entry)) placings ⌝ }
 {
-    let n = plant_file::gateways(file);
-    let end = n as usize;
+    let end = plant_file::gateways(file) as usize;
     let mut holders = lists::marks::zeros();
     let mut dead = lists::marks::nones();
-    let moved = make(
+    read_made(
         file,
         way,
         placings,
@@ -111,17 +145,7 @@ pub(crate) fn read_lists(
         order,
         &mut holders,
         &mut dead[..end],
-    );
-    stars::leaders(n, order, &holders, leaders);
-    write_choke(
-        file,
-        way,
-        placings,
-        links,
-        next,
-        &holders,
-        &dead[..end],
+        leaders,
         choke,
-    );
-    moved
+    )
 }

@@ -1,16 +1,18 @@
 -- The place of a number in an order, and what it says of who is earlier.
 use Prim.Native.Nat.{ℕ, _<_, _≤_}
-use mathlib.Core.Path.{_≡_, sym, _∙_}
+use mathlib.Core.Path.{_≡_, sym, ap, fun-ext, _∙_}
 use mathlib.Core.Bool.{Bool, true, false}
+use mathlib.Core.List.{List}
 use native.Mathlib.Nat.{le-antisymm}
 use native.Mathlib.Omega.{arith}
 use lib.Dec.{eqb, ltb}
 use borrow.Author.Tests.{eqb-true, eqb-false, eq-eqb, ne-eqb, ltb-true, ltb-false, leb-true, leb-false, le-leb, lt-leb}
 use Rattle.packing.specs.Count.{any, firstWith}
+use Rattle.packing.specs.Plant.{at}
 use Rattle.packing.specs.Pairs.{Earlier}
 use Rattle.packing.proofs.Tests.{by-bool, any-fails, first-found}
-use Rattle.stars.specs.Stars.{placeOf, notLater}
-use Rattle.stars.proofs.Firsts.{first-least, first-none}
+use Rattle.stars.specs.Stars.{placeOf, notLater, leaderListBy, leaderList}
+use Rattle.stars.proofs.Firsts.{first-ext, first-least, first-none}
 
 -- By a place for each, the one with the lower place leads a pair, and of two with one place the first named.
 module _ (place : ℕ → ℕ) (a b : ℕ) where
@@ -85,3 +87,10 @@ module _ (n : ℕ) (order : ℕ → ℕ) where
   -- who stands nowhere is not before anybody
   pub place-last : (a b : ℕ) → ((i : ℕ) → i < n → order i ≡ b → ⊥) → placeOf n order a ≤ placeOf n order b
   place-last a b nowhere = by-bool (ltb (placeOf n order b) n) (λ t. let l = ltb-true (placeOf n order b) n t in absurd (nowhere (placeOf n order b) l (place b .here l))) (λ t. omega (arith, ltb-false (placeOf n order b) n t, place a .most))
+
+-- The list goes by the first n of the order only.
+pub list-by-order : (n : ℕ) (os os' hs : List ℕ) → ((i : ℕ) → i < n → at os i ≡ at os' i) → (v : ℕ) → leaderList n os hs v ≡ leaderList n os' hs v
+unfolding leaderList placeOf
+list-by-order n os os' hs same v =
+    ap (λ (place : ℕ → ℕ). leaderListBy (notLater place) n hs v)
+    (fun-ext (λ a. first-ext n (λ i. eqb (at os i) a) (λ i. eqb (at os' i) a) (λ i l. ap (λ (x : ℕ). eqb x a) (same i l))))

@@ -1,10 +1,38 @@
-use Rattle.plan.proofs.Refusing.{plan-places, plan-refused, plan-accepted}
+use Rattle.plan.proofs.Refusing.{plan-refused, plan-accepted}
+use Rattle.plan.proofs.ReadingLists.{loaded-ends, loaded-long, loaded-readable}
 use borrow.Author.Needs.{needs}
 use Rattle.plan.proofs.plan_lists_by.Statement.{statement}
 use Rattle.plan.proofs.plan_lists_by.Tie as tie
 
-refusal-of-requires : tie.Need-refusal-of-requires
-refusal-of-requires c κs = search needs
+ends-requires : tie.Need-ends-requires
+ends-requires c κs = search needs
+
+empty-index-requires : tie.Need-empty-index-requires
+empty-index-requires c κs = search needs
+
+zeros-requires : tie.Need-zeros-requires
+zeros-requires c κs = search needs
+
+bytes-requires : tie.Need-bytes-requires
+bytes-requires c κs = search needs
+
+slice-aggregate-load-indexed : tie.Need-slice-aggregate-load-indexed
+slice-aggregate-load-indexed c = search needs
+
+slice-aggregate-load-indexed-2 : tie.Need-slice-aggregate-load-indexed-2
+slice-aggregate-load-indexed-2 c = search needs
+
+slice-aggregate-load-indexed-3 : tie.Need-slice-aggregate-load-indexed-3
+slice-aggregate-load-indexed-3 c = search needs
+
+slice-aggregate-load-indexed-4 : tie.Need-slice-aggregate-load-indexed-4
+slice-aggregate-load-indexed-4 c = search needs
+
+load-indexed-requires : tie.Need-load-indexed-requires
+load-indexed-requires c κs = search needs
+
+number-of-requires : tie.Need-number-of-requires
+number-of-requires c κs = search needs
 
 same-length : tie.Need-same-length
 same-length c = search needs
@@ -13,23 +41,48 @@ same-length-2 : tie.Need-same-length-2
 same-length-2 c = search needs
 
 returns : tie.Need-returns
-returns c = plan-refused _ _ _ _ _ (c .before .refusal-of .ensures) (c .if1 .taken)
+returns c = plan-refused _ _ _ _ _ (c .before .number-of .ensures) (c .if1 .taken)
 
-array-borrow-prefix-first : tie.Need-array-borrow-prefix-first
-array-borrow-prefix-first c = search needs
+link-count-requires : tie.Need-link-count-requires
+link-count-requires c κs = search needs
 
-slice-aggregate-look : tie.Need-slice-aggregate-look
-slice-aggregate-look c = search needs
+cast-end : tie.Need-cast-end
+cast-end c = search needs
 
-array-borrow-prefix-second : tie.Need-array-borrow-prefix-second
-array-borrow-prefix-second c = search needs
+mul-end : tie.Need-mul-end
+mul-end c = search needs
 
-slice-aggregate-look-2 : tie.Need-slice-aggregate-look-2
-slice-aggregate-look-2 c = search needs
+slice-aggregate-read-lists : tie.Need-slice-aggregate-read-lists
+slice-aggregate-read-lists c = search needs
 
-look-requires : tie.Need-look-requires
-look-requires c κs = let test = c .before .before .before .before in
-    plan-places _ _ _ _ (test .before .refusal-of .ensures) (test .if1 .left) .0
+array-share-prefix-links : tie.Need-array-share-prefix-links
+array-share-prefix-links c = let count = c .before in
+    let test = count .before in
+    let number = test .before in
+    let loaded = number .before .before .before .before .before .before .before in
+    let args = loaded .before .before .before .before .before .before .before .before .before .before .before .before .args in
+    loaded-ends _ _ (args .leaders .now) (args .choke .now) (loaded .load-indexed .ensures .0) (number .number-of .ensures) (test .if1 .left) (loaded .load-indexed .ensures .1) (count .link-count .ensures)
+
+slice-aggregate-read-lists-2 : tie.Need-slice-aggregate-read-lists-2
+slice-aggregate-read-lists-2 c = let count = c .before .before in
+    let test = count .before in
+    let number = test .before in
+    let loaded = number .before .before .before .before .before .before .before in
+    let args = loaded .before .before .before .before .before .before .before .before .before .before .before .before .args in
+    loaded-long _ _ (args .leaders .now) (args .choke .now) (loaded .load-indexed .ensures .0) (number .number-of .ensures) (test .if1 .left) (loaded .load-indexed .ensures .1) (count .link-count .ensures)
+
+slice-aggregate-read-lists-3 : tie.Need-slice-aggregate-read-lists-3
+slice-aggregate-read-lists-3 c = search needs
+
+slice-aggregate-read-lists-4 : tie.Need-slice-aggregate-read-lists-4
+slice-aggregate-read-lists-4 c = search needs
+
+read-lists-requires : tie.Need-read-lists-requires
+read-lists-requires c κs = let count = c .before .before .before .before .before .before in
+    let test = count .before in
+    let number = test .before in
+    let loaded = number .before .before .before .before .before .before .before in
+    loaded-readable _ _ _ _ (loaded .load-indexed .ensures .0) (number .number-of .ensures) (test .if1 .left) (loaded .load-indexed .ensures .1) (count .link-count .ensures)
 
 same-length-3 : tie.Need-same-length-3
 same-length-3 c = search needs
@@ -38,23 +91,36 @@ same-length-4 : tie.Need-same-length-4
 same-length-4 c = search needs
 
 returns-2 : tie.Need-returns-2
-returns-2 c = let looked = c .before .before .before .before .before .before in
-    let test = looked .before .before .before .before .before in
-    plan-accepted _ _ _ _ _ (test .before .refusal-of .ensures) (test .if1 .left) (looked .look .ensures .0) (looked .look .ensures .1 .0) (looked .look .ensures .1 .1 .0)
+returns-2 c = let read = c .before .before .before .before in
+    let test = read .before .before .before .before .before .before .before .before in
+    plan-accepted _ _ _ _ _ (test .before .number-of .ensures) (test .if1 .left) (read .read-lists .ensures .0) (read .read-lists .ensures .1 .0) (read .read-lists .ensures .1 .1)
 
 pub plan-lists-by-spec : {M : Type 1} → statement M
 plan-lists-by-spec =
     tie.close
     (tie.spec
-    refusal-of-requires
+    ends-requires
+    empty-index-requires
+    zeros-requires
+    bytes-requires
+    slice-aggregate-load-indexed
+    slice-aggregate-load-indexed-2
+    slice-aggregate-load-indexed-3
+    slice-aggregate-load-indexed-4
+    load-indexed-requires
+    number-of-requires
     same-length
     same-length-2
     returns
-    array-borrow-prefix-first
-    slice-aggregate-look
-    array-borrow-prefix-second
-    slice-aggregate-look-2
-    look-requires
+    link-count-requires
+    cast-end
+    mul-end
+    slice-aggregate-read-lists
+    array-share-prefix-links
+    slice-aggregate-read-lists-2
+    slice-aggregate-read-lists-3
+    slice-aggregate-read-lists-4
+    read-lists-requires
     same-length-3
     same-length-4
     returns-2)

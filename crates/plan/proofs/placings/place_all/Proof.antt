@@ -1,81 +1,78 @@
+use borrow.Author.Needs.{needs}
+use Prim.Native.Nat.{_-_}
+use native.Mathlib.Omega.{arith}
+use mathlib.Core.Path.{refl}
+use Rattle.plan.proofs.PlacingLoop.{Placed, placed-start, placed-place, placed-past, placed-fits, placed-turn, placed-end}
 use Rattle.plan.proofs.placings.place_all.Statement.{statement}
 use Rattle.plan.proofs.placings.place_all.Tie as tie
-use Rattle.plan.proofs.placings.place_all.Reads as reads
-use Rattle.plan.proofs.placings.place_all.Lts as lts
-use Rattle.plan.proofs.placings.place_one.Reads as place-one-reads
-use Rattle.plant_file.proofs.gateways.Reads as gateways-reads
 
 abbrev Inv-loop : tie.InvT-loop
 Inv-loop file way placings limits links next order rows₀ holders₀ queue₀ dead₀ from₀ n moved₀ i₀ rows holders queue dead from moved i =
-    ?
+    Placed way file placings links limits holders₀ queue₀ dead₀ from₀ holders rows queue dead from moved i
 
 abbrev μ-loop : tie.MeasureT-loop
 μ-loop file way placings limits links next order rows₀ holders₀ queue₀ dead₀ from₀ n moved₀ i₀ rows holders queue dead from moved i =
-    ?
+    placings - i
 
--- src/placings.rt:62:9
 gateways-requires : tie.Need-gateways-requires Inv-loop μ-loop
-gateways-requires c κs = ?
+gateways-requires c κs = search needs
 
--- src/placings.rt:65:5
 loop-holds : tie.Need-loop-holds Inv-loop μ-loop
-loop-holds c = ?
+loop-holds c = let start = c .before .before .before .before .before .before .before .before .before .before in placed-start _ _ _ _ _ _ _ (start .pre)
 
--- src/placings.rt:66:23
 cast-v : tie.Need-cast-v Inv-loop μ-loop
-cast-v c = ?
+cast-v c = search needs
 
--- src/placings.rt:66:17
 mul-v : tie.Need-mul-v Inv-loop μ-loop
-mul-v c = ?
+mul-v c = search needs
 
--- src/placings.rt:66:17
 shared-slice-read-v : tie.Need-shared-slice-read-v Inv-loop μ-loop
-shared-slice-read-v c = ?
+shared-slice-read-v c = let turn = c .before in
+    let start = turn .before .before .before .before .before .before .before .before .before .before .before .before in placed-place _ _ _ _ _ _ _ (start .pre) (turn .before .loop .inv) (turn .loop-test .taken) refl
 
--- src/placings.rt:67:18
 place-one-requires : tie.Need-place-one-requires Inv-loop μ-loop
-place-one-requires c κs = ?
+place-one-requires c κs = let turn = c .before .before .before .before .before .before in
+    let counted = turn .before .before in
+    let start = counted .before .before .before .before .before .before .before .before .before .before in placed-past _ _ _ _ _ _ _ (start .pre) (turn .before .loop .inv) (turn .loop-test .taken) refl (counted .gateways .ensures)
 
--- src/placings.rt:67:18
 cast-moved : tie.Need-cast-moved Inv-loop μ-loop
-cast-moved c = ?
+cast-moved c = search needs
 
--- src/placings.rt:67:9
 add-moved : tie.Need-add-moved Inv-loop μ-loop
-add-moved c = ?
+add-moved c = let called = c .before .before .before .before .before .before .before .before in
+    let turn = called .before .before .before .before .before .before .before in
+    let counted = turn .before .before in
+    let start = counted .before .before .before .before .before .before .before .before .before .before in
+    omega (arith, placed-fits _ _ _ _ _ _ _ (start .pre) (turn .before .loop .inv) (turn .loop-test .taken) refl _ _ (counted .gateways .ensures) (called .place-one .ensures))
 
--- src/placings.rt:70:9
 add-i : tie.Need-add-i Inv-loop μ-loop
-add-i c = ?
+add-i c = search needs
 
--- src/placings.rt:65:5
 loop-less : tie.Need-loop-less Inv-loop μ-loop
-loop-less c = ?
+loop-less c = search needs
 
--- src/placings.rt:65:5
 loop-again : tie.Need-loop-again Inv-loop μ-loop
-loop-again c = ?
+loop-again c = let called = c .before .before .before .before .before .before .before .before in
+    let turn = called .before .before .before .before .before .before .before in
+    let counted = turn .before .before in
+    let start = counted .before .before .before .before .before .before .before .before .before .before in
+    placed-turn _ _ _ _ _ _ _ (start .pre) (turn .before .loop .inv) (turn .loop-test .taken) refl _ _ (counted .gateways .ensures) (called .place-one .ensures) _
+    (called .place-one .kept .1 .1 .1 .1 .1 .1 .1 .0, called .place-one .kept .1 .1 .1 .1 .1 .1 .1 .1 .0, called .place-one .kept .1 .1 .1 .1 .1 .1 .1 .1 .1 .0, called .place-one .kept .1 .1 .1 .1 .1 .1 .1 .1 .1 .1 .0)
 
--- src/placings.rt:43:1
 same-length : tie.Need-same-length Inv-loop μ-loop
-same-length c = ?
+same-length c = search needs
 
--- src/placings.rt:43:1
 same-length-2 : tie.Need-same-length-2 Inv-loop μ-loop
-same-length-2 c = ?
+same-length-2 c = search needs
 
--- src/placings.rt:43:1
 same-length-3 : tie.Need-same-length-3 Inv-loop μ-loop
-same-length-3 c = ?
+same-length-3 c = search needs
 
--- src/placings.rt:43:1
 same-length-4 : tie.Need-same-length-4 Inv-loop μ-loop
-same-length-4 c = ?
+same-length-4 c = search needs
 
--- src/placings.rt:43:1
 returns : tie.Need-returns Inv-loop μ-loop
-returns c = ?
+returns c = let start = c .before .before .before .before .before .before .before .before .before .before .before .before in placed-end _ _ _ _ _ _ _ (start .pre) (c .before .loop .inv) (c .loop-test .left)
 
 pub place-all-spec : {M : Type 1} → statement M
 place-all-spec =

@@ -1,0 +1,166 @@
+-- From the lists of an accepted file to its plan: what the placings start from, and what is written once they are made.
+use Prim.Native.Nat.{ℕ, _*_, _<_, _≤_}
+use mathlib.Core.Path.{_≡_, refl, sym, ap, fun-ext, _∙_}
+use mathlib.Core.Bool.{Bool, true, false, _&&_}
+use mathlib.Core.List.{List}
+use native.Mathlib.Omega.{arith}
+use lib.Dec.{eqb}
+use lib.ListN.{length, take, replicate, length-replicate}
+use borrow.Author.Tests.{eqb-true}
+use Rattle.packing.specs.Count.{pick, firstWith}
+use Rattle.packing.specs.Lists.{listOf, written, Lent}
+use Rattle.packing.specs.Plant.{GATEWAYS, HIGHEST, NONE, at}
+use Rattle.packing.specs.Holders.{holds}
+use Rattle.packing.proofs.Tests.{and-l, and-r}
+use Rattle.packing.proofs.Lists.{listOf-ext, written-room, written-at, written-front}
+use Rattle.sound.proofs.Searchable.{Searchable, sound-searchable}
+use Rattle.search.specs.Search.{seen}
+use Rattle.search.specs.Table.{heldTable}
+use Rattle.search.specs.ChokeSet.{inChoke, chokeByte, chokeWritten}
+use Rattle.search.specs.ChokePre.{seenByte}
+use Rattle.search.specs.Pre.{Workspace}
+use Rattle.search.proofs.Tested.{chokeable-holds, choke-written}
+use Rattle.search.proofs.Rows.{take-replicate}
+use Rattle.search.proofs.Settling.{marks-room, place-marks, workspace}
+use Rattle.stars.specs.Stars.{leaderList, leadersWritten}
+use Rattle.stars.proofs.Lent.{leaders-written}
+use Rattle.stars.proofs.OrderPlaces.{list-by-order}
+use Rattle.planner.specs.declared.Small.{Small}
+use Rattle.planner.specs.declared.Way.{Way}
+use Rattle.planner.specs.Calls.{readLeaders, readChoke}
+use Rattle.plant_file.specs.PlantFile.{fileN, fileM, fileLinks, fileOrder, fileLimit, fileLimits, fileRefusal}
+use Rattle.plant_file.specs.Indexed.{Indexed}
+use Rattle.plant_file.proofs.LinksByIndex.{links-long, order-long}
+use Rattle.plant_file.proofs.GatewayLimits.{limits-long, limits-at}
+use Rattle.plant_file.proofs.Accepted.{file-allowed}
+use Rattle.plan.specs.Plan.{stateBy, fileMovesBy}
+use Rattle.plan.specs.After.{planAfterRefusal}
+use Rattle.plan.specs.Pre.{isQueued, Loaded, Placings, DeadChoke, Making, Choking, Readable}
+use Rattle.plan.proofs.Refusing.{plan-places}
+use Rattle.plan.proofs.After.{reads, file-agrees}
+use Rattle.plan.proofs.NextPlacing.{first-holders}
+
+-- nobody is held yet, and the arrays to work in
+module _ (w : Way) (file : List ℕ) (k : ℕ) {ls next os ts hs dead : List ℕ} (m : Making file k ls next os ts hs dead) where
+  few : fileN file ≤ GATEWAYS
+  few = file-allowed file (m .loaded .accepted) .few
+
+  pub making-room : {n : ℕ} → n ≡ fileN file → n ≤ length hs
+  making-room e = rw (e, m .zeros, length-replicate) few
+
+  pub making-marks : {n : ℕ} {all : List ℕ} → n ≡ fileN file → all ≡ replicate GATEWAYS NONE → (n ≤ length all) × (n ≡ length (take n all))
+  making-marks e none = rw e (marks-room none few, place-marks none few)
+
+  pub making-placings : {n : ℕ} {hs' queue all : List ℕ} {rows : List (List ℕ)} → n ≡ fileN file → hs' ≡ written n (replicate n NONE) hs → rows ≡ heldTable n hs' → queue ≡ replicate GATEWAYS 0
+      → all ≡ replicate GATEWAYS NONE → Placings w file k ls next os ts hs' rows queue dead (take n all)
+  making-placings {n} {hs'} {queue} {all} e held table zeros none =
+      let space : Workspace (fileN file) queue (take (fileN file) all) = workspace none zeros few in
+      record {
+        loaded = m .loaded;
+        within = m .within;
+        first = held ∙ rw (e, m .zeros) (sym (first-holders file (m .loaded .accepted) w));
+        table = rw e at table;
+        places = space .places;
+        none = m .none;
+        same = ap (λ (i : ℕ). take i all) e ∙ space .unseen ∙ sym (m .none);
+      }
+
+-- the choke bytes: by the marks, and by the walk of its own
+module _ (w : Way) (file : List ℕ) (k : ℕ) {ls next hs dead choke : List ℕ} (c : Choking w file k ls next hs dead choke) where
+  module _ {n : ℕ} {q b : Bool} (e : n ≡ fileN file) (is : q ≡ isQueued w) (both : b ≡ (q && eqb k n)) (yes : b ≡ true) where
+    marked : (length dead ≡ fileN file) × ((u : ℕ) → u < fileN file → seen dead u ≡ inChoke (fileN file) (fileLinks file) (stateBy w file k .holders) u)
+    marked = c .dead-choke (sym is ∙ and-l q (eqb k n) (sym both ∙ yes)) (eqb-true k n (and-r q (eqb k n) (sym both ∙ yes)) ∙ e)
+
+    pub choking-room : length dead ≤ length choke
+    choking-room = omega (arith, marked .0, c .room)
+
+    pub choking-marked : {choke' : List ℕ} → choke' ≡ written (length dead) (listOf (length dead) (seenByte dead)) choke
+        → choke' ≡ written (fileN file) (listOf (fileN file) (chokeByte (fileN file) (fileLinks file) (stateBy w file k .holders))) choke
+    unfolding chokeByte seenByte
+    choking-marked f = (rw (marked .0) at f) ∙ ap (λ (l : List ℕ). written (fileN file) l choke) (listOf-ext (fileN file) (seenByte dead) (chokeByte (fileN file) (fileLinks file) (stateBy w file k .holders)) (λ u l. ap (λ (b : Bool). pick b 1) (marked .1 u l)))
+
+  pub choking-walked : {n : ℕ} {choke' : List ℕ} → n ≡ fileN file → choke' ≡ chokeWritten n ls hs choke
+      → choke' ≡ written (fileN file) (listOf (fileN file) (chokeByte (fileN file) (fileLinks file) (stateBy w file k .holders))) choke
+  choking-walked {choke' = choke'} e f =
+      let at-file : choke' ≡ chokeWritten (fileN file) (fileLinks file) (stateBy w file k .holders) choke = rw (e, c .links, c .made) at f in
+      at-file ∙ choke-written (fileN file) (fileLinks file) (stateBy w file k .holders) choke (chokeable-holds choke made-searchable (c .room))
+    where
+      made-searchable : Searchable (fileN file) (stateBy w file k .holders)
+      made-searchable =
+          let a = file-agrees file (c .accepted) w k (c .within) in
+          let few : stateBy w file k .small .n ≡ fileN file = ap (λ (small : Small). small .n) (a .small) in
+          rw few at (sound-searchable (a .made .sound))
+
+-- the plan of the lists
+module _ (w : Way) (file : List ℕ) (k : ℕ) {ls next os ts leaders choke : List ℕ} (r : Readable file k ls next os ts leaders choke) where
+  accepted : fileRefusal file ≡ 0
+  accepted = r .loaded .accepted
+
+  plant : fileN file ≤ GATEWAYS
+  plant = file-allowed file accepted .few
+
+  pub reading-marks : {n : ℕ} {all : List ℕ} → n ≡ fileN file → all ≡ replicate GATEWAYS NONE → (n ≤ length all) × (n ≡ length (take n all))
+  reading-marks e none = rw e (marks-room none plant, place-marks none plant)
+
+  pub reading-making : {n : ℕ} {hs all : List ℕ} → n ≡ fileN file → hs ≡ replicate GATEWAYS 0 → all ≡ replicate GATEWAYS NONE → Making file k ls next os ts hs (take n all)
+  reading-making {n} {hs} {all} e zeros none =
+      record { loaded = r .loaded; within = r .within; zeros = zeros; none = rw (e, none) (take-replicate (fileN file) GATEWAYS NONE plant) }
+
+  module _ {n : ℕ} {hs : List ℕ} (e : n ≡ fileN file) (made : hs ≡ stateBy w file k .holders) where
+    pub reading-choking : {dead : List ℕ} → DeadChoke w file k dead → Choking w file k ls next hs dead choke
+    reading-choking d = record { accepted = accepted; links = r .loaded .links; index = r .loaded .index; within = r .within; made = made; dead-choke = d; room = r .room₂ }
+
+    pub reading-leaders : {leaders' : List ℕ} → leaders' ≡ leadersWritten n os hs leaders → leaders' ≡ readLeaders (stateBy w file k) leaders choke
+    unfolding readLeaders
+    reading-leaders {leaders'} f =
+        let a = file-agrees file accepted w k (r .within) in
+        let small : stateBy w file k .small .n ≡ fileN file = ap (λ (s : Small). s .n) (a .small) in
+        let long : fileN file ≤ length (stateBy w file k .holders) = rw small at (a .made .sound .holders-long) in
+        let mine : leaders' ≡ leadersWritten (fileN file) os (stateBy w file k .holders) leaders = rw (e, made) at f in
+        mine
+        ∙ leaders-written (fileN file) os (stateBy w file k .holders) leaders (r .loaded .order-long) (record { few = plant; entries = long; places = r .room })
+        ∙ rw (reads file accepted w k (r .within) leaders choke (r .room) (r .room₂), small)
+        (ap (λ (l : List ℕ). written (fileN file) l leaders)
+        (listOf-ext (fileN file) (leaderList (fileN file) os (stateBy w file k .holders)) (leaderList (fileN file) (stateBy w file k .order) (stateBy w file k .holders))
+        (λ v l. list-by-order (fileN file) os (stateBy w file k .order) (stateBy w file k .holders) (λ i q. r .loaded .order i q ∙ sym (a .order i q)) v)))
+
+  pub reading-choke : {choke' : List ℕ} → choke' ≡ written (fileN file) (listOf (fileN file) (chokeByte (fileN file) (fileLinks file) (stateBy w file k .holders))) choke
+      → choke' ≡ readChoke (stateBy w file k) leaders choke
+  unfolding readChoke
+  reading-choke f =
+      let a = file-agrees file accepted w k (r .within) in
+      f ∙ rw (reads file accepted w k (r .within) leaders choke (r .room) (r .room₂), a .small, a .links)
+
+-- the lists that a check of the file leaves
+module _ (file : List ℕ) (k : ℕ) (leaders choke : List ℕ) {number e : ℕ} (of : number ≡ fileRefusal file) (is : e ≡ planAfterRefusal file k (length leaders) (length choke)) (fine : e ≡ 0) where
+  passed : (fileRefusal file ≡ 0) × (k ≤ fileN file) × (fileN file ≤ length leaders) × (fileN file ≤ length choke)
+  passed = plan-places file k (length leaders) (length choke) is fine
+
+  module _ {links₀ order₀ limits₀ links next order limits : List ℕ} (d : number ≡ 0 → Indexed file links₀ order₀ limits₀ links next order limits) where
+    indexed : Indexed file links₀ order₀ limits₀ links next order limits
+    indexed = d (of ∙ passed .0)
+
+    pub loaded-ends : {m : ℕ} → m ≡ fileM file → 2 * m ≤ length links
+    loaded-ends q = rw (q, indexed .ends) (written-room (2 * fileM file) (fileLinks file) links₀ (links-long file))
+
+    loaded-links : {m : ℕ} → m ≡ fileM file → take (2 * m) links ≡ fileLinks file
+    loaded-links q = rw (q, indexed .ends) (written-front (2 * fileM file) (fileLinks file) links₀ (links-long file))
+
+    pub loaded-long : {m : ℕ} → m ≡ fileM file → 2 * m ≡ length (take (2 * m) links)
+    loaded-long q = sym (ap length (loaded-links q) ∙ links-long file ∙ ap (λ (i : ℕ). 2 * i) (sym q))
+
+    pub loaded-readable : {m : ℕ} → m ≡ fileM file → Readable file k (take (2 * m) links) next order limits leaders choke
+    loaded-readable {m} q =
+        record {
+          loaded = record {
+            accepted = passed .0;
+            links = loaded-links q;
+            index = rw (loaded-links q) (indexed .index);
+            order-long = rw (indexed .ordered) (written-room (fileN file) (fileOrder file) order₀ (order-long file));
+            order = λ i l. rw (indexed .ordered) (written-at (fileN file) (fileOrder file) order₀ (order-long file) i l);
+            limits = λ u l. rw (indexed .limited) (written-at (fileN file) (fileLimits file) limits₀ (limits-long file) u l ∙ limits-at file u l);
+          };
+          within = passed .1;
+          room = passed .2;
+          room₂ = passed .3;
+        }
