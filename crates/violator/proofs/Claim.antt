@@ -16,6 +16,7 @@ use Rattle.packing.proofs.Refusals.{refuse-none, refused}
 use Rattle.packing.proofs.Violator.{sumOf-common, violator-below, smallest-below}
 use Rattle.search.specs.Reached.{setWritten}
 use Rattle.search.proofs.FromOne.{walk-violator, walk-smallest}
+use Rattle.sound.proofs.Searchable.{sound-searchable}
 use Rattle.planner.specs.State.{State, linksOf, limitOf, soundState}
 use Rattle.planner.specs.Told.{Told}
 use Rattle.planner.specs.Claims.{madeBy}
@@ -70,12 +71,12 @@ module _ (s : State) (v : ℕ) (first second : List ℕ) (z : whyRefusal s v (le
       let inside : i < s .small .n = omega (arith, standing .placed) in
       let unheld : held (s .small .n) (at (s .holders)) (at (s .order) i) ≡ false = rw here (may .asked .left) in
       rw (first-is, second-is) (rw here at (walk-violator (linksOf s) (links-symmetric sound) (links-loopless sound) (limit-two sound) (standing .ordered) inside (standing .feasible)
-      (left-placeable sound (standing .ordered .below i inside) unheld) (standing .left i l unheld)))
+      (left-placeable (sound-searchable sound) (standing .ordered .below i inside) unheld) (standing .left i l unheld)))
 
   -- .. and no smaller sets say it
   made-smallest : Made s → Smallest (s .small .n) (limitOf s) (linked (linksOf s)) (held (s .small .n) (at (s .holders))) v (firstSet s v first second) (secondSet s v first second)
   unfolding inFirst inSecond
-  made-smallest made = rw (first-is, second-is) (walk-smallest (linksOf s) (left-placeable (made .sound) (may .asked .inside) (may .asked .left)) (made .standing .feasible))
+  made-smallest made = rw (first-is, second-is) (walk-smallest (linksOf s) (left-placeable (sound-searchable (made .sound)) (may .asked .inside) (may .asked .left)) (made .standing .feasible))
 
 -- .. by what was told
 abbrev WhyTold : (n : ℕ) (told : Told) (made : State) → Type 0

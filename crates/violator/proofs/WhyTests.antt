@@ -1,28 +1,21 @@
--- The tests of the call, and what it gives by its number.
+-- The tests of the call, and what they say.
 use Prim.Native.Nat.{ℕ, _+_, _<_, _≤_}
-use mathlib.Core.Path.{_≡_, refl, sym, ap, _∙_}
+use mathlib.Core.Path.{_≡_, refl, sym, _∙_}
 use mathlib.Core.Bool.{Bool, true, false, not, _||_}
 use mathlib.Core.List.{List}
 use native.Mathlib.Nat.{le-antisymm}
 use native.Mathlib.Numerals.{add-one}
 use native.Mathlib.Omega.{arith}
 use lib.Dec.{eqb, ltb, leb}
-use lib.ListN.{length}
 use borrow.Author.Tests.{eq-eqb, ne-eqb, lt-ltb, le-ltb, lt-leb, le-leb, ltb-false, leb-false, not-true, not-false}
 use Rattle.packing.specs.Count.{any}
 use Rattle.packing.specs.Plant.{at}
 use Rattle.packing.specs.Holders.{held}
 use Rattle.packing.proofs.Tests.{or-none, or-false-l, or-false-r, any-intro}
-use Rattle.packing.proofs.Refusals.{refuse-none, refused, accepted}
+use Rattle.packing.proofs.Refusals.{refuse-none}
 use Rattle.search.specs.Pre.{Placeable}
-use Rattle.search.specs.Reached.{reachedAnswer, queuedWritten, seenWritten}
-use Rattle.search.specs.declared.reached.Reached.{Reached}
-use Rattle.search.proofs.ReachedTests.{reached-done}
-use Rattle.sound.proofs.Searchable.{sound-searchable}
-use Rattle.planner.specs.State.{State, linksOf}
-use Rattle.planner.proofs.Next.{SoundState}
-use Rattle.violator.specs.declared.WhyAnswer.{WhyAnswer}
-use Rattle.violator.specs.WhyAlone.{isPlaced, whyConditions, whyRefusal, inFirst, inSecond, firstCount, secondCount, whyAnswer, whyFirst, whySecond}
+use Rattle.sound.proofs.Searchable.{Searchable}
+use Rattle.violator.specs.WhyAlone.{isPlaced, whyConditions}
 
 -- whether v is placed: it does not stand at the places looked at
 module _ (k : ℕ) (os : List ℕ) (v : ℕ) where
@@ -107,29 +100,6 @@ allowed n k os hs v a b z =
       room' = ltb-false b n (or-false-r (ltb a n) (ltb b n) (second .0));
     }
 
--- in a sound record a gateway without holder may be walked from
-pub left-placeable : {s : State} {v : ℕ} → SoundState s → v < s .small .n → held (s .small .n) (at (s .holders)) v ≡ false → Placeable (s .small .n) (s .holders) v
-left-placeable sound l e = record { few = sound .few; holders = sound .holders-long; within = sound-searchable sound .within; inside = l; free = e }
-
-module _ (s : State) (v : ℕ) (first second : List ℕ) where
-  -- a refused call
-  pub why-refused : {e : ℕ} → e ≡ whyRefusal s v (length first) (length second) → (e ≡ 0 → ⊥)
-      → (_≡_ {A = WhyAnswer} (record { refusal = e; small = s .small; first = 0; second = 0 }) (whyAnswer s v (length first) (length second))) × ((first ≡ whyFirst s v first second) × (second ≡ whySecond s v first second))
-  unfolding firstCount secondCount whyFirst whySecond
-  why-refused {e} g h =
-      let a : 0 ≡ firstCount s v (length first) (length second) = refused _ 0 g h in
-      let b : 0 ≡ secondCount s v (length first) (length second) = refused _ 0 g h in
-      ((λ i. record { refusal = g i; small = s .small; first = a i; second = b i }), (refused _ first g h, refused _ second g h))
-
-  -- an accepted one
-  pub why-accepted : {e : ℕ} {r : Reached} {first' second' : List ℕ} → e ≡ whyRefusal s v (length first) (length second) → e ≡ 0 → SoundState s
-      → Allowed (s .small .n) (s .small .k) (s .order) (s .holders) v (length first) (length second)
-      → (r ≡ reachedAnswer (s .small .n) (linksOf s) (s .holders) v (length first) (length second)) × ((first' ≡ queuedWritten (s .small .n) (linksOf s) (s .holders) v first second) × (second' ≡ seenWritten (s .small .n) (linksOf s) (s .holders) v first second))
-      → (_≡_ {A = WhyAnswer} (record { refusal = 0; small = s .small; first = r .queued; second = r .seen }) (whyAnswer s v (length first) (length second))) × ((first' ≡ whyFirst s v first second) × (second' ≡ whySecond s v first second))
-  unfolding firstCount secondCount whyFirst whySecond inFirst inSecond
-  why-accepted {e} {r} g z sound may is =
-      let done = reached-done (s .small .n) (linksOf s) (s .holders) v first second (left-placeable sound (may .asked .inside) (may .asked .left)) (may .room) (may .room') is in
-      let a : r .queued ≡ firstCount s v (length first) (length second) = accepted _ 0 g z (ap (λ (x : Reached). x .queued) (done .0)) in
-      let b : r .seen ≡ secondCount s v (length first) (length second) = accepted _ 0 g z (ap (λ (x : Reached). x .seen) (done .0)) in
-      let number : 0 ≡ whyRefusal s v (length first) (length second) = sym z ∙ g in
-      ((λ i. record { refusal = number i; small = s .small; first = a i; second = b i }), (accepted _ first g z (done .1 .0), accepted _ second g z (done .1 .1)))
+-- where a search may be made, a gateway without holder may be walked from
+pub left-placeable : {n : ℕ} {hs : List ℕ} {v : ℕ} → Searchable n hs → v < n → held n (at hs) v ≡ false → Placeable n hs v
+left-placeable s l e = record { few = s .few; holders = s .holders; within = s .within; inside = l; free = e }

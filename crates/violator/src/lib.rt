@@ -1,14 +1,25 @@
 // Why a gateway is alone (02, change 5): a look at a record, at any k. It gives a Hall violator around a gateway that is placed and left, and its neighbours.
 use planner::Small;
 ghost use mathlib.Core.Path.{_≡_};
+ghost use mathlib.Core.Bool.{true};
 ghost use lib.ListN.{length};
+ghost use Rattle.chains.specs.Index.{Index};
+ghost use Rattle.sound.specs.Searchable.{searchable};
 ghost use Rattle.planner.specs.State.{stateOf};
 ghost use Rattle.violator.specs.WhyAlone.{isPlaced, whyConditions, whyAnswer, whyFirst, whySecond};
+ghost use Rattle.violator.specs.WhyPlaced.{placedCounts, placedFirst, placedSecond};
 
 // The refusal's number, or 0 for accepted, the small part as it came, and how many gateways each set has, 0 on refusal.
 pub struct WhyAnswer {
     pub refusal: u32,
     pub small: Small,
+    pub first: u16,
+    pub second: u16,
+}
+
+// The same without the small part.
+pub struct WhyCounts {
+    pub refusal: u32,
     pub first: u16,
     pub second: u16,
 }
@@ -57,6 +68,40 @@ fn refusal_of(
     0
 }
 
+// The look without the check of the record, for a caller who knows that it is sound. The links are the plant's and no more, and next is their index.
+pub fn why_placed(
+    n: u16,
+    k: u16,
+    links: &[u16],
+    next: &[u16],
+    order: &[u16],
+    holders: &[u16],
+    gateway: u16,
+    first: &mut [u16],
+    second: &mut [u16],
+) -> WhyCounts
+    requires { ⌜ Index (now links) (now next) × (searchable n (now holders) ≡ true) ⌝ }
+    ensures answer { λ r. ⌜ r ≡ placedCounts n k (now (links .entry)) (now (order .entry)) (now (holders .entry)) gateway (length (now (first .entry))) (length (now (second .entry))) ⌝ }
+    ensures first { λ _. ⌜ now (first .exit) ≡ placedFirst n k (now (links .entry)) (now (order .entry)) (now (holders .entry)) gateway (now (first .entry)) (now (second .entry)) ⌝ }
+    ensures second { λ _. ⌜ now (second .exit) ≡ placedSecond n k (now (links .entry)) (now (order .entry)) (now (holders .entry)) gateway (now (first .entry)) (now (second .entry)) ⌝ }
+{
+    let refusal = refusal_of(n, k, order, holders, gateway, first.len(), second.len());
+    if refusal != 0 {
+        return WhyCounts {
+            refusal,
+            first: 0,
+            second: 0,
+        };
+    }
+    // It is done: where a search may be made, a gateway without holder may be walked from.
+    let reached = search::reached::reached_from(n, gateway, links, next, holders, first, second);
+    WhyCounts {
+        refusal: 0,
+        first: reached.queued,
+        second: reached.seen,
+    }
+}
+
 // Writes the two sets, ascending, to the front of the lent lists, and nothing past them. Nothing is written on refusal.
 pub fn why_alone(
     small: Small,
@@ -83,31 +128,23 @@ pub fn why_alone(
             second: 0,
         };
     }
-    let refusal = refusal_of(n, k, order, holders, gateway, first.len(), second.len());
-    if refusal != 0 {
-        return WhyAnswer {
-            refusal,
-            small,
-            first: 0,
-            second: 0,
-        };
-    }
     let end = 2 * (m as usize);
     let next = chains::build::index_of(&links[..end]);
-    // It is done: in a sound record a gateway without holder may be walked from.
-    let reached = search::reached::reached_from(
+    let counts = why_placed(
         n,
-        gateway,
+        k,
         &links[..end],
         &next,
+        order,
         holders,
+        gateway,
         first,
         second,
     );
     WhyAnswer {
-        refusal: 0,
+        refusal: counts.refusal,
         small,
-        first: reached.queued,
-        second: reached.seen,
+        first: counts.first,
+        second: counts.second,
     }
 }
