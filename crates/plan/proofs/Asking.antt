@@ -18,11 +18,12 @@ use Rattle.planner.specs.declared.Small.{Small}
 use Rattle.planner.specs.declared.Way.the-variants.{Queued}
 use Rattle.planner.specs.State.{soundState}
 use Rattle.planner.proofs.Conditions.{sound-number}
-use Rattle.violator.specs.declared.WhyAnswer.{WhyAnswer}
+use Rattle.violator.specs.declared.WhyCounts.{WhyCounts}
+use Rattle.violator.specs.WhyPlaced.{countsOf}
 use Rattle.violator.specs.WhyAlone.{whyConditions, whyRefusal, inFirst, inSecond, firstCount, secondCount, whyAnswer, whyFirst, whySecond}
 use Rattle.violator.proofs.WhyTests.{out-of-range}
 use Rattle.plant_file.specs.PlantFile.{fileN, fileRefusal}
-use Rattle.plan.specs.Plan.{stateAfter, fileState}
+use Rattle.plan.specs.Plan.{fileState}
 use Rattle.plan.specs.Why.{fileWhyRefusal, fileFirst, fileSecond, fileWhy, firstWritten, secondWritten}
 use Rattle.plan.specs.declared.why.Why.{Why}
 use Rattle.plan.proofs.After.{own, own-room, Front, written-has, file-agrees}
@@ -75,11 +76,11 @@ module _ (file : List ℕ) (v : ℕ) (first second : List ℕ) (z : fileRefusal 
   unfolding fileWhyRefusal
   same-number = first-passed refl z refl
 
-  answer-is : (a : WhyAnswer) → a ≡ whyAnswer (fileState file) v (length first) (length second)
+  answer-is : (a : WhyCounts) → a ≡ countsOf (whyAnswer (fileState file) v (length first) (length second))
       → _≡_ {A = Why} (record { refusal = a .refusal; first = a .first; second = a .second }) (fileWhy file v (length first) (length second))
   unfolding firstCount secondCount fileFirst fileSecond
   answer-is a e =
-      ap (λ (x : WhyAnswer). record { refusal = x .refusal; first = x .first; second = x .second }) e
+      ap (λ (x : WhyCounts). record { refusal = x .refusal; first = x .first; second = x .second }) e
       ∙ (λ i. record {
         refusal = same-number i;
         first = byNumber (same-number i) (set-counted file (inFirst (fileState file) v) z i) 0;
@@ -94,11 +95,10 @@ module _ (file : List ℕ) (v : ℕ) (first second : List ℕ) (z : fileRefusal 
   unfolding whySecond secondWritten fileSecond
   second-is i = byNumber (same-number i) (set-written file (inSecond (fileState file) v) z second i) second
 
-  pub asked-answered : {k : ℕ} {a : WhyAnswer} {first' second' : List ℕ} → k ≡ fileN file
-      → (a ≡ whyAnswer (stateAfter file k) v (length first) (length second)) × ((first' ≡ whyFirst (stateAfter file k) v first second) × (second' ≡ whySecond (stateAfter file k) v first second))
+  pub asked-answered : {a : WhyCounts} {first' second' : List ℕ}
+      → (a ≡ countsOf (whyAnswer (fileState file) v (length first) (length second))) × ((first' ≡ whyFirst (fileState file) v first second) × (second' ≡ whySecond (fileState file) v first second))
       → (_≡_ {A = Why} (record { refusal = a .refusal; first = a .first; second = a .second }) (fileWhy file v (length first) (length second))) × ((first' ≡ firstWritten file v first second) × (second' ≡ secondWritten file v first second))
-  unfolding fileState
-  asked-answered {a = a} all (e, (f, g)) = (answer-is a (rw all at e), ((rw all at f) ∙ first-is, (rw all at g) ∙ second-is))
+  asked-answered {a = a} (e, (f, g)) = (answer-is a e, (f ∙ first-is, g ∙ second-is))
 
 -- where there is a place for each gateway, the lengths do not matter
 roomy : (file : List ℕ) (v a b : ℕ) → fileRefusal file ≡ 0 → fileN file ≤ a → fileN file ≤ b → whyRefusal (fileState file) v a b ≡ whyRefusal (fileState file) v (fileN file) (fileN file)

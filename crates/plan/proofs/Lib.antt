@@ -6,8 +6,8 @@ pub mod After
 pub mod FileMoves
 pub mod NextPlacing
 pub mod PlacingLoop
-pub mod ReadingLists
 pub mod Asking
+pub mod ReadingLists
 pub mod FilePlan
 pub mod FileWays
 pub mod FileWhy

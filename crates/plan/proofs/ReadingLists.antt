@@ -9,11 +9,12 @@ use lib.ListN.{length, take, replicate, length-replicate}
 use borrow.Author.Tests.{eqb-true}
 use Rattle.packing.specs.Count.{pick, firstWith}
 use Rattle.packing.specs.Lists.{listOf, written, Lent}
-use Rattle.packing.specs.Plant.{GATEWAYS, HIGHEST, NONE, at}
+use Rattle.packing.specs.Plant.{GATEWAYS, NONE, at, firstLinks}
 use Rattle.packing.specs.Holders.{holds}
 use Rattle.packing.proofs.Tests.{and-l, and-r}
 use Rattle.packing.proofs.Lists.{listOf-ext, written-room, written-at, written-front}
-use Rattle.sound.proofs.Searchable.{Searchable, sound-searchable}
+use Rattle.sound.specs.Searchable.{searchable}
+use Rattle.sound.proofs.Searchable.{Searchable, searchable-holds, sound-searchable}
 use Rattle.search.specs.Search.{seen}
 use Rattle.search.specs.Table.{heldTable}
 use Rattle.search.specs.ChokeSet.{inChoke, chokeByte, chokeWritten}
@@ -27,17 +28,23 @@ use Rattle.stars.proofs.Lent.{leaders-written}
 use Rattle.stars.proofs.OrderPlaces.{list-by-order}
 use Rattle.planner.specs.declared.Small.{Small}
 use Rattle.planner.specs.declared.Way.{Way}
+use Rattle.planner.specs.declared.Way.the-variants.{Queued}
 use Rattle.planner.specs.Calls.{readLeaders, readChoke}
+use Rattle.violator.specs.declared.WhyCounts.{WhyCounts}
+use Rattle.violator.specs.WhyAlone.{whyAnswer, whyFirst, whySecond}
+use Rattle.violator.specs.WhyPlaced.{placedCounts, placedFirst, placedSecond, countsOf}
+use Rattle.violator.proofs.WhyPlaced.{why-of-record}
 use Rattle.plant_file.specs.PlantFile.{fileN, fileM, fileLinks, fileOrder, fileLimit, fileLimits, fileRefusal}
 use Rattle.plant_file.specs.Indexed.{Indexed}
 use Rattle.plant_file.proofs.LinksByIndex.{links-long, order-long}
 use Rattle.plant_file.proofs.GatewayLimits.{limits-long, limits-at}
 use Rattle.plant_file.proofs.Accepted.{file-allowed}
-use Rattle.plan.specs.Plan.{stateBy, fileMovesBy}
+use Rattle.plan.specs.Plan.{stateBy, fileState}
 use Rattle.plan.specs.After.{planAfterRefusal}
 use Rattle.plan.specs.Pre.{isQueued, Loaded, Placings, DeadChoke, Making, Choking, Readable}
 use Rattle.plan.proofs.Refusing.{plan-places}
 use Rattle.plan.proofs.After.{reads, file-agrees}
+use Rattle.plan.proofs.Asking.{state-sound}
 use Rattle.plan.proofs.NextPlacing.{first-holders}
 
 -- nobody is held yet, and the arrays to work in
@@ -65,6 +72,13 @@ module _ (w : Way) (file : List ℕ) (k : ℕ) {ls next os ts hs dead : List ℕ
         same = ap (λ (i : ℕ). take i all) e ∙ space .unseen ∙ sym (m .none);
       }
 
+-- a search may be made with the holders of the record made
+made-searchable : (w : Way) (file : List ℕ) (k : ℕ) → fileRefusal file ≡ 0 → k ≤ fileN file → Searchable (fileN file) (stateBy w file k .holders)
+made-searchable w file k z within =
+    let a = file-agrees file z w k within in
+    let few : stateBy w file k .small .n ≡ fileN file = ap (λ (small : Small). small .n) (a .small) in
+    rw few at (sound-searchable (a .made .sound))
+
 -- the choke bytes: by the marks, and by the walk of its own
 module _ (w : Way) (file : List ℕ) (k : ℕ) {ls next hs dead choke : List ℕ} (c : Choking w file k ls next hs dead choke) where
   module _ {n : ℕ} {q b : Bool} (e : n ≡ fileN file) (is : q ≡ isQueued w) (both : b ≡ (q && eqb k n)) (yes : b ≡ true) where
@@ -83,13 +97,7 @@ module _ (w : Way) (file : List ℕ) (k : ℕ) {ls next hs dead choke : List ℕ
       → choke' ≡ written (fileN file) (listOf (fileN file) (chokeByte (fileN file) (fileLinks file) (stateBy w file k .holders))) choke
   choking-walked {choke' = choke'} e f =
       let at-file : choke' ≡ chokeWritten (fileN file) (fileLinks file) (stateBy w file k .holders) choke = rw (e, c .links, c .made) at f in
-      at-file ∙ choke-written (fileN file) (fileLinks file) (stateBy w file k .holders) choke (chokeable-holds choke made-searchable (c .room))
-    where
-      made-searchable : Searchable (fileN file) (stateBy w file k .holders)
-      made-searchable =
-          let a = file-agrees file (c .accepted) w k (c .within) in
-          let few : stateBy w file k .small .n ≡ fileN file = ap (λ (small : Small). small .n) (a .small) in
-          rw few at (sound-searchable (a .made .sound))
+      at-file ∙ choke-written (fileN file) (fileLinks file) (stateBy w file k .holders) choke (chokeable-holds choke (made-searchable w file k (c .accepted) (c .within)) (c .room))
 
 -- the plan of the lists
 module _ (w : Way) (file : List ℕ) (k : ℕ) {ls next os ts leaders choke : List ℕ} (r : Readable file k ls next os ts leaders choke) where
@@ -132,35 +140,59 @@ module _ (w : Way) (file : List ℕ) (k : ℕ) {ls next os ts leaders choke : Li
       f ∙ rw (reads file accepted w k (r .within) leaders choke (r .room) (r .room₂), a .small, a .links)
 
 -- the lists that a check of the file leaves
-module _ (file : List ℕ) (k : ℕ) (leaders choke : List ℕ) {number e : ℕ} (of : number ≡ fileRefusal file) (is : e ≡ planAfterRefusal file k (length leaders) (length choke)) (fine : e ≡ 0) where
-  passed : (fileRefusal file ≡ 0) × (k ≤ fileN file) × (fileN file ≤ length leaders) × (fileN file ≤ length choke)
-  passed = plan-places file k (length leaders) (length choke) is fine
+module _
+    (file : List ℕ) {number : ℕ} (of : number ≡ fileRefusal file) (fine : number ≡ 0) {links₀ order₀ limits₀ links next order limits : List ℕ}
+    (d : number ≡ 0 → Indexed file links₀ order₀ limits₀ links next order limits) {m : ℕ} (is : m ≡ fileM file)
+  where
+    pub loaded-ends : 2 * m ≤ length links
+    loaded-ends = rw (is, d fine .ends) (written-room (2 * fileM file) (fileLinks file) links₀ (links-long file))
 
-  module _ {links₀ order₀ limits₀ links next order limits : List ℕ} (d : number ≡ 0 → Indexed file links₀ order₀ limits₀ links next order limits) where
-    indexed : Indexed file links₀ order₀ limits₀ links next order limits
-    indexed = d (of ∙ passed .0)
+    loaded-links : take (2 * m) links ≡ fileLinks file
+    loaded-links = rw (is, d fine .ends) (written-front (2 * fileM file) (fileLinks file) links₀ (links-long file))
 
-    pub loaded-ends : {m : ℕ} → m ≡ fileM file → 2 * m ≤ length links
-    loaded-ends q = rw (q, indexed .ends) (written-room (2 * fileM file) (fileLinks file) links₀ (links-long file))
+    pub loaded-long : 2 * m ≡ length (take (2 * m) links)
+    loaded-long = sym (ap length loaded-links ∙ links-long file ∙ ap (λ (i : ℕ). 2 * i) (sym is))
 
-    loaded-links : {m : ℕ} → m ≡ fileM file → take (2 * m) links ≡ fileLinks file
-    loaded-links q = rw (q, indexed .ends) (written-front (2 * fileM file) (fileLinks file) links₀ (links-long file))
-
-    pub loaded-long : {m : ℕ} → m ≡ fileM file → 2 * m ≡ length (take (2 * m) links)
-    loaded-long q = sym (ap length (loaded-links q) ∙ links-long file ∙ ap (λ (i : ℕ). 2 * i) (sym q))
-
-    pub loaded-readable : {m : ℕ} → m ≡ fileM file → Readable file k (take (2 * m) links) next order limits leaders choke
-    loaded-readable {m} q =
+    pub loaded-lists : Loaded file (take (2 * m) links) next order limits
+    loaded-lists =
         record {
-          loaded = record {
-            accepted = passed .0;
-            links = loaded-links q;
-            index = rw (loaded-links q) (indexed .index);
-            order-long = rw (indexed .ordered) (written-room (fileN file) (fileOrder file) order₀ (order-long file));
-            order = λ i l. rw (indexed .ordered) (written-at (fileN file) (fileOrder file) order₀ (order-long file) i l);
-            limits = λ u l. rw (indexed .limited) (written-at (fileN file) (fileLimits file) limits₀ (limits-long file) u l ∙ limits-at file u l);
-          };
-          within = passed .1;
-          room = passed .2;
-          room₂ = passed .3;
+          accepted = sym of ∙ fine;
+          links = loaded-links;
+          index = rw loaded-links (d fine .index);
+          order-long = rw (d fine .ordered) (written-room (fileN file) (fileOrder file) order₀ (order-long file));
+          order = λ i l. rw (d fine .ordered) (written-at (fileN file) (fileOrder file) order₀ (order-long file) i l);
+          limits = λ u l. rw (d fine .limited) (written-at (fileN file) (fileLimits file) limits₀ (limits-long file) u l ∙ limits-at file u l);
         }
+
+pub loaded-readable : {file : List ℕ} {k : ℕ} {ls next os ts : List ℕ} (leaders choke : List ℕ) {e : ℕ} → Loaded file ls next os ts → e ≡ planAfterRefusal file k (length leaders) (length choke) → e ≡ 0
+    → Readable file k ls next os ts leaders choke
+loaded-readable {file} {k} leaders choke l is fine = let (_, within, room, room₂) = plan-places file k (length leaders) (length choke) is fine in record { loaded = l; within = within; room = room; room₂ = room₂ }
+
+-- why a gateway is alone in the record made
+module _ (file : List ℕ) {ls next os ts : List ℕ} (l : Loaded file ls next os ts) where
+  pub asking-making : {n : ℕ} {hs all : List ℕ} → n ≡ fileN file → hs ≡ replicate GATEWAYS 0 → all ≡ replicate GATEWAYS NONE → Making file (fileN file) ls next os ts hs (take n all)
+  asking-making {n} {hs} {all} e zeros none =
+      record { loaded = l; within = omega arith; zeros = zeros; none = rw (e, none) (take-replicate (fileN file) GATEWAYS NONE (file-allowed file (l .accepted) .few)) }
+
+  pub asking-marks : {n : ℕ} {all : List ℕ} → n ≡ fileN file → all ≡ replicate GATEWAYS NONE → (n ≤ length all) × (n ≡ length (take n all))
+  asking-marks e none = let few = file-allowed file (l .accepted) .few in rw e (marks-room none few, place-marks none few)
+
+  module _ {n : ℕ} {hs : List ℕ} (e : n ≡ fileN file) (made : hs ≡ stateBy Queued file n .holders) where
+    made-all : hs ≡ fileState file .holders
+    unfolding fileState
+    made-all = rw e at made
+
+    pub asking-searchable : searchable n hs ≡ true
+    unfolding fileState
+    asking-searchable = rw (e, made-all) (searchable-holds (made-searchable Queued file (fileN file) (l .accepted) (omega arith)))
+
+    pub asking-answered : (v : ℕ) (first second : List ℕ) {r : WhyCounts} {first' second' : List ℕ}
+        → (r ≡ placedCounts n n ls os hs v (length first) (length second)) × ((first' ≡ placedFirst n n ls os hs v first second) × (second' ≡ placedSecond n n ls os hs v first second))
+        → (r ≡ countsOf (whyAnswer (fileState file) v (length first) (length second))) × ((first' ≡ whyFirst (fileState file) v first second) × (second' ≡ whySecond (fileState file) v first second))
+    unfolding fileState
+    asking-answered v first second (a, (b, c)) =
+        let g = file-agrees file (l .accepted) Queued (fileN file) (omega arith) in
+        let (counts, (one, two)) =
+        why-of-record (fileState file) (state-sound file (l .accepted)) n n ls os hs (ap (λ (s : Small). s .n) (g .small) ∙ sym e) (ap (λ (s : Small). s .k) (g .small) ∙ sym e)
+        (ap (λ (s : Small). firstLinks (s .m) (fileState file .links)) (g .small) ∙ g .links ∙ sym (l .links)) (sym made-all) (λ i q. let less : i < fileN file = rw e at q in g .order i less ∙ sym (l .order i less)) v first second in
+        (a ∙ counts, (b ∙ one, c ∙ two))

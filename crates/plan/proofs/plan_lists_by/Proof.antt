@@ -1,5 +1,6 @@
-use Rattle.plan.proofs.Refusing.{plan-refused, plan-accepted}
-use Rattle.plan.proofs.ReadingLists.{loaded-ends, loaded-long, loaded-readable}
+use mathlib.Core.Path.{_∙_}
+use Rattle.plan.proofs.Refusing.{plan-places, plan-refused, plan-accepted}
+use Rattle.plan.proofs.ReadingLists.{loaded-ends, loaded-long, loaded-lists, loaded-readable}
 use borrow.Author.Needs.{needs}
 use Rattle.plan.proofs.plan_lists_by.Statement.{statement}
 use Rattle.plan.proofs.plan_lists_by.Tie as tie
@@ -60,16 +61,14 @@ array-share-prefix-links c = let count = c .before in
     let test = count .before in
     let number = test .before in
     let loaded = number .before .before .before .before .before .before .before in
-    let args = loaded .before .before .before .before .before .before .before .before .before .before .before .before .args in
-    loaded-ends _ _ (args .leaders .now) (args .choke .now) (loaded .load-indexed .ensures .0) (number .number-of .ensures) (test .if1 .left) (loaded .load-indexed .ensures .1) (count .link-count .ensures)
+    loaded-ends _ (loaded .load-indexed .ensures .0) (loaded .load-indexed .ensures .0 ∙ plan-places _ _ _ _ (number .number-of .ensures) (test .if1 .left) .0) (loaded .load-indexed .ensures .1) (count .link-count .ensures)
 
 slice-aggregate-read-lists-2 : tie.Need-slice-aggregate-read-lists-2
 slice-aggregate-read-lists-2 c = let count = c .before .before in
     let test = count .before in
     let number = test .before in
     let loaded = number .before .before .before .before .before .before .before in
-    let args = loaded .before .before .before .before .before .before .before .before .before .before .before .before .args in
-    loaded-long _ _ (args .leaders .now) (args .choke .now) (loaded .load-indexed .ensures .0) (number .number-of .ensures) (test .if1 .left) (loaded .load-indexed .ensures .1) (count .link-count .ensures)
+    loaded-long _ (loaded .load-indexed .ensures .0) (loaded .load-indexed .ensures .0 ∙ plan-places _ _ _ _ (number .number-of .ensures) (test .if1 .left) .0) (loaded .load-indexed .ensures .1) (count .link-count .ensures)
 
 slice-aggregate-read-lists-3 : tie.Need-slice-aggregate-read-lists-3
 slice-aggregate-read-lists-3 c = search needs
@@ -82,7 +81,7 @@ read-lists-requires c κs = let count = c .before .before .before .before .befor
     let test = count .before in
     let number = test .before in
     let loaded = number .before .before .before .before .before .before .before in
-    loaded-readable _ _ _ _ (loaded .load-indexed .ensures .0) (number .number-of .ensures) (test .if1 .left) (loaded .load-indexed .ensures .1) (count .link-count .ensures)
+    loaded-readable _ _ (loaded-lists _ (loaded .load-indexed .ensures .0) (loaded .load-indexed .ensures .0 ∙ plan-places _ _ _ _ (number .number-of .ensures) (test .if1 .left) .0) (loaded .load-indexed .ensures .1) (count .link-count .ensures)) (number .number-of .ensures) (test .if1 .left)
 
 same-length-3 : tie.Need-same-length-3
 same-length-3 c = search needs

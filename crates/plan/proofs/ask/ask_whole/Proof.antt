@@ -1,0 +1,62 @@
+use Rattle.plan.proofs.ReadingLists.{asking-marks, asking-making}
+use borrow.Author.Needs.{needs}
+use Rattle.plan.proofs.ask.ask_whole.Statement.{statement}
+use Rattle.plan.proofs.ask.ask_whole.Tie as tie
+
+gateways-requires : tie.Need-gateways-requires
+gateways-requires c κs = search needs
+
+cast-end : tie.Need-cast-end
+cast-end c = search needs
+
+zeros-requires : tie.Need-zeros-requires
+zeros-requires c κs = search needs
+
+nones-requires : tie.Need-nones-requires
+nones-requires c κs = search needs
+
+slice-aggregate-ask-made : tie.Need-slice-aggregate-ask-made
+slice-aggregate-ask-made c = search needs
+
+array-borrow-prefix-dead : tie.Need-array-borrow-prefix-dead
+array-borrow-prefix-dead c = let marks = c .before in
+    let counted = marks .before .before in
+    let start = counted .before .before .before .before .before .before .before .before in
+    asking-marks _ (start .pre) (counted .gateways .ensures) (marks .nones .ensures) .0
+
+slice-aggregate-ask-made-2 : tie.Need-slice-aggregate-ask-made-2
+slice-aggregate-ask-made-2 c = let marks = c .before .before in
+    let counted = marks .before .before in
+    let start = counted .before .before .before .before .before .before .before .before in
+    asking-marks _ (start .pre) (counted .gateways .ensures) (marks .nones .ensures) .1
+
+ask-made-requires : tie.Need-ask-made-requires
+ask-made-requires c κs = let marks = c .before .before .before .before in
+    let counted = marks .before .before in
+    let start = counted .before .before .before .before .before .before .before .before in
+    asking-making _ (start .pre) (counted .gateways .ensures) (marks .before .zeros .ensures) (marks .nones .ensures)
+
+same-length : tie.Need-same-length
+same-length c = search needs
+
+same-length-2 : tie.Need-same-length-2
+same-length-2 c = search needs
+
+returns : tie.Need-returns
+returns c = search needs
+
+pub ask-whole-spec : {M : Type 1} → statement M
+ask-whole-spec =
+    tie.close
+    (tie.spec
+    gateways-requires
+    cast-end
+    zeros-requires
+    nones-requires
+    slice-aggregate-ask-made
+    array-borrow-prefix-dead
+    slice-aggregate-ask-made-2
+    ask-made-requires
+    same-length
+    same-length-2
+    returns)

@@ -1,0 +1,77 @@
+// Why a gateway is alone in the record that a file's calls make once all are placed by 01's search, without the calls. The file is accepted, and its lists and the index of its links are at hand.
+use crate::reading::make;
+use planner::Way;
+use violator::WhyCounts;
+ghost use mathlib.Core.Path.{_≡_};
+ghost use lib.ListN.{length};
+ghost use Rattle.violator.specs.WhyAlone.{whyAnswer, whyFirst, whySecond};
+ghost use Rattle.violator.specs.WhyPlaced.{countsOf};
+ghost use Rattle.plant_file.specs.PlantFile.{fileN};
+ghost use Rattle.plan.specs.Plan.{fileState};
+ghost use Rattle.plan.specs.Pre.{Loaded, Making};
+
+// Makes the holders and asks, with holders and marks to work in.
+fn ask_made(
+    file: &[u8],
+    limits: &[u8],
+    links: &[u16],
+    next: &[u16],
+    order: &[u16],
+    holders: &mut [u16],
+    dead: &mut [u16],
+    gateway: u16,
+    first: &mut [u16],
+    second: &mut [u16],
+) -> WhyCounts
+    requires { ⌜ Making (now file) (fileN (now file)) (now links) (now next) (now order) (now limits) (now holders) (now dead) ⌝ }
+    ensures answer { λ r. ⌜ r ≡ countsOf (whyAnswer (fileState (now (file .entry))) gateway (length (now (first .entry))) (length (now (second .entry)))) ⌝ }
+    ensures first { λ _. ⌜ now (first .exit) ≡ whyFirst (fileState (now (file .entry))) gateway (now (first .entry)) (now (second .entry)) ⌝ }
+    ensures second { λ _. ⌜ now (second .exit) ≡ whySecond (fileState (now (file .entry))) gateway (now (first .entry)) (now (second .entry)) ⌝ }
+{
+    let n = plant_file::gateways(file);
+    make(
+        file,
+        Way::Queued,
+        n as u32,
+        limits,
+        links,
+        next,
+        order,
+        holders,
+        dead,
+    );
+    violator::why_placed(n, n, links, next, order, holders, gateway, first, second)
+}
+
+// .. with lists of its own.
+pub(crate) fn ask_whole(
+    file: &[u8],
+    limits: &[u8],
+    links: &[u16],
+    next: &[u16],
+    order: &[u16],
+    gateway: u16,
+    first: &mut [u16],
+    second: &mut [u16],
+) -> WhyCounts
+    requires { ⌜ Loaded (now file) (now links) (now next) (now order) (now limits) ⌝ }
+    ensures answer { λ r. ⌜ r ≡ countsOf (whyAnswer (fileState (now (file .entry))) gateway (length (now (first .entry))) (length (now (second .entry)))) ⌝ }
+    ensures first { λ _. ⌜ now (first .exit) ≡ whyFirst (fileState (now (file .entry))) gateway (now (first .entry)) (now (second .entry)) ⌝ }
+    ensures second { λ _. ⌜ now (second .exit) ≡ whySecond (fileState (now (file .entry))) gateway (now (first .entry)) (now (second .entry)) ⌝ }
+{
+    let end = plant_file::gateways(file) as usize;
+    let mut holders = lists::marks::zeros();
+    let mut dead = lists::marks::nones();
+    ask_made(
+        file,
+        limits,
+        links,
+        next,
+        order,
+        &mut holders,
+        &mut dead[..end],
+        gateway,
+        first,
+        second,
+    )
+}
