@@ -1,4 +1,4 @@
--- What the contracts of private functions cite. A reader of the public ones needs none of it but `Kept`.
+-- What the contracts of private functions cite. A reader of the public ones needs of it `Fits` and `PlaceableBy`, for `place_kept`.
 use Prim.Native.Nat.{ℕ, zero, suc, _<_, _≤_}
 use mathlib.Core.Path.{_≡_}
 use mathlib.Core.Bool.{Bool, true, not, _&&_}
