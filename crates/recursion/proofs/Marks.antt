@@ -4,17 +4,18 @@ use mathlib.Core.Path.{_≡_, refl, sym, ap, _∙_}
 use mathlib.Core.Bool.{Bool, true, false, not, _&&_, and-false}
 use mathlib.Core.List.{List}
 use native.Mathlib.Omega.{arith}
-use lib.Dec.{eqb}
-use lib.ListN.{length, length-set, replicate, length-replicate}
-use borrow.Author.Tests.{eqb-false, not-true}
+use lib.Dec.{eqb, ltb}
+use lib.ListN.{length, take, length-set, replicate, length-replicate, List·getD-eq-default}
+use lib.Seq.{getD-set-other, length-take-le, getD-take, take-set-lt, take-set-le, set-out}
+use borrow.Author.Tests.{eqb-false, not-true, ltb-true, ltb-false}
 use Rattle.packing.specs.Count.{pick, count}
-use Rattle.packing.specs.Plant.{NONE}
+use Rattle.packing.specs.Plant.{NONE, at}
 use Rattle.packing.proofs.Tests.{by-bool, clash, and-l, and-r, and-i, not-i}
 use Rattle.packing.proofs.Sums.{count-ext, count-mono, count-bound}
 use Rattle.packing.proofs.Moved.{count-point}
 use Rattle.search.proofs.States.{unseen-below, seen-marked, seen-other, seen-kept}
 use Rattle.recursion.specs.Recursion.{tried, mark}
-use Rattle.recursion.specs.Pre.{untriedIn, untried}
+use Rattle.recursion.specs.Pre.{untriedIn, untried, Front}
 
 -- whoever is not tried has a place among the marks
 pub untried-below : (marks : List ℕ) (u : ℕ) → tried marks u ≡ false → u < length marks
@@ -86,3 +87,28 @@ untried-start-in set n = rw (length-replicate n NONE) (count-mono n (λ u. not (
 pub untried-start : (n : ℕ) → untried (replicate n NONE) ≤ n
 unfolding untried
 untried-start n = omega (arith, untried-start-in (λ u. true) n, count-bound n (λ u. true))
+
+-- Marks of which the first n are the gateways', and the others say tried: the first n alone say as much.
+module _ (n : ℕ) (marks : List ℕ) (room : n ≤ length marks) where
+  pub front-long : length (take n marks) ≡ n
+  front-long = length-take-le n marks room
+
+  pub front-at : ((u : ℕ) → n ≤ u → at marks u ≡ 0) → (u : ℕ) → at (take n marks) u ≡ at marks u
+  front-at past u =
+      by-bool (ltb u n) (λ e. getD-take n marks u 0 (ltb-true u n e))
+      (λ e. let l : n ≤ u = ltb-false u n e in List·getD-eq-default (take n marks) 0 {n = u} (rw front-long l) ∙ sym (past u l))
+
+  pub front-mark : (u : ℕ) → take n (mark marks u) ≡ mark (take n marks) u
+  front-mark u =
+      by-bool (ltb u n) (λ e. take-set-lt n marks u 0 (ltb-true u n e))
+      (λ e. let l : n ≤ u = ltb-false u n e in take-set-le n marks u 0 l ∙ sym (set-out (take n marks) u 0 (rw front-long l)))
+
+-- none but the first n are changed
+pub front-same : (n : ℕ) (marks : List ℕ) → Front n marks marks
+front-same n marks = record { long = refl; beyond = λ u l. refl }
+
+pub front-then : {n : ℕ} {a b c : List ℕ} → Front n a b → Front n b c → Front n a c
+front-then f g = record { long = g .long ∙ f .long; beyond = λ u l. g .beyond u l ∙ f .beyond u l }
+
+pub front-marked : {n : ℕ} (marks : List ℕ) (u : ℕ) → u < n → Front n marks (mark marks u)
+front-marked marks u l = record { long = length-set marks u 0; beyond = λ w k. getD-set-other marks u w 0 0 (λ e. omega arith) }

@@ -1,9 +1,9 @@
--- What the contracts of private functions cite. A reader of the public ones needs none of it but `Kept`.
+-- What the contracts of private functions cite. A reader of the public ones needs of it `Fits` and `PlaceableBy`, for `place_kept`.
 use Prim.Native.Nat.{ℕ, zero, suc, _<_, _≤_}
 use mathlib.Core.Path.{_≡_}
 use mathlib.Core.Bool.{Bool, true, not, _&&_}
 use mathlib.Core.List.{List}
-use lib.ListN.{length}
+use lib.ListN.{length, take}
 use Rattle.packing.specs.Count.{count}
 use Rattle.packing.specs.Plant.{GATEWAYS, HIGHEST, at}
 use Rattle.packing.specs.Holders.{holds}
@@ -20,14 +20,21 @@ untriedIn set marks = count (length marks) (λ u. not (tried marks u) && set u)
 unfoldable pub untried : List ℕ → ℕ
 untried marks = untriedIn (λ u. true) marks
 
--- What either function is lent: the links with their index, the table of the holders, and a mark for each gateway. x is a gateway, and h has been tried.
-pub record Working (x h : ℕ) (ls next : List ℕ) (rows : List (List ℕ)) (hs marks : List ℕ) : Type 0 where
-  pub few : length marks ≤ GATEWAYS
-  pub holders : length marks ≤ length hs
+-- What either function is lent: the links with their index, the table of the holders, and marks of which the first n are the gateways' and the others say tried. x is a gateway, and h has been tried.
+pub record Working (n x h : ℕ) (ls next : List ℕ) (rows : List (List ℕ)) (hs marks : List ℕ) : Type 0 where
+  pub few : n ≤ GATEWAYS
+  pub holders : n ≤ length hs
   pub index : Index ls next
-  pub table : TableOf (length marks) hs rows
-  pub inside : x < length marks
-  pub own : tried marks h ≡ true
+  pub table : TableOf n hs rows
+  pub room : n ≤ length marks
+  pub past : (u : ℕ) → n ≤ u → at marks u ≡ 0
+  pub inside : x < n
+  pub own : tried (take n marks) h ≡ true
+
+-- none but the first n marks are changed
+pub record Front (n : ℕ) (marks marks' : List ℕ) : Type 0 where
+  pub long : length marks' ≡ length marks
+  pub beyond : (u : ℕ) → n ≤ u → at marks' u ≡ at marks u
 
 -- what a call stands for that returned k and left these holders and marks: 0 where it failed
 abbrev pub asTry : ℕ → List ℕ → List ℕ → Try

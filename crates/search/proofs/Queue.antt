@@ -4,17 +4,14 @@ use mathlib.Core.Path.{_≡_, ap, _∙_}
 use mathlib.Core.Logic.{⊎-elim}
 use mathlib.Core.Bool.{true, false≢true}
 use mathlib.Core.List.{List, [], _∷_, _++_}
-use native.Mathlib.Numerals.{add-one}
 use native.Mathlib.Omega.{arith}
 use lib.Dec.{eqb, ltb}
 use lib.ListN.{length, length-append, List·getD-append}
 use lib.Seq.{getD-append-add}
 use borrow.Author.Tests.{eqb-true, eq-eqb, ltb-true, ltb-false}
-use Rattle.packing.specs.Count.{pick}
 use Rattle.packing.specs.Plant.{at}
 use Rattle.packing.specs.Holders.{holds}
 use Rattle.packing.proofs.Tests.{by-bool, or-cases}
-use Rattle.packing.proofs.Sums.{count-suc}
 use Rattle.packing.proofs.Lists.{listWhere-length, listWhere-in, listWhere-out}
 use Rattle.packing.specs.Lists.{memberOf}
 use Rattle.search.specs.Search.{heldBy}
@@ -35,11 +32,6 @@ append-at l k i h front back =
     let q : length l ≤ i = ltb-false _ _ e in
     let j : i ≡ length l + (i - length l) = omega arith in
     back (i - length l) (omega (arith, length-append l k)) j (ap (at (l ++ k)) j ∙ getD-append-add l k (i - length l) 0))
-
--- u holds one more below suc v where v is held by u
-pub holds-suc : (v : ℕ) (h : ℕ → ℕ) (u : ℕ) → holds (v + 1) h u ≡ holds v h u + pick (eqb (h v) u) 1
-unfolding holds
-holds-suc v h u = rw add-one (count-suc v (λ w. eqb (h w) u))
 
 -- what u holds is as many as it holds, ..
 pub heldBy-length : (n : ℕ) (hs : List ℕ) (u : ℕ) → length (heldBy n hs u) ≡ holds n (at hs) u

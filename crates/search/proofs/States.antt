@@ -31,10 +31,6 @@ unseen-below {n} from u long e =
     none : _≡_ {A = ℕ} 0 NONE → ⊥
     none q = omega arith
 
--- the number for none is no gateway
-pub none-seen : (from : List ℕ) → length from ≤ GATEWAYS → seen from NONE ≡ true
-none-seen from few = rw (List·getD-eq-default {A = ℕ} from 0 {n = NONE} (omega arith))
-
 -- marking u as seen from x makes u seen, and nobody else
 pub seen-marked : (from : List ℕ) (u x : ℕ) → u < length from → (x ≡ NONE → ⊥) → seen (set from u x) u ≡ true
 seen-marked from u x l some = not-i _ (ne-eqb (at (set from u x) u) NONE (λ e. some (sym (getD-set-same from u x 0 l) ∙ e)))

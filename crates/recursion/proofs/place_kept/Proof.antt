@@ -1,37 +1,38 @@
 use borrow.Author.Needs.{needs}
-use Rattle.recursion.proofs.Settling.{place-marks, place-works, place-leaves}
+use Rattle.recursion.proofs.Settling.{place-works, place-leaves}
 use Rattle.recursion.proofs.place_kept.Statement.{statement}
 use Rattle.recursion.proofs.place_kept.Tie as tie
 
-nones-requires : tie.Need-nones-requires
-nones-requires c κs = search needs
+zeros-requires : tie.Need-zeros-requires
+zeros-requires c κs = search needs
 
-array-borrow-prefix-tried : tie.Need-array-borrow-prefix-tried
-array-borrow-prefix-tried c = search needs
+slice-aggregate-with-none : tie.Need-slice-aggregate-with-none
+slice-aggregate-with-none c = search needs
 
-slice-aggregate-find-holder : tie.Need-slice-aggregate-find-holder
-slice-aggregate-find-holder c = let marks = c .before .before .before in
-    place-marks (marks .before .before .before .before .before .pre) (marks .nones .ensures)
+with-none-requires : tie.Need-with-none-requires
+with-none-requires c κs = search needs
 
 find-holder-requires : tie.Need-find-holder-requires
-find-holder-requires c κs = let marks = c .before .before .before in
-    place-works (marks .before .before .before .before .before .pre) (marks .nones .ensures)
+find-holder-requires c κs = let filled = c .before .before .before .before in
+    let marks = filled .before .before in
+    place-works (marks .before .before .before .before .before .pre) (marks .zeros .ensures) (filled .with-none .ensures)
 
 same-length : tie.Need-same-length
 same-length c = search needs
 
 returns : tie.Need-returns
-returns c = let called = c .before .before .before in
-    let marks = called .before .before .before .before in
-    place-leaves (marks .before .before .before .before .before .pre) (marks .nones .ensures) _ (called .find-holder .ensures .0) (called .find-holder .ensures .1)
+returns c = let called = c .before .before in
+    let filled = called .before .before .before .before .before in
+    let marks = filled .before .before in
+    place-leaves (marks .before .before .before .before .before .pre) (marks .zeros .ensures) (filled .with-none .ensures) _ (called .find-holder .ensures .0) (called .find-holder .ensures .1 .0)
 
 pub place-kept-spec : {M : Type 1} → statement M
 place-kept-spec =
     tie.close
     (tie.spec
-    nones-requires
-    array-borrow-prefix-tried
-    slice-aggregate-find-holder
+    zeros-requires
+    slice-aggregate-with-none
+    with-none-requires
     find-holder-requires
     same-length
     returns)
