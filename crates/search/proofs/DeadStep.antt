@@ -7,6 +7,7 @@ use mathlib.Core.List.{List, [], _∷_}
 use native.Mathlib.Omega.{arith}
 use lib.Dec.{eqb, ltb}
 use lib.ListN.{length, set}
+use lib.Seq.{getD-set-same}
 use borrow.Author.Tests.{eqb-true, eq-eqb, ltb-true, ltb-false}
 use Rattle.packing.specs.Lists.{written}
 use Rattle.packing.specs.Plant.{NONE, GATEWAYS, HIGHEST, at, linked, neighbours}
@@ -19,7 +20,7 @@ use Rattle.search.specs.Search.{Search, found, more, seen, walk, shift, 
 use Rattle.search.specs.Table.{heldTable}
 use Rattle.search.specs.RowPre.{RowsFit, RowsKept}
 use Rattle.search.specs.Pre.{takings, Placeable, Settleable, Outcome}
-use Rattle.search.specs.Dead.{walkPast, deadHold, Dead, Past, leftThen, PastMarks, putBack}
+use Rattle.search.specs.Dead.{walkPast, deadHold, Dead, Past, leftThen, PastMarks, upToFirst, putBack}
 use Rattle.search.proofs.States.{by-state, placeable-startable}
 use Rattle.search.proofs.Placing.{place-is}
 use Rattle.search.proofs.Dead.{past-going}
@@ -125,15 +126,25 @@ module _ {n : ℕ} (limit : ℕ → ℕ) (ls : List ℕ) {hs : List ℕ} {v : �
               by-bool (ltb 0 fuel) (λ b. absurd (omega (arith, none, takings-some fuel v f (at hs x) (at f (at hs x)) (set hs x u) (ltb-true 0 fuel b))))
               (λ b. omega (arith, ltb-false 0 fuel b, z, r .0, p .free .inside)))
 
-      pub past-marks-one : {from'' : List ℕ} → r ≡ 1 → from'' ≡ putBack (neighbours ls v) dead from' → PastMarks n limit ls hs v dead new dead from''
+      -- v has its holder by one round
+      one-shift : (f : List ℕ) (u x : ℕ) → x ≡ v → at (shift n v f u x hs) v ≡ u
+      unfolding shift
+      one-shift f u x self = go n (omega (arith, p .free .inside))
+        where
+          go : (fuel : ℕ) → 0 < fuel → at (shift fuel v f u x hs) v ≡ u
+          go zero l = absurd (omega arith)
+          go (suc fuel) l = rw (eq-eqb x v self, self) (getD-set-same hs v u 0 (omega (arith, p .free .inside, p .free .holders)))
+
+      pub past-marks-one : {from'' : List ℕ} {k : ℕ} → r ≡ 1 → k ≡ at hs' v → from'' ≡ putBack (upToFirst k (neighbours ls v)) dead from' → PastMarks n limit ls hs v dead new dead from''
       unfolding Outcome
-      past-marks-one {from''} one e =
+      past-marks-one {from''} {k} one last e =
           by-state (walkPast n limit ls hs (v ∷ []) dead)
           (λ u x f w.
-          let (_, m, _, marks) = rw w at o' in
+          let (shifted, m, _, marks) = rw w at o' in
           let self : x ≡ v = one-found w (sym m ∙ one) in
           let mine : walkPast n limit ls hs (v ∷ []) dead ≡ found u v f = w ∙ ap (λ (y : ℕ). found u y f) self in
-          kept-marks w (e ∙ ap (putBack (neighbours ls v) dead) marks ∙ put-all (neighbours ls v) dead f (ap length (sym marks) ∙ marks-long .0 ∙ sym (marks-long .1)) (first-marks n limit hs ls v dead (p .free .inside) (p .pair .marks) (p .free .free) mine)))
+          let at-last : k ≡ u = last ∙ ap (λ (l : List ℕ). at l v) shifted ∙ one-shift f u x self in
+          kept-marks w (rw (at-last, marks) at e ∙ put-all (upToFirst u (neighbours ls v)) dead f (ap length (sym marks) ∙ marks-long .0 ∙ sym (marks-long .1)) (first-marks n limit hs (p .free .few) ls v dead (p .free .inside) (p .pair .marks) (p .free .free) mine)))
           (λ q f w. let (_, m, _, _) = rw w at o' in absurd (omega (arith, one, m)))
 
       -- .. and all marks else

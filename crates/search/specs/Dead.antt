@@ -2,7 +2,7 @@
 -- What the functions of a plan's placings require and leave. ls are the plant's links, hs the holders, limit u how many u may hold; left says who is placed and without holder.
 use Prim.Native.Nat.{ℕ, _<_, _≤_}
 use mathlib.Core.Path.{_≡_}
-use mathlib.Core.Bool.{Bool, true, false, not, _&&_, _||_}
+use mathlib.Core.Bool.{Bool, true, false, not, cond, _&&_, _||_}
 use mathlib.Core.List.{List, [], _∷_}
 use lib.Dec.{eqb}
 use lib.ListN.{length, set}
@@ -52,6 +52,11 @@ leftThen n left v hs x = left x || (eqb x v && not (held n (at hs) x))
 pub record PastMarks (n : ℕ) (limit : ℕ → ℕ) (ls hs : List ℕ) (v : ℕ) (dead hs' dead' from' : List ℕ) : Type 0 where
   pub same : from' ≡ dead'
   pub pair : (left : ℕ → Bool) → left v ≡ false → Dead n limit ls hs left dead → Dead n limit ls hs' (leftThen n left v hs') dead'
+
+-- a list up to the first u in it
+unfoldable pub upToFirst : ℕ → List ℕ → List ℕ
+upToFirst u [] = []
+upToFirst u (w ∷ us) = w ∷ cond (eqb w u) [] (upToFirst u us)
 
 -- marks that are put back to those of the dead, one gateway after the other
 unfoldable pub putBack : List ℕ → List ℕ → List ℕ → List ℕ

@@ -30,8 +30,11 @@ returns c = let filled = c .before .before in
     let done = past-done _ _ (start .pre .1) _ _ _ _ (called .settle .ensures) in
     (done .0, (done .1 .0, (done .1 .1, past-marks-left _ _ (start .pre .1) _ _ _ _ (called .settle .ensures) (called .settle .kept .1 .1 .1 .1 .1 .1 .1 .1 .0) (test .if1 .taken) (filled .with-list .ensures))))
 
+entry-requires : tie.Need-entry-requires
+entry-requires c κs = search needs
+
 put-back-requires : tie.Need-put-back-requires
-put-back-requires c κs = let called = c .before .before .before .before .before .before .before .before .before .before in
+put-back-requires c κs = let called = c .before .before .before .before .before .before .before .before .before .before .before .before in
     let start = called .before .before .before .before .before .before .before .before .before .before .before .before in (start .pre .0, past-below _ _ (start .pre .1))
 
 same-length-5 : tie.Need-same-length-5
@@ -48,11 +51,12 @@ same-length-8 c = search needs
 
 returns-2 : tie.Need-returns-2
 returns-2 c = let filled = c .before .before in
-    let test = filled .before .before .before in
+    let asked = filled .before .before .before in
+    let test = asked .before .before in
     let called = test .before .before .before .before .before .before .before .before in
     let start = called .before .before .before .before .before .before .before .before .before .before .before .before in
     let done = past-done _ _ (start .pre .1) _ _ _ _ (called .settle .ensures) in
-    (done .0, (done .1 .0, (done .1 .1, past-marks-one _ _ (start .pre .1) _ _ _ _ (called .settle .ensures) (called .settle .kept .1 .1 .1 .1 .1 .1 .1 .1 .0) (test .if2 .taken) (filled .put-back .ensures))))
+    (done .0, (done .1 .0, (done .1 .1, past-marks-one _ _ (start .pre .1) _ _ _ _ (called .settle .ensures) (called .settle .kept .1 .1 .1 .1 .1 .1 .1 .1 .0) (test .if2 .taken) (asked .entry .ensures) (filled .put-back .ensures))))
 
 with-list-requires-2 : tie.Need-with-list-requires-2
 with-list-requires-2 c κs = let called = c .before .before .before .before .before .before .before .before .before .before in
@@ -89,6 +93,7 @@ place-past-spec =
     same-length-3
     same-length-4
     returns
+    entry-requires
     put-back-requires
     same-length-5
     same-length-6
