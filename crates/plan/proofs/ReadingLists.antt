@@ -1,16 +1,15 @@
 -- From the lists of an accepted file to its plan: what the placings start from, and what is written once they are made.
 use Prim.Native.Nat.{ℕ, _*_, _<_, _≤_}
-use mathlib.Core.Path.{_≡_, refl, sym, ap, fun-ext, _∙_}
-use mathlib.Core.Bool.{Bool, true, false, _&&_}
+use mathlib.Core.Path.{_≡_, sym, ap, _∙_}
+use mathlib.Core.Bool.{Bool, true, _&&_}
 use mathlib.Core.List.{List}
 use native.Mathlib.Omega.{arith}
 use lib.Dec.{eqb}
 use lib.ListN.{length, take, replicate, length-replicate}
 use borrow.Author.Tests.{eqb-true}
-use Rattle.packing.specs.Count.{pick, firstWith}
-use Rattle.packing.specs.Lists.{listOf, written, Lent}
+use Rattle.packing.specs.Count.{pick}
+use Rattle.packing.specs.Lists.{listOf, written}
 use Rattle.packing.specs.Plant.{GATEWAYS, NONE, at, firstLinks}
-use Rattle.packing.specs.Holders.{holds}
 use Rattle.packing.proofs.Tests.{and-l, and-r}
 use Rattle.packing.proofs.Lists.{listOf-ext, written-room, written-at, written-front}
 use Rattle.sound.specs.Searchable.{searchable}
@@ -34,7 +33,7 @@ use Rattle.violator.specs.declared.WhyCounts.{WhyCounts}
 use Rattle.violator.specs.WhyAlone.{whyAnswer, whyFirst, whySecond}
 use Rattle.violator.specs.WhyPlaced.{placedCounts, placedFirst, placedSecond, countsOf}
 use Rattle.violator.proofs.WhyPlaced.{why-of-record}
-use Rattle.plant_file.specs.PlantFile.{fileN, fileM, fileLinks, fileOrder, fileLimit, fileLimits, fileRefusal}
+use Rattle.plant_file.specs.PlantFile.{fileN, fileM, fileLinks, fileOrder, fileLimits, fileRefusal}
 use Rattle.plant_file.specs.Indexed.{Indexed}
 use Rattle.plant_file.proofs.LinksByIndex.{links-long, order-long}
 use Rattle.plant_file.proofs.GatewayLimits.{limits-long, limits-at}
