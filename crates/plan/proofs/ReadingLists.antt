@@ -9,18 +9,17 @@ use lib.ListN.{length, take, replicate, length-replicate}
 use borrow.Author.Tests.{eqb-true}
 use Rattle.packing.specs.Count.{pick}
 use Rattle.packing.specs.Lists.{listOf, written}
-use Rattle.packing.specs.Plant.{GATEWAYS, NONE, at, firstLinks}
+use Rattle.packing.specs.Plant.{GATEWAYS, HIGHEST, NONE, at, firstLinks}
 use Rattle.packing.proofs.Tests.{and-l, and-r}
-use Rattle.packing.proofs.Lists.{listOf-ext, written-room, written-at, written-front}
+use Rattle.packing.proofs.Lists.{listOf-ext, written-room, written-at, written-front, repeated-at}
 use Rattle.sound.specs.Searchable.{searchable}
 use Rattle.sound.proofs.Searchable.{Searchable, searchable-holds, sound-searchable}
 use Rattle.search.specs.Search.{seen}
-use Rattle.search.specs.Table.{heldTable}
 use Rattle.search.specs.ChokeSet.{inChoke, chokeByte, chokeWritten}
 use Rattle.search.specs.ChokePre.{seenByte}
 use Rattle.search.specs.Pre.{Workspace}
 use Rattle.search.proofs.Tested.{chokeable-holds, choke-written}
-use Rattle.search.proofs.Rows.{take-replicate}
+use Rattle.search.proofs.Rows.{take-replicate, table-none}
 use Rattle.search.proofs.Settling.{marks-room, place-marks, workspace}
 use Rattle.stars.specs.Stars.{leaderList, leadersWritten}
 use Rattle.stars.proofs.Lent.{leaders-written}
@@ -62,7 +61,7 @@ module _ (w : Way) (file : List ℕ) (k : ℕ) {ls next os ts hs dead : List ℕ
   pub making-room : {n : ℕ} → n ≡ fileN file → n ≤ length hs
   making-room e = rw (e, m .zeros, length-replicate) (few file (m .loaded))
 
-  pub making-placings : {n : ℕ} {hs' queue all : List ℕ} {rows : List (List ℕ)} → n ≡ fileN file → hs' ≡ written n (replicate n NONE) hs → rows ≡ heldTable n hs' → queue ≡ replicate GATEWAYS 0
+  pub making-placings : {n : ℕ} {hs' queue all : List ℕ} {rows : List (List ℕ)} → n ≡ fileN file → hs' ≡ written n (replicate n NONE) hs → rows ≡ replicate GATEWAYS (replicate HIGHEST NONE) → queue ≡ replicate GATEWAYS 0
       → all ≡ replicate GATEWAYS NONE → Placings w file k ls next os ts hs' rows queue dead (take n all)
   making-placings {n} {hs'} {queue} {all} e held table zeros none =
       let space : Workspace (fileN file) queue (take (fileN file) all) = workspace none zeros (few file (m .loaded)) in
@@ -70,7 +69,7 @@ module _ (w : Way) (file : List ℕ) (k : ℕ) {ls next os ts hs dead : List ℕ
         loaded = m .loaded;
         within = m .within;
         first = held ∙ rw (e, m .zeros) (sym (first-holders file (m .loaded .accepted) w));
-        table = rw e at table;
+        table = table ∙ table-none (fileN file) hs' (λ v l. ap (λ (k : List ℕ). at k v) held ∙ rw e (repeated-at (fileN file) NONE hs v l));
         places = space .places;
         none = m .none;
         same = ap (λ (i : ℕ). take i all) e ∙ space .unseen ∙ sym (m .none);

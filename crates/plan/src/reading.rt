@@ -26,10 +26,9 @@ pub(crate) fn make(
     ensures moved { λ r. ⌜ r ≡ fileMovesBy way (now (file .entry)) placings ⌝ }
     ensures dead { λ _. ⌜ DeadChoke way (now (file .entry)) placings (now (dead .exit)) ⌝ }
 {
-    let n = plant_file::gateways(file);
-    let end = n as usize;
+    let end = plant_file::gateways(file) as usize;
     lists::fill::with_none(end, holders);
-    let mut rows = search::held::gather(n, holders);
+    let mut rows = search::held::empty_rows();
     let mut queue = lists::marks::zeros();
     let mut from = lists::marks::nones();
     place_all(

@@ -47,4 +47,6 @@ pub mod DeadKept
 pub mod DeadOut
 pub mod DeadPlacing
 pub mod DeadChoke
+pub mod FirstTurn
+pub mod PuttingBack
 pub mod DeadStep

@@ -10,7 +10,7 @@ use lib.ListN.{length, set, take, getD, replicate, length-set, length-map, lengt
 use lib.Seq.{ext-getD, getD-set-same, getD-set-other, length-take-le, take-append-add, take-append-seam, getD-append-add}
 use borrow.Author.Tests.{eqb-true, eqb-false, eq-eqb, ne-eqb, lt-ltb, le-ltb, ltb-true, ltb-false}
 use Rattle.packing.specs.Count.{count}
-use Rattle.packing.specs.Lists.{listOf}
+use Rattle.packing.specs.Lists.{listOf, listWhere}
 use Rattle.packing.specs.Plant.{NONE, GATEWAYS, HIGHEST, at}
 use Rattle.packing.specs.Holders.{holds}
 use Rattle.packing.proofs.Tests.{by-bool}
@@ -183,3 +183,15 @@ sound-table n t m k ls os hs ts e = (table-length n hs, λ u l. row-holds n hs u
     -- a holder is a gateway or 65535, so no number between has a row with anybody in it
     none : (u : ℕ) → u < 1024 → n ≤ u → count n (λ v. eqb (at hs v) u) ≤ 16
     none u l q = rw (count-none n (λ v. eqb (at hs v) u) (λ v b. ne-eqb (at hs v) u (λ f. ⊎-elim (λ no. omega arith) (λ below. omega arith) (s .range v b)))) (omega arith)
+
+-- the table where nobody has a holder
+nobody-held : (n : ℕ) (hs : List ℕ) (u : ℕ) → u < GATEWAYS → ((v : ℕ) → v < n → at hs v ≡ NONE) → heldBy n hs u ≡ []
+unfolding heldBy listWhere
+nobody-held zero hs u l none = refl
+nobody-held (suc n) hs u l none = rw (ne-eqb (at hs n) u (λ e. omega (arith, e, none n (omega arith))), nobody-held n hs u l (λ v q. none v (omega arith)))
+
+pub table-none : (n : ℕ) (hs : List ℕ) → ((v : ℕ) → v < n → at hs v ≡ NONE) → replicate GATEWAYS (replicate HIGHEST NONE) ≡ heldTable n hs
+unfolding heldRow asRow
+table-none n hs none =
+    table-is n hs (replicate GATEWAYS (replicate HIGHEST NONE)) (length-replicate GATEWAYS (replicate HIGHEST NONE))
+    (λ u l. getD-replicate GATEWAYS u (replicate HIGHEST NONE) [] l ∙ rw (nobody-held n hs u l none) (sym (take-replicate HIGHEST HIGHEST NONE (omega arith))))

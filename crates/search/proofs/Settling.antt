@@ -51,7 +51,7 @@ module _
         → (hs' ≡ shift n v from' u x hs) × ((r ≡ takings n v from' u x hs) × RowsKept n v from' u x hs rows rows')
         → Outcome n v hs (walkPast n limit ls hs (v ∷ []) from) r hs' from' rows rows'
     unfolding Outcome
-    settle-kept {u} {x} rows' q shifted = let is : Is (Found u x) queue' from' (walkPast n limit ls hs (v ∷ []) from) = rw q at settle-walked in rw (found-state is) (shifted .0, shifted .1 .0, shifted .1 .1)
+    settle-kept {u} {x} rows' q shifted = let is : Is (Found u x) queue' from' (walkPast n limit ls hs (v ∷ []) from) = rw q at settle-walked in rw (found-state is) (shifted .0, shifted .1 .0, shifted .1 .1, refl)
 
     pub settle-left : {tail : ℕ} → w ≡ RanOut tail → Outcome n v hs (walkPast n limit ls hs (v ∷ []) from) 0 hs from' rows rows
     unfolding Outcome
@@ -63,7 +63,7 @@ pub unmarked-outcome : {n : ℕ} (limit : ℕ → ℕ) (ls : List ℕ) {hs from 
     → (hs' ≡ placedHolders n limit ls hs v) × (r ≡ moved n (at hs) (at (placedHolders n limit ls hs v)))
 unfolding placedHolders settled Outcome walk
 unmarked-outcome {n} limit ls {hs} hs' from' rows rows' {v} r p none o =
-    by-state (walk n limit ls hs (v ∷ [])) (λ u x f e. let (h, m, _) = rw (none, e) at o in rw e (h, m ∙ found-moved limit ls p e))
+    by-state (walk n limit ls hs (v ∷ [])) (λ u x f e. let (h, m, _, _) = rw (none, e) at o in rw e (h, m ∙ found-moved limit ls p e))
     (λ q f e. let (h, m, _, _) = rw (none, e) at o in rw e (h, m ∙ sym (moved-none n (at hs))))
 
 -- The arrays to work in: zeros for the queue, and the first n of the marks of nobody.

@@ -3,9 +3,9 @@
 use Prim.Native.Nat.{ℕ, _<_, _≤_}
 use mathlib.Core.Path.{_≡_}
 use mathlib.Core.Bool.{Bool, true, false, not, _&&_, _||_}
-use mathlib.Core.List.{List}
+use mathlib.Core.List.{List, [], _∷_}
 use lib.Dec.{eqb}
-use lib.ListN.{length}
+use lib.ListN.{length, set}
 use Rattle.packing.specs.Plant.{NONE, HIGHEST, at, linked}
 use Rattle.packing.specs.Holders.{held, Feasible}
 use Rattle.packing.proofs.Tight.{Tight}
@@ -52,3 +52,8 @@ leftThen n left v hs x = left x || (eqb x v && not (held n (at hs) x))
 pub record PastMarks (n : ℕ) (limit : ℕ → ℕ) (ls hs : List ℕ) (v : ℕ) (dead hs' dead' from' : List ℕ) : Type 0 where
   pub same : from' ≡ dead'
   pub pair : (left : ℕ → Bool) → left v ≡ false → Dead n limit ls hs left dead → Dead n limit ls hs' (leftThen n left v hs') dead'
+
+-- marks that are put back to those of the dead, one gateway after the other
+unfoldable pub putBack : List ℕ → List ℕ → List ℕ → List ℕ
+putBack [] dead from = from
+putBack (u ∷ us) dead from = putBack us dead (set from u (at dead u))

@@ -121,5 +121,5 @@ pub record Settleable (n : ℕ) (hs : List ℕ) (v : ℕ) (rows : List (List ℕ
 
 -- what a search for v's holder leaves, by how it ends: r is the number moved, hs' the holders, from' the marks and rows' the rows then
 unfoldable pub Outcome : ℕ → ℕ → List ℕ → Search → ℕ → List ℕ → List ℕ → List (List ℕ) → List (List ℕ) → Type 0
-Outcome n v hs (found u x from) r hs' from' rows rows' = (hs' ≡ shift n v from u x hs) × (r ≡ takings n v from u x hs) × RowsKept n v from u x hs rows rows'
+Outcome n v hs (found u x from) r hs' from' rows rows' = (hs' ≡ shift n v from u x hs) × (r ≡ takings n v from u x hs) × RowsKept n v from u x hs rows rows' × (from' ≡ from)
 Outcome n v hs (more queue from) r hs' from' rows rows' = (hs' ≡ hs) × (r ≡ 0) × (from' ≡ from) × (rows' ≡ rows)

@@ -14,7 +14,7 @@ pub const ROW: usize = 16;
 pub type Rows = [[u16; ROW]; lists::PLACES];
 
 // Rows with nobody in them.
-fn empty_rows() -> Rows
+pub fn empty_rows() -> Rows
     ensures { λ r. ⌜ r ≡ replicate GATEWAYS (replicate HIGHEST NONE) ⌝ }
 {
     [[lists::NONE; ROW]; lists::PLACES]

@@ -13,8 +13,8 @@ cast-end c = search needs
 with-none-requires : tie.Need-with-none-requires
 with-none-requires c κs = let counted = c .before in making-room Queued _ _ (counted .before .before .before .before .before .before .before .before .pre) (counted .gateways .ensures)
 
-gather-requires : tie.Need-gather-requires
-gather-requires c κs = search needs
+empty-rows-requires : tie.Need-empty-rows-requires
+empty-rows-requires c κs = search needs
 
 zeros-requires : tie.Need-zeros-requires
 zeros-requires c κs = search needs
@@ -27,19 +27,19 @@ slice-aggregate-place-all c = search needs
 
 array-borrow-prefix-from : tie.Need-array-borrow-prefix-from
 array-borrow-prefix-from c = let marks = c .before .before .before .before in
-    let counted = marks .before .before .before .before .before .before .before .before in lent-marks _ (counted .before .before .before .before .before .before .before .before .pre .loaded) (counted .gateways .ensures) (marks .nones .ensures) .0
+    let counted = marks .before .before .before .before .before .before .before in lent-marks _ (counted .before .before .before .before .before .before .before .before .pre .loaded) (counted .gateways .ensures) (marks .nones .ensures) .0
 
 slice-aggregate-place-all-2 : tie.Need-slice-aggregate-place-all-2
 slice-aggregate-place-all-2 c = let marks = c .before .before .before .before .before in
-    let counted = marks .before .before .before .before .before .before .before .before in lent-marks _ (counted .before .before .before .before .before .before .before .before .pre .loaded) (counted .gateways .ensures) (marks .nones .ensures) .1
+    let counted = marks .before .before .before .before .before .before .before in lent-marks _ (counted .before .before .before .before .before .before .before .before .pre .loaded) (counted .gateways .ensures) (marks .nones .ensures) .1
 
 place-all-requires : tie.Need-place-all-requires
 place-all-requires c κs = let marks = c .before .before .before .before .before in
     let zeros = marks .before in
     let gathered = zeros .before in
-    let filled = gathered .before .before .before .before in
+    let filled = gathered .before .before .before in
     let counted = filled .before .before in
-    making-placings _ _ _ (counted .before .before .before .before .before .before .before .before .pre) (counted .gateways .ensures) (filled .with-none .ensures) (gathered .gather .ensures) (zeros .zeros .ensures) (marks .nones .ensures)
+    making-placings _ _ _ (counted .before .before .before .before .before .before .before .before .pre) (counted .gateways .ensures) (filled .with-none .ensures) (gathered .empty-rows .ensures) (zeros .zeros .ensures) (marks .nones .ensures)
 
 same-length : tie.Need-same-length
 same-length c = search needs
@@ -57,7 +57,7 @@ make-spec =
     gateways-requires
     cast-end
     with-none-requires
-    gather-requires
+    empty-rows-requires
     zeros-requires
     nones-requires
     slice-aggregate-place-all
