@@ -15,7 +15,7 @@ use Rattle.planner.specs.declared.Answer.{Answer}
 use Rattle.planner.specs.declared.PlaceAnswer.{PlaceAnswer}
 use Rattle.planner.specs.Refusals.{openRefusal}
 use Rattle.planner.specs.State.{State, stateOf, linksOf}
-use Rattle.planner.specs.Calls.{Outcome, outcome, answerOf, smallOpened, opened, openCall, Call, order, read, callRefusal, changed, call, callMoves, placeAnswerOf, readLeaders, readChoke}
+use Rattle.planner.specs.Calls.{Outcome, outcome, answerOf, smallOpened, opened, openCall, Call, read, callRefusal, changed, call, callMoves, placeAnswerOf, readLeaders, readChoke}
 
 outcome-refused : (changed kept : State) {e r : ℕ} → e ≡ r → (e ≡ 0 → ⊥) → _≡_ {A = Outcome} (record { refusal = e; state = kept }) (outcome r changed kept)
 outcome-refused changed kept g h = λ i. record { refusal = g i; state = refused changed kept g h i }
