@@ -1,7 +1,7 @@
 -- What is built is the index of the links so far.
 use Prim.Native.Nat.{ℕ, zero, suc, _+_, _-_, _*_, _/_, _<_, _≤_}
 use mathlib.Core.Path.{_≡_, refl, sym, _∙_}
-use mathlib.Core.Logic.{_⊎_, inl, inr, ⊎-elim}
+use mathlib.Core.Logic.{inl, inr, ⊎-elim}
 use mathlib.Core.List.{List}
 use native.Mathlib.Nat.{add-zero}
 use native.Mathlib.Omega.{arith}
@@ -11,7 +11,7 @@ use borrow.Author.Tests.{ne-eqb}
 use Rattle.packing.specs.Plant.{GATEWAYS, ENDS, at, neighbours}
 use Rattle.packing.proofs.Flat.{pair-at}
 use Rattle.chains.specs.Index.{rootOf, EndOf, NextEnd, Index}
-use Rattle.chains.specs.Build.{JoinsTwo, Absent, FirstEnd, FirstOrNone, Hung, Built}
+use Rattle.chains.specs.Build.{JoinsTwo, Absent, FirstOrNone, Hung, Built}
 use Rattle.chains.proofs.Following.{past, mates}
 
 -- only the first e ends count

@@ -1,8 +1,7 @@
 -- Following a chain: from each of x's links to the next, the neighbours of x in order of arrival.
-use Prim.Native.Nat.{ℕ, _+_, _-_, _*_, _/_, _%_, _<_, _≤_}
+use Prim.Native.Nat.{ℕ, _+_, _*_, _/_, _%_, _<_, _≤_}
 use mathlib.Core.Path.{_≡_, refl, ap, _∙_}
 use mathlib.Core.Logic.{_⊎_, inl, inr, ⊎-elim}
-use mathlib.Core.Bool.{false}
 use mathlib.Core.List.{List, [], _∷_}
 use native.Mathlib.Omega.{arith}
 use lib.Dec.{eqb}
@@ -11,7 +10,7 @@ use borrow.Author.Tests.{eqb-true, eqb-false, eq-eqb}
 use Rattle.packing.specs.Plant.{NONE, GATEWAYS, at, otherEnd, neighbours}
 use Rattle.packing.proofs.Tests.{by-bool}
 use Rattle.packing.proofs.Flat.{pair-at, pair-end}
-use Rattle.chains.specs.Index.{rootOf, mate, EndOf, NextEnd, Index}
+use Rattle.chains.specs.Index.{rootOf, mate, EndOf, Index}
 
 -- a chain is at its end, or at an end of x
 abbrev pub Standing : List ℕ → ℕ → ℕ → Type 0

@@ -97,12 +97,6 @@ plan-below file z g h s r same alike (group, most, difference) =
 
 -- .. and so holds of the n leaders and the n choke bytes alone.
 module _ (file : List ℕ) (z : fileRefusal file ≡ 0) where
-  pub leaders-long : length (fileLeaders file) ≡ fileN file
-  leaders-long = ap length (sym (leaders-all file)) ∙ after.leaders-long file z Queued (fileN file) (omega arith)
-
-  pub choke-long : length (fileChoke file) ≡ fileN file
-  choke-long = ap length (sym (choke-all file)) ∙ after.choke-long file z Queued (fileN file) (omega arith)
-
   -- lists of n entries are taken
   plans : planRefusal file (length {A = ℕ} (replicate (fileN file) 0)) (length {A = ℕ} (replicate (fileN file) 0)) ≡ 0
   plans = sym (number-all file _ _) ∙ after-passes file z Queued (fileN file) (omega arith) (replicate (fileN file) 0) (replicate (fileN file) 0) (zeros file z) (zeros file z)

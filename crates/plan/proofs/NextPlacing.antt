@@ -1,7 +1,6 @@
 -- The placings of an accepted file, one after the other: each is the search for the next in the file's order, along its links and by its limits.
-use Prim.Native.Nat.{ℕ, zero, suc, _+_, _<_, _≤_}
+use Prim.Native.Nat.{ℕ, suc, _+_, _<_}
 use mathlib.Core.Path.{_≡_, refl, sym, ap, _∙_}
-use mathlib.Core.Bool.{false}
 use mathlib.Core.List.{List, [], _∷_}
 use native.Mathlib.Numerals.{add-one}
 use native.Mathlib.Omega.{arith}
@@ -9,25 +8,24 @@ use lib.ListN.{replicate}
 use Rattle.packing.specs.Count.{sum}
 use Rattle.packing.specs.Lists.{written}
 use Rattle.packing.specs.Plant.{NONE, at, linked, firstLinks}
-use Rattle.packing.specs.Holders.{held, holds, Feasible}
+use Rattle.packing.specs.Holders.{Feasible}
 use Rattle.packing.specs.Moved.{moved}
-use Rattle.packing.specs.Refusals.{byNumber}
 use Rattle.search.specs.Pre.{Placeable}
 use Rattle.planner.specs.declared.Small.{Small}
 use Rattle.planner.specs.declared.Way.{Way}
 use Rattle.planner.specs.State.{State, limitOf}
 use Rattle.planner.specs.Ways.{placedBy}
-use Rattle.planner.specs.Calls.{Call, opened, openCall, link, order, setLimit, placeBy, callRefusal, changed, call}
+use Rattle.planner.specs.Calls.{Call, opened, openCall, link, order, setLimit, changed, call}
 use Rattle.planner.specs.Run.{afterOpen, run, linkCalls, limitCalls, placeCallsBy}
 use Rattle.planner.specs.Claims.{SearchTold}
 use Rattle.planner.proofs.Outcomes.{call-keeps}
 use Rattle.planner.proofs.Ways.{ways-limits}
-use Rattle.planner.proofs.Next.{SoundState, next-placeable, none-unheld}
+use Rattle.planner.proofs.Next.{SoundState, next-placeable}
 use Rattle.planner.proofs.Filled.{plant-run}
 use Rattle.planner.proofs.LeftNext.{search-told}
 use Rattle.plant_file.specs.PlantFile.{fileN, fileT, fileLinks, fileOrder, fileLimit, fileRefusal}
 use Rattle.plan.specs.Plan.{limitsToSet, callsBy, stateBy, fileMovesBy}
-use Rattle.plan.specs.Claim.{placingMoves, SumOfMoves}
+use Rattle.plan.specs.Claim.{placingMoves}
 use Rattle.plan.proofs.ToldByFile.{toldLimit, told-limits}
 use Rattle.plan.proofs.After.{ownLinks, own, file-open, file-told, file-agrees}
 use Rattle.plan.proofs.FileMoves.{state-next, moves-sum}
@@ -113,12 +111,6 @@ module _ (file : List ℕ) (z : fileRefusal file ≡ 0) (w : Way) where
       placing-moves =
           omega (arith, moves-sum file z w (j + 1) (omega arith) .sums, moves-sum file z w j (omega arith) .sums, one)
 
-    -- those not yet placed are not held
-    pub placing-unplaced : (i : ℕ) → j ≤ i → i < fileN file → held (fileN file) (at (stateBy w file j .holders)) (at (fileOrder file) i) ≡ false
-    placing-unplaced i a b =
-        none-unheld (fileN file) (stateBy w file j .holders) (at (fileOrder file) i) (placing-placeable .few)
-        (rw (file-agrees file z w j (omega arith) .order i b) at (sound .free i (rw placed a) (rw few b)))
-
-    -- .. and the next has no holder
+    -- the next has no holder
     pub placing-none : at (stateBy w file j .holders) (at (fileOrder file) j) ≡ NONE
     placing-none = rw (file-agrees file z w j (omega arith) .order j l) at (sound .free j (rw placed (omega arith)) (rw few l))

@@ -10,7 +10,7 @@ use native.Mathlib.Omega.{arith}
 use lib.Dec.{eqb}
 use lib.ListN.{length, replicate}
 use borrow.Author.Tests.{eqb-true, eq-eqb}
-use Rattle.packing.specs.Plant.{NONE, HIGHEST, at, linked}
+use Rattle.packing.specs.Plant.{NONE, at, linked}
 use Rattle.packing.specs.Holders.{held, Feasible}
 use Rattle.packing.specs.Moved.{moved}
 use Rattle.packing.proofs.Tests.{by-bool, clash, below-suc, and-l, not-i, not-test, or-cases, or-l, or-r, and-i}
@@ -22,12 +22,12 @@ use Rattle.search.specs.Dead.{Dead, Past, PastMarks, leftThen}
 use Rattle.search.proofs.Dead.{dead-none}
 use Rattle.search.proofs.DeadChoke.{dead-choke}
 use Rattle.chains.specs.Index.{Index}
-use Rattle.recursion.specs.Pre.{Fits, PlaceableBy}
+use Rattle.recursion.specs.Pre.{Fits}
 use Rattle.planner.specs.declared.Way.{Way}
 use Rattle.planner.specs.declared.Way.the-variants.{Queued, Recursive}
 use Rattle.planner.specs.Ways.{placedBy}
 use Rattle.planner.proofs.Ways.{ways-place}
-use Rattle.plant_file.specs.PlantFile.{fileN, fileLinks, fileOrder, fileLimit, fileRefusal}
+use Rattle.plant_file.specs.PlantFile.{fileN, fileLinks, fileOrder, fileRefusal}
 use Rattle.plant_file.specs.Limits.{LimitsInRange}
 use Rattle.plant_file.proofs.Accepted.{file-allowed}
 use Rattle.plant_file.proofs.GatewayLimits.{limits-in-range}
@@ -55,10 +55,7 @@ pub record Placed (w : Way) (file : List ℕ) (k : ℕ) (ls ts hs₀ queue₀ de
   pub moves : total ≡ fileMovesBy w file j
   pub so-far : LeftSoFar w file j (at ts) ls hs dead
 
--- What the short search requires, and what it leaves.
-pub one-recursive : {n : ℕ} {limit : ℕ → ℕ} {ls next hs : List ℕ} {v : ℕ} {rows : List (List ℕ)} {queue dead from : List ℕ} → Index ls next → Past n limit ls hs v rows queue dead from → PlaceableBy n hs v ls next rows
-one-recursive d p = record { free = p .free; index = d; table = p .table }
-
+-- What the short search leaves.
 pub one-kept : {n : ℕ} {limit : ℕ → ℕ} {ls hs : List ℕ} {v : ℕ} {rows : List (List ℕ)} {queue dead from : List ℕ} → Past n limit ls hs v rows queue dead from → {hs' new : List ℕ} {r number : ℕ} {rows' : List (List ℕ)}
     → (hs' ≡ new) × ((r ≡ number) × (Fits n limit hs v → rows' ≡ heldTable n new)) → (hs' ≡ new) × ((r ≡ number) × ((rows' ≡ heldTable n new) × ((dead ≡ dead) × (from ≡ from))))
 one-kept p (e, (f, g)) = (e, (f, (g (record { limits = p .fits; own = λ l. absurd (omega (arith, p .none)) }), (refl, refl))))

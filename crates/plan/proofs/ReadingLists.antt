@@ -1,16 +1,15 @@
 -- From the lists of an accepted file to its plan: what the placings start from, and what is written once they are made.
 use Prim.Native.Nat.{ℕ, _*_, _<_, _≤_}
-use mathlib.Core.Path.{_≡_, refl, sym, ap, fun-ext, _∙_}
-use mathlib.Core.Bool.{Bool, true, false, _&&_}
+use mathlib.Core.Path.{_≡_, sym, ap, _∙_}
+use mathlib.Core.Bool.{Bool, true, _&&_}
 use mathlib.Core.List.{List}
 use native.Mathlib.Omega.{arith}
 use lib.Dec.{eqb}
 use lib.ListN.{length, take, replicate, length-replicate}
 use borrow.Author.Tests.{eqb-true}
-use Rattle.packing.specs.Count.{pick, firstWith}
-use Rattle.packing.specs.Lists.{listOf, written, Lent}
+use Rattle.packing.specs.Count.{pick}
+use Rattle.packing.specs.Lists.{listOf, written}
 use Rattle.packing.specs.Plant.{GATEWAYS, HIGHEST, NONE, at, firstLinks}
-use Rattle.packing.specs.Holders.{holds}
 use Rattle.packing.proofs.Tests.{and-l, and-r}
 use Rattle.packing.proofs.Lists.{listOf-ext, written-room, written-at, written-front, repeated-at}
 use Rattle.sound.specs.Searchable.{searchable}
@@ -33,7 +32,7 @@ use Rattle.violator.specs.declared.WhyCounts.{WhyCounts}
 use Rattle.violator.specs.WhyAlone.{whyAnswer, whyFirst, whySecond}
 use Rattle.violator.specs.WhyPlaced.{placedCounts, placedFirst, placedSecond, countsOf}
 use Rattle.violator.proofs.WhyPlaced.{why-of-record}
-use Rattle.plant_file.specs.PlantFile.{fileN, fileM, fileLinks, fileOrder, fileLimit, fileLimits, fileRefusal}
+use Rattle.plant_file.specs.PlantFile.{fileN, fileM, fileLinks, fileOrder, fileLimits, fileRefusal}
 use Rattle.plant_file.specs.Indexed.{Indexed}
 use Rattle.plant_file.proofs.LinksByIndex.{links-long, order-long}
 use Rattle.plant_file.proofs.GatewayLimits.{limits-long, limits-at}
@@ -46,21 +45,26 @@ use Rattle.plan.proofs.After.{reads, file-agrees}
 use Rattle.plan.proofs.Asking.{state-sound}
 use Rattle.plan.proofs.NextPlacing.{first-holders}
 
--- nobody is held yet, and the arrays to work in
-module _ (w : Way) (file : List ℕ) (k : ℕ) {ls next os ts hs dead : List ℕ} (m : Making file k ls next os ts hs dead) where
+-- the arrays to work in, of which the first n marks are lent
+module _ (file : List ℕ) {ls next os ts : List ℕ} (l : Loaded file ls next os ts) where
   few : fileN file ≤ GATEWAYS
-  few = file-allowed file (m .loaded .accepted) .few
+  few = file-allowed file (l .accepted) .few
 
+  pub lent-marks : {n : ℕ} {all : List ℕ} → n ≡ fileN file → all ≡ replicate GATEWAYS NONE → (n ≤ length all) × (n ≡ length (take n all))
+  lent-marks e none = rw e (marks-room none few, place-marks none few)
+
+  pub lent-making : {k n : ℕ} {hs all : List ℕ} → k ≤ fileN file → n ≡ fileN file → hs ≡ replicate GATEWAYS 0 → all ≡ replicate GATEWAYS NONE → Making file k ls next os ts hs (take n all)
+  lent-making within e zeros none = record { loaded = l; within = within; zeros = zeros; none = rw (e, none) (take-replicate (fileN file) GATEWAYS NONE few) }
+
+-- nobody is held yet
+module _ (w : Way) (file : List ℕ) (k : ℕ) {ls next os ts hs dead : List ℕ} (m : Making file k ls next os ts hs dead) where
   pub making-room : {n : ℕ} → n ≡ fileN file → n ≤ length hs
-  making-room e = rw (e, m .zeros, length-replicate) few
-
-  pub making-marks : {n : ℕ} {all : List ℕ} → n ≡ fileN file → all ≡ replicate GATEWAYS NONE → (n ≤ length all) × (n ≡ length (take n all))
-  making-marks e none = rw e (marks-room none few, place-marks none few)
+  making-room e = rw (e, m .zeros, length-replicate) (few file (m .loaded))
 
   pub making-placings : {n : ℕ} {hs' queue all : List ℕ} {rows : List (List ℕ)} → n ≡ fileN file → hs' ≡ written n (replicate n NONE) hs → rows ≡ replicate GATEWAYS (replicate HIGHEST NONE) → queue ≡ replicate GATEWAYS 0
       → all ≡ replicate GATEWAYS NONE → Placings w file k ls next os ts hs' rows queue dead (take n all)
   making-placings {n} {hs'} {queue} {all} e held table zeros none =
-      let space : Workspace (fileN file) queue (take (fileN file) all) = workspace none zeros few in
+      let space : Workspace (fileN file) queue (take (fileN file) all) = workspace none zeros (few file (m .loaded)) in
       record {
         loaded = m .loaded;
         within = m .within;
@@ -103,16 +107,6 @@ module _ (w : Way) (file : List ℕ) (k : ℕ) {ls next os ts leaders choke : Li
   accepted : fileRefusal file ≡ 0
   accepted = r .loaded .accepted
 
-  plant : fileN file ≤ GATEWAYS
-  plant = file-allowed file accepted .few
-
-  pub reading-marks : {n : ℕ} {all : List ℕ} → n ≡ fileN file → all ≡ replicate GATEWAYS NONE → (n ≤ length all) × (n ≡ length (take n all))
-  reading-marks e none = rw e (marks-room none plant, place-marks none plant)
-
-  pub reading-making : {n : ℕ} {hs all : List ℕ} → n ≡ fileN file → hs ≡ replicate GATEWAYS 0 → all ≡ replicate GATEWAYS NONE → Making file k ls next os ts hs (take n all)
-  reading-making {n} {hs} {all} e zeros none =
-      record { loaded = r .loaded; within = r .within; zeros = zeros; none = rw (e, none) (take-replicate (fileN file) GATEWAYS NONE plant) }
-
   module _ {n : ℕ} {hs : List ℕ} (e : n ≡ fileN file) (made : hs ≡ stateBy w file k .holders) where
     pub reading-choking : {dead : List ℕ} → DeadChoke w file k dead → Choking w file k ls next hs dead choke
     reading-choking d = record { accepted = accepted; links = r .loaded .links; index = r .loaded .index; within = r .within; made = made; dead-choke = d; room = r .room₂ }
@@ -125,7 +119,7 @@ module _ (w : Way) (file : List ℕ) (k : ℕ) {ls next os ts leaders choke : Li
         let long : fileN file ≤ length (stateBy w file k .holders) = rw small at (a .made .sound .holders-long) in
         let mine : leaders' ≡ leadersWritten (fileN file) os (stateBy w file k .holders) leaders = rw (e, made) at f in
         mine
-        ∙ leaders-written (fileN file) os (stateBy w file k .holders) leaders (r .loaded .order-long) (record { few = plant; entries = long; places = r .room })
+        ∙ leaders-written (fileN file) os (stateBy w file k .holders) leaders (r .loaded .order-long) (record { few = few file (r .loaded); entries = long; places = r .room })
         ∙ rw (reads file accepted w k (r .within) leaders choke (r .room) (r .room₂), small)
         (ap (λ (l : List ℕ). written (fileN file) l leaders)
         (listOf-ext (fileN file) (leaderList (fileN file) os (stateBy w file k .holders)) (leaderList (fileN file) (stateBy w file k .order) (stateBy w file k .holders))
@@ -169,13 +163,6 @@ loaded-readable {file} {k} leaders choke l is fine = let (_, within, room, room�
 
 -- why a gateway is alone in the record made
 module _ (file : List ℕ) {ls next os ts : List ℕ} (l : Loaded file ls next os ts) where
-  pub asking-making : {n : ℕ} {hs all : List ℕ} → n ≡ fileN file → hs ≡ replicate GATEWAYS 0 → all ≡ replicate GATEWAYS NONE → Making file (fileN file) ls next os ts hs (take n all)
-  asking-making {n} {hs} {all} e zeros none =
-      record { loaded = l; within = omega arith; zeros = zeros; none = rw (e, none) (take-replicate (fileN file) GATEWAYS NONE (file-allowed file (l .accepted) .few)) }
-
-  pub asking-marks : {n : ℕ} {all : List ℕ} → n ≡ fileN file → all ≡ replicate GATEWAYS NONE → (n ≤ length all) × (n ≡ length (take n all))
-  asking-marks e none = let few = file-allowed file (l .accepted) .few in rw e (marks-room none few, place-marks none few)
-
   module _ {n : ℕ} {hs : List ℕ} (e : n ≡ fileN file) (made : hs ≡ stateBy Queued file n .holders) where
     made-all : hs ≡ fileState file .holders
     unfolding fileState

@@ -1,6 +1,6 @@
 -- What a call gives by its number: a refused one its number and the record as it came, an accepted one the changed record.
 use Prim.Native.Nat.{ℕ}
-use mathlib.Core.Path.{_≡_, refl, sym, ap, _∙_}
+use mathlib.Core.Path.{_≡_, sym, ap, _∙_}
 use mathlib.Core.List.{List}
 use lib.ListN.{length, replicate}
 use Rattle.packing.specs.Lists.{listOf, written}
@@ -15,8 +15,7 @@ use Rattle.planner.specs.declared.Answer.{Answer}
 use Rattle.planner.specs.declared.PlaceAnswer.{PlaceAnswer}
 use Rattle.planner.specs.Refusals.{openRefusal}
 use Rattle.planner.specs.State.{State, stateOf, linksOf}
-use Rattle.planner.specs.declared.Way.{Way}
-use Rattle.planner.specs.Calls.{Outcome, outcome, answerOf, smallOpened, opened, openCall, Call, link, order, setLimit, placeBy, read, callRefusal, changed, call, callMoves, placeAnswerOf, readLeaders, readChoke}
+use Rattle.planner.specs.Calls.{Outcome, outcome, answerOf, smallOpened, opened, openCall, Call, read, callRefusal, changed, call, callMoves, placeAnswerOf, readLeaders, readChoke}
 
 outcome-refused : (changed kept : State) {e r : ℕ} → e ≡ r → (e ≡ 0 → ⊥) → _≡_ {A = Outcome} (record { refusal = e; state = kept }) (outcome r changed kept)
 outcome-refused changed kept g h = λ i. record { refusal = g i; state = refused changed kept g h i }
@@ -41,12 +40,6 @@ module _ (n t : ℕ) (ls os hs ts : List ℕ) where
   open-accepted g z a b d =
       let p = outcome-accepted (opened n t ls os hs ts) (stateOf (smallOpened 0 2) ls os hs ts) g z in
       (ap answerOf p, (a ∙ ap (λ (o : Outcome). o .state .order) p, (b ∙ ap (λ (o : Outcome). o .state .holders) p, d ∙ ap (λ (o : Outcome). o .state .limits) p)))
-
-  -- the links stay as they came
-  pub open-links : stateOf (openCall n t ls os hs ts .state .small) ls (openCall n t ls os hs ts .state .order) (openCall n t ls os hs ts .state .holders) (openCall n t ls os hs ts .state .limits) ≡ openCall n t ls os hs ts .state
-  unfolding openCall opened
-  open-links =
-      by-number (opened n t ls os hs ts) (stateOf (smallOpened 0 2) ls os hs ts) (λ s. stateOf (s .small) ls (s .order) (s .holders) (s .limits) ≡ s) (openRefusal n t os hs ts) (λ _. refl) refl
 
 -- any other call: what holds of the changed record, and of the record as it came, holds after it; its answer, and one of the record's lists
 module _ (s : State) (c : Call) where
@@ -106,21 +99,3 @@ module _ (s : State) (leaders choke : List ℕ) where
       → (_≡_ {A = Answer} (record { refusal = 0; small = s .small }) (answerOf (call s (read leaders choke)))) × ((leaders' ≡ readLeaders s leaders choke) × (choke' ≡ readChoke s leaders choke))
   unfolding readLeaders readChoke changed
   read-accepted g z p q = (ap answerOf (call-accepted s (read leaders choke) g z), (accepted _ _ g z p, accepted _ _ g z q))
-
--- What a call leaves as it was, so that its answer and the list it may change make the record after it.
-module _ (s : State) where
-  pub link-state : (a b : ℕ) → stateOf (call s (link a b) .state .small) (call s (link a b) .state .links) (s .order) (s .holders) (s .limits) ≡ call s (link a b) .state
-  unfolding changed
-  link-state a b = call-keeps s (link a b) (λ t. stateOf (t .small) (t .links) (s .order) (s .holders) (s .limits) ≡ t) (λ _. refl) refl
-
-  pub order-state : (numbers : List ℕ) → stateOf (call s (order numbers) .state .small) (s .links) (call s (order numbers) .state .order) (s .holders) (s .limits) ≡ call s (order numbers) .state
-  unfolding changed
-  order-state numbers = call-keeps s (order numbers) (λ t. stateOf (t .small) (s .links) (t .order) (s .holders) (s .limits) ≡ t) (λ _. refl) refl
-
-  pub limit-state : (u limit : ℕ) → stateOf (call s (setLimit u limit) .state .small) (s .links) (s .order) (s .holders) (call s (setLimit u limit) .state .limits) ≡ call s (setLimit u limit) .state
-  unfolding changed
-  limit-state u limit = call-keeps s (setLimit u limit) (λ t. stateOf (t .small) (s .links) (s .order) (s .holders) (t .limits) ≡ t) (λ _. refl) refl
-
-  pub place-state : (w : Way) → stateOf (call s (placeBy w) .state .small) (s .links) (s .order) (call s (placeBy w) .state .holders) (s .limits) ≡ call s (placeBy w) .state
-  unfolding changed
-  place-state w = call-keeps s (placeBy w) (λ t. stateOf (t .small) (s .links) (s .order) (t .holders) (s .limits) ≡ t) (λ _. refl) refl

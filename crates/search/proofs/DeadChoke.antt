@@ -1,6 +1,6 @@
 -- The dead are the choke set: a search that takes nothing, past the dead, from those without holder that are not yet left, marks just the choke set. Where there are none, the dead are the choke set.
 use Prim.Native.Nat.{ℕ, _<_, _≤_}
-use mathlib.Core.Path.{_≡_, ap, _∙_}
+use mathlib.Core.Path.{_≡_}
 use mathlib.Core.Logic.{_⊎_, inl, ⊎-elim}
 use mathlib.Core.Bool.{Bool, true, false, _&&_, _||_, false≢true}
 use mathlib.Core.List.{List, []}
@@ -12,7 +12,7 @@ use Rattle.packing.proofs.Tests.{or-cases, or-l, or-r, iff-test}
 use Rattle.packing.proofs.Sums.{count-bound}
 use Rattle.search.specs.Search.{Search, more, seen, walk}
 use Rattle.search.specs.Pre.{Startable}
-use Rattle.search.specs.ChokeSet.{seenIn, walkSaw, walkQueued, withoutHolder, inChoke}
+use Rattle.search.specs.ChokeSet.{walkSaw, walkQueued, withoutHolder, inChoke}
 use Rattle.search.specs.Dead.{walkPast, deadHold, Dead}
 use Rattle.search.proofs.States.{never-both, turns-out}
 use Rattle.search.proofs.Reach.{walk-exhausted, walk-runs-out}
@@ -66,11 +66,6 @@ module _
         let (queue, from, e) = walk-runs-out {limit = common 0} ls s (λ u. omega arith) in
         ⊎-elim (λ r. absurd (never-both (r .plain) e)) (λ r. record { queue = _; marks = r .past; ends = r .passed; saw = marks-choke (r .plain) (r .alike) })
         (walks-both passable start s (λ x m. unheld-outside d x (free x m .0) (free x m .1)))
-
-    -- who is seen in it
-    pub past-choke-seen : (u : ℕ) → u < n → seenIn (walkPast n (common 0) ls hs start dead) u ≡ inChoke n ls hs u
-    unfolding seenIn
-    past-choke-seen u l = ap (λ (r : Search). seenIn r u) (past-choke .ends) ∙ past-choke .saw u l
 
 -- where all without holder are left, the dead are the choke set
 pub dead-choke : {n : ℕ} {limit : ℕ → ℕ} {ls hs : List ℕ} {left : ℕ → Bool} {dead : List ℕ} → Dead n limit ls hs left dead → n ≤ GATEWAYS → ((x : ℕ) → x < n → held n (at hs) x ≡ false → left x ≡ true)

@@ -25,7 +25,7 @@ use Rattle.search.proofs.Least.{found-moved}
 use Rattle.search.proofs.RowShift.{found-rows, fits-read}
 use Rattle.search.proofs.Dead.{unheld-outside, dead-passed}
 use Rattle.search.proofs.DeadWalk.{passed-found, passed-more}
-use Rattle.search.proofs.DeadShift.{Shiftable, holder-live, shiftable-next, shift-live, shift-past, takings-past, found-shiftable}
+use Rattle.search.proofs.DeadShift.{Shiftable, holder-live, shiftable-next, shift-live, shift-past, found-shiftable}
 use Rattle.search.proofs.DeadKept.{Untouched, untouched-taken, dead-kept}
 use Rattle.search.proofs.DeadOut.{seen-either, out-closed, out-owned, out-least}
 
@@ -51,7 +51,7 @@ module _ {n : ℕ} {limit : ℕ → ℕ} {ls hs : List ℕ} {left : ℕ → Bool
     plain =
         let (from, ends, alike, live) = passed-found (dead-passed d) (placeable-startable p) start-out e in
         let s = found-shiftable limit ls (dead-passed d) p (reached-stops n limit ls hs (v ∷ []) (placeable-startable p) ends) live in
-        record { from = from; ends = ends; shiftable = s; shifts = shift-past alike n hs u x s; takes = takings-past alike n hs u x s; reads = λ l w y q other. (alike .same (at l y) (holder-live q other .alive), shiftable-next q other) }
+        record { from = from; ends = ends; shiftable = s; shifts = shift-past alike n hs u x s .0; takes = shift-past alike n hs u x s .1; reads = λ l w y q other. (alike .same (at l y) (holder-live q other .alive), shiftable-next q other) }
 
     -- .. so the holders after it are
     placed-shift : placedHolders n limit ls hs v ≡ shift n v (plain .from) u x hs

@@ -72,24 +72,16 @@ module _ {n v : ℕ} {dead from : List ℕ} {R : ℕ → Bool} where
       by-bool (eqb x v) (λ e. rw e now) (λ e. rw e (shift-live P step fuel (set hs x u) (at hs x) (at from (at hs x)) (shiftable-next s (eqb-false x v e)) now))
 
   -- the marks of the search past the dead give the same shift, in as many rounds
-  module _ {past : List ℕ} (a : Alike n dead from past) where
-    pub shift-past : (fuel : ℕ) (hs : List ℕ) (u x : ℕ) → Shiftable n v dead from R hs u x → shift fuel v past u x hs ≡ shift fuel v from u x hs
-    unfolding shift
-    shift-past zero hs u x s = refl
-    shift-past (suc fuel) hs u x s =
-        by-bool (eqb x v) (λ e. rw e)
-        (λ e.
-        let other = eqb-false x v e in
-        rw (e, a .same (at hs x) (holder-live s other .alive)) (shift-past fuel (set hs x u) (at hs x) (at from (at hs x)) (shiftable-next s other)))
-
-    pub takings-past : (fuel : ℕ) (hs : List ℕ) (u x : ℕ) → Shiftable n v dead from R hs u x → takings fuel v past u x hs ≡ takings fuel v from u x hs
-    unfolding takings
-    takings-past zero hs u x s = refl
-    takings-past (suc fuel) hs u x s =
-        by-bool (eqb x v) (λ e. rw e)
-        (λ e.
-        let other = eqb-false x v e in
-        rw (e, a .same (at hs x) (holder-live s other .alive)) (ap suc (takings-past fuel (set hs x u) (at hs x) (at from (at hs x)) (shiftable-next s other))))
+  pub shift-past : {past : List ℕ} → Alike n dead from past → (fuel : ℕ) (hs : List ℕ) (u x : ℕ) → Shiftable n v dead from R hs u x
+      → (shift fuel v past u x hs ≡ shift fuel v from u x hs) × (takings fuel v past u x hs ≡ takings fuel v from u x hs)
+  unfolding shift takings
+  shift-past a zero hs u x s = (refl, refl)
+  shift-past a (suc fuel) hs u x s =
+      by-bool (eqb x v) (λ e. rw e (refl, refl))
+      (λ e.
+      let other = eqb-false x v e in
+      let (shifts, takes) = shift-past a fuel (set hs x u) (at hs x) (at from (at hs x)) (shiftable-next s other) in
+      rw (e, a .same (at hs x) (holder-live s other .alive)) (shifts, ap suc takes))
 
 -- 01's search for v found a place free at u, which is not dead, looked at from x
 module _

@@ -1,7 +1,7 @@
 -- One placing past the dead, from what its search leaves.
 use Prim.Native.Nat.{ℕ, zero, suc, _<_, _≤_}
 use mathlib.Core.Path.{_≡_, refl, sym, ap, fun-ext, _∙_}
-use mathlib.Core.Bool.{Bool, true, false, not, _&&_, _||_, or-false}
+use mathlib.Core.Bool.{Bool, true, _||_, or-false}
 use mathlib.Core.Logic.{⊎-elim}
 use mathlib.Core.List.{List, [], _∷_}
 use native.Mathlib.Omega.{arith}
@@ -10,18 +10,18 @@ use lib.ListN.{length, set}
 use lib.Seq.{getD-set-same}
 use borrow.Author.Tests.{eqb-true, eq-eqb, ltb-true, ltb-false}
 use Rattle.packing.specs.Lists.{written}
-use Rattle.packing.specs.Plant.{NONE, GATEWAYS, HIGHEST, at, linked, neighbours}
+use Rattle.packing.specs.Plant.{GATEWAYS, HIGHEST, at, neighbours}
 use Rattle.packing.specs.Holders.{held, holds}
 use Rattle.packing.specs.Moved.{moved}
 use Rattle.packing.proofs.Tests.{by-bool, or-r}
 use Rattle.packing.proofs.Lists.{written-whole}
 use Rattle.packing.proofs.Moved.{moved-none}
-use Rattle.search.specs.Search.{Search, found, more, seen, walk, shift, settled, placedHolders}
+use Rattle.search.specs.Search.{found, shift, settled, placedHolders}
 use Rattle.search.specs.Table.{heldTable}
 use Rattle.search.specs.RowPre.{RowsFit, RowsKept}
-use Rattle.search.specs.Pre.{takings, Placeable, Settleable, Outcome}
-use Rattle.search.specs.Dead.{walkPast, deadHold, Dead, Past, leftThen, PastMarks, upToFirst, putBack}
-use Rattle.search.proofs.States.{by-state, placeable-startable}
+use Rattle.search.specs.Pre.{takings, Settleable, Outcome}
+use Rattle.search.specs.Dead.{walkPast, Past, leftThen, PastMarks, upToFirst, putBack}
+use Rattle.search.proofs.States.{by-state}
 use Rattle.search.proofs.Placing.{place-is}
 use Rattle.search.proofs.Dead.{past-going}
 use Rattle.search.proofs.FirstTurn.{first-marks}

@@ -13,7 +13,7 @@ use Rattle.packing.specs.Plant.{NONE, GATEWAYS, at}
 use Rattle.packing.proofs.Tests.{and-l, and-r}
 use Rattle.packing.proofs.Sums.{count-bound}
 use Rattle.packing.proofs.Lists.{listWhere-length, listWhere-ext}
-use Rattle.search.specs.Search.{seen, walk, placeable}
+use Rattle.search.specs.Search.{seen, placeable}
 use Rattle.search.specs.declared.Walked.{Walked}
 use Rattle.search.specs.declared.reached.Reached.{Reached}
 use Rattle.search.specs.Table.{heldTable}

@@ -2,7 +2,7 @@
 use Prim.Native.Nat.{ℕ, suc, _+_, _-_, _<_, _≤_}
 use mathlib.Core.Path.{_≡_, sym, ap, _∙_}
 use mathlib.Core.Logic.{⊎-elim}
-use mathlib.Core.Bool.{true, false, not, cond}
+use mathlib.Core.Bool.{true, false, cond}
 use mathlib.Core.List.{List}
 use native.Mathlib.Numerals.{add-one}
 use native.Mathlib.Omega.{arith}
@@ -15,7 +15,7 @@ use Rattle.packing.proofs.Tests.{by-bool, below-suc, clash, not-test}
 use Rattle.stars.specs.Stars.{back, onCycle, leadsInTrees, begins, cut, leads}
 use Rattle.stars.specs.Pre.{Treed, Unmet, Rounded, Broken, Led, Reading, Read, goesWith, marked}
 use Rattle.stars.specs.declared.rounds.Round.{Round}
-use Rattle.stars.proofs.Cycles.{back-add, round-back, round-return, cycle-below, cycle-back, cycle-round}
+use Rattle.stars.proofs.Cycles.{back-add, round-back, cycle-below, cycle-back, cycle-return}
 use Rattle.stars.proofs.Leads.{Begins, begins-means, begins-is, cut-leads, cut-begins, cut-cycle, leads-tree}
 use Rattle.stars.proofs.Groups.{cut-starts}
 
@@ -77,11 +77,8 @@ module _ {n : ℕ} {hs : List ℕ} {v : ℕ} {ds ls xs : List ℕ} (r : Reading 
   inside : (j : ℕ) → back n hs j v < n
   inside = cycle-below n hs few v l on
 
-  comes-back : (j : ℕ) → (m : ℕ) × (back n hs m (back n hs j v) ≡ v)
-  comes-back j = let (d, _, round, _) = cycle-round n hs v on in round-return n hs v d round j
-
   unread : (j : ℕ) → marked ds (back n hs j v) ≡ false
-  unread j = not-test (marked ds (back n hs j v)) (λ t. let (m, e) = comes-back j in clash _ (rw e at (r .whole (back n hs j v) (inside j) (cycle-back n hs v on j) t m)) f)
+  unread j = not-test (marked ds (back n hs j v)) (λ t. let (m, e) = cycle-return n hs v on j in clash _ (rw e at (r .whole (back n hs j v) (inside j) (cycle-back n hs v on j) t m)) f)
 
   pub reading-unmet : Unmet n hs ds v
   reading-unmet = record { few = r .few; long = r .read-long; below = l; on = on; none = unread }
@@ -124,8 +121,7 @@ module _ {n : ℕ} {hs : List ℕ} {v : ℕ} {ds ls xs : List ℕ} (r : Reading 
     start-only : (j : ℕ) → begins n hs (back n hs j s) ≡ true → back n hs j s ≡ s
     start-only j t =
         let b = begins-means n hs t in
-        let (d, _, round, _) = cycle-round n hs s start-on in
-        let (m, e) = round-return n hs s d round j in
+        let (m, e) = cycle-return n hs s start-on j in
         ⊎-elim (λ q. clash _ (start-leads q) (rw e at (b .none m)))
         (λ (q, none). omega (arith, q, rw e at (b .low m), lowest j, ap (back n hs j) q)) (g .start)
 
@@ -149,7 +145,7 @@ module _ {n : ℕ} {hs : List ℕ} {v : ℕ} {ds ls xs : List ℕ} (r : Reading 
     module _ {ms ys : List ℕ} {next : ℕ} (b : Led n hs ls ms (c .start) next) (e : ys ≡ set xs (c .start) next) where
       -- v's cycle, as seen from its start
       on-round : (j : ℕ) → (k : ℕ) × (back n hs k s ≡ back n hs j v)
-      on-round j = let (m, q) = comes-back (g .on .0) in (j + m, back-add n hs j m s ∙ ap (back n hs j) (rw (g .on .1) at q))
+      on-round j = let (m, q) = cycle-return n hs v on (g .on .0) in (j + m, back-add n hs j m s ∙ ap (back n hs j) (rw (g .on .1) at q))
 
       not-read : (j : ℕ) → marked ds (back n hs j s) ≡ false
       not-read j = rw (← around j) (unread (j + g .on .0))

@@ -10,7 +10,7 @@ use Rattle.packing.specs.Plant.{NONE}
 use Rattle.packing.proofs.Tests.{by-bool, clash, any-intro}
 use Rattle.stars.specs.Stars.{back, onCycle, leadsInTrees}
 use Rattle.stars.specs.Rules.{Leaderless, Run}
-use Rattle.stars.proofs.Cycles.{least, back-add, round-return, round-met, cycle-round, cycle-back, cycle-below}
+use Rattle.stars.proofs.Cycles.{least, back-add, round-met, cycle-round, cycle-back, cycle-below, cycle-return}
 use Rattle.stars.proofs.Leads.{Begins, cycle-begins}
 use Rattle.stars.proofs.Stretches.{Follows, trail}
 
@@ -61,7 +61,7 @@ rule-3-place n hs few v l on none =
     let s : ℕ = back n hs k v in
     let below : s < n = cycle-below n hs few v l on k in
     let (d, _, round, least) = cycle-round n hs s (b .on) in
-    let (m, r) = round-return n hs v p around k in
+    let (m, r) = cycle-return n hs v on k in
     let (i, a, e) = leaderless-place n hs few s below b d round least m in
     (suc d, (λ i. back n hs (suc d - i) s), leaderless-from n hs few s below b d round least, i, a, e ∙ r)
 

@@ -94,6 +94,10 @@ module _ (n : ℕ) (hs : List ℕ) where
   pub cycle-met : (v : ℕ) → onCycle n hs v ≡ true → (j : ℕ) → (k : ℕ) × (k < n) × (back n hs j v ≡ back n hs k v)
   cycle-met v e j = let (d, l, round, _) = cycle-round v e in let (k, m, q) = round-met n hs v d round j in (k, omega arith, q)
 
+  -- and from each the way back comes to v
+  pub cycle-return : (v : ℕ) → onCycle n hs v ≡ true → (j : ℕ) → (m : ℕ) × (back n hs m (back n hs j v) ≡ v)
+  cycle-return v e = let (d, _, round, _) = cycle-round v e in round-return n hs v d round
+
   -- going back along a cycle stays on it
   pub cycle-back : (v : ℕ) → onCycle n hs v ≡ true → (j : ℕ) → onCycle n hs (back n hs j v) ≡ true
   unfolding onCycle

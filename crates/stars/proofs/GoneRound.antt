@@ -16,7 +16,7 @@ use Rattle.packing.proofs.Sums.{count-bound}
 use Rattle.stars.specs.Stars.{holder, back}
 use Rattle.stars.specs.Pre.{Unmet, Rounded, marked}
 use Rattle.stars.proofs.Tables.{mark-here, mark-other, mark-keeps}
-use Rattle.stars.proofs.Cycles.{holder-at, back-gap, round-back, round-return, round-met, cycle-below, cycle-round}
+use Rattle.stars.proofs.Cycles.{holder-at, back-gap, round-back, round-met, cycle-below, cycle-return}
 use Rattle.stars.proofs.Without.{unmarked-less}
 
 -- the next arc back from a gateway
@@ -112,7 +112,7 @@ module _ {n : ℕ} {hs ds : List ℕ} {v : ℕ} (ls : List ℕ) (m : Unmet n hs 
     rounding-end t =
         let (j, l, w) = r .only u (sym e ∙ not-false b t) (rw (r .here) (m .none i)) in
         let gap : back n hs (suc (i - suc j)) (back n hs j v) ≡ back n hs j v = back-gap n hs j i v l (w ∙ r .here) in
-        let (d, q) = back-round j in
+        let (d, q) = cycle-return n hs v (m .on) j in
         let whole : back n hs (suc (i - suc j)) v ≡ v = rw q at (round-back n hs (back n hs j v) (i - suc j) gap d) in
         let first : j ≡ 0 = by-bool (ltb 0 j) (λ s. absurd (r .fresh (suc (i - suc j)) (omega arith) (omega (arith, ltb-true 0 j s)) whole)) (λ s. omega (arith, ltb-false 0 j s)) in
         let arcs : suc (i - suc j) ≡ i = omega arith in
@@ -128,7 +128,3 @@ module _ {n : ℕ} {hs ds : List ℕ} {v : ℕ} (ls : List ℕ) (m : Unmet n hs 
           on = r .on;
           start = ⊎-elim inl (λ (s, none). inr (s, λ k. let (c, a, q) = met k in rw q (none c a))) (r .found);
         }
-      where
-        -- from each gateway met the way back comes to v
-        back-round : (j : ℕ) → (d : ℕ) × (back n hs d (back n hs j v) ≡ v)
-        back-round j = let (p, _, round, _) = cycle-round n hs v (m .on) in round-return n hs v p round j

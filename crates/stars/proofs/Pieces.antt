@@ -15,7 +15,7 @@ use Rattle.packing.specs.Holders.{held}
 use Rattle.packing.proofs.Tests.{by-bool, clash, not-test, any-intro, any-elim, any-fails}
 use Rattle.stars.specs.Stars.{holder, back, onCycle}
 use Rattle.stars.specs.Pieces.{Connected, Root, Hangs, Tree, OneCycle, Pieces}
-use Rattle.stars.proofs.Cycles.{least, pigeonhole, holder-at, back-add, back-holder, back-gap, back-below, back-between, round-return, round-cycle, cycle-round, cycle-met, cycle-back, cycle-held}
+use Rattle.stars.proofs.Cycles.{least, pigeonhole, holder-at, back-add, back-holder, back-gap, back-below, back-between, round-cycle, cycle-round, cycle-met, cycle-back, cycle-held, cycle-return}
 use Rattle.stars.proofs.Connected.{connected-sorts}
 use Rattle.stars.proofs.Circles.{circle-cycle}
 
@@ -130,8 +130,7 @@ module _ (n : ℕ) (hs : List ℕ) (few : n ≤ NONE) where
     -- who is on a cycle, and from whom the way back comes to x, is on x's cycle
     cycle-one : (w : ℕ) → Comes n hs x w → onCycle n hs w ≡ true → (k : ℕ) × (k < n) × (back n hs k x ≡ w)
     cycle-one w (j, e) o =
-        let (d, _, round, _) = cycle-round n hs w o in
-        let (m, q) = round-return n hs w d round j in
+        let (m, q) = cycle-return n hs w o j in
         let (k, b, f) = cycle-met n hs x on m in
         (k, b, sym f ∙ rw e at q)
 

@@ -1,4 +1,5 @@
-use Rattle.plan.proofs.ReadingLists.{asking-marks, asking-making}
+use native.Mathlib.Omega.{arith}
+use Rattle.plan.proofs.ReadingLists.{lent-marks, lent-making}
 use borrow.Author.Needs.{needs}
 use Rattle.plan.proofs.ask.ask_whole.Statement.{statement}
 use Rattle.plan.proofs.ask.ask_whole.Tie as tie
@@ -22,19 +23,19 @@ array-borrow-prefix-dead : tie.Need-array-borrow-prefix-dead
 array-borrow-prefix-dead c = let marks = c .before in
     let counted = marks .before .before in
     let start = counted .before .before .before .before .before .before .before .before in
-    asking-marks _ (start .pre) (counted .gateways .ensures) (marks .nones .ensures) .0
+    lent-marks _ (start .pre) (counted .gateways .ensures) (marks .nones .ensures) .0
 
 slice-aggregate-ask-made-2 : tie.Need-slice-aggregate-ask-made-2
 slice-aggregate-ask-made-2 c = let marks = c .before .before in
     let counted = marks .before .before in
     let start = counted .before .before .before .before .before .before .before .before in
-    asking-marks _ (start .pre) (counted .gateways .ensures) (marks .nones .ensures) .1
+    lent-marks _ (start .pre) (counted .gateways .ensures) (marks .nones .ensures) .1
 
 ask-made-requires : tie.Need-ask-made-requires
 ask-made-requires c κs = let marks = c .before .before .before .before in
     let counted = marks .before .before in
     let start = counted .before .before .before .before .before .before .before .before in
-    asking-making _ (start .pre) (counted .gateways .ensures) (marks .before .zeros .ensures) (marks .nones .ensures)
+    lent-making _ (start .pre) (omega arith) (counted .gateways .ensures) (marks .before .zeros .ensures) (marks .nones .ensures)
 
 same-length : tie.Need-same-length
 same-length c = search needs

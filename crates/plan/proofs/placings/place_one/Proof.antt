@@ -1,5 +1,5 @@
 use Rattle.planner.specs.Ways.{placedBy}
-use Rattle.plan.proofs.PlacingLoop.{one-recursive, one-kept}
+use Rattle.plan.proofs.PlacingLoop.{one-kept}
 use borrow.Author.Needs.{needs}
 use Rattle.plan.proofs.placings.place_one.Statement.{statement}
 use Rattle.plan.proofs.placings.place_one.Tie as tie

@@ -1,5 +1,5 @@
 use Rattle.planner.specs.declared.Way.the-variants.{Queued}
-use Rattle.plan.proofs.ReadingLists.{making-room, making-marks, making-placings}
+use Rattle.plan.proofs.ReadingLists.{lent-marks, making-room, making-placings}
 use borrow.Author.Needs.{needs}
 use Rattle.plan.proofs.reading.make.Statement.{statement}
 use Rattle.plan.proofs.reading.make.Tie as tie
@@ -27,11 +27,11 @@ slice-aggregate-place-all c = search needs
 
 array-borrow-prefix-from : tie.Need-array-borrow-prefix-from
 array-borrow-prefix-from c = let marks = c .before .before .before .before in
-    let counted = marks .before .before .before .before .before .before .before in making-marks Queued _ _ (counted .before .before .before .before .before .before .before .before .pre) (counted .gateways .ensures) (marks .nones .ensures) .0
+    let counted = marks .before .before .before .before .before .before .before in lent-marks _ (counted .before .before .before .before .before .before .before .before .pre .loaded) (counted .gateways .ensures) (marks .nones .ensures) .0
 
 slice-aggregate-place-all-2 : tie.Need-slice-aggregate-place-all-2
 slice-aggregate-place-all-2 c = let marks = c .before .before .before .before .before in
-    let counted = marks .before .before .before .before .before .before .before in making-marks Queued _ _ (counted .before .before .before .before .before .before .before .before .pre) (counted .gateways .ensures) (marks .nones .ensures) .1
+    let counted = marks .before .before .before .before .before .before .before in lent-marks _ (counted .before .before .before .before .before .before .before .before .pre .loaded) (counted .gateways .ensures) (marks .nones .ensures) .1
 
 place-all-requires : tie.Need-place-all-requires
 place-all-requires c κs = let marks = c .before .before .before .before .before in

@@ -1,5 +1,4 @@
-use Rattle.planner.specs.declared.Way.the-variants.{Queued}
-use Rattle.plan.proofs.ReadingLists.{reading-marks, reading-making}
+use Rattle.plan.proofs.ReadingLists.{lent-marks, lent-making}
 use borrow.Author.Needs.{needs}
 use Rattle.plan.proofs.reading.read_lists.Statement.{statement}
 use Rattle.plan.proofs.reading.read_lists.Tie as tie
@@ -23,19 +22,19 @@ array-borrow-prefix-dead : tie.Need-array-borrow-prefix-dead
 array-borrow-prefix-dead c = let marks = c .before in
     let counted = marks .before .before in
     let start = counted .before .before .before .before .before .before .before .before in
-    reading-marks Queued _ _ (start .pre) (counted .gateways .ensures) (marks .nones .ensures) .0
+    lent-marks _ (start .pre .loaded) (counted .gateways .ensures) (marks .nones .ensures) .0
 
 slice-aggregate-read-made-2 : tie.Need-slice-aggregate-read-made-2
 slice-aggregate-read-made-2 c = let marks = c .before .before in
     let counted = marks .before .before in
     let start = counted .before .before .before .before .before .before .before .before in
-    reading-marks Queued _ _ (start .pre) (counted .gateways .ensures) (marks .nones .ensures) .1
+    lent-marks _ (start .pre .loaded) (counted .gateways .ensures) (marks .nones .ensures) .1
 
 read-made-requires : tie.Need-read-made-requires
 read-made-requires c κs = let marks = c .before .before .before .before in
     let counted = marks .before .before in
     let start = counted .before .before .before .before .before .before .before .before in
-    (start .pre, reading-making Queued _ _ (start .pre) (counted .gateways .ensures) (marks .before .zeros .ensures) (marks .nones .ensures))
+    (start .pre, lent-making _ (start .pre .loaded) (start .pre .within) (counted .gateways .ensures) (marks .before .zeros .ensures) (marks .nones .ensures))
 
 same-length : tie.Need-same-length
 same-length c = search needs
