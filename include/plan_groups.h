@@ -29,10 +29,10 @@ extern "C" {
     ((size_t)10 + 4 * (size_t)PLAN_GROUPS_LINKS_MAX + 4 * (size_t)PLAN_GROUPS_GATEWAYS_MAX)
 
 /* The bytes of stack that are enough for a thread that makes the call: see below. */
-#define PLAN_GROUPS_STACK 114688
+#define PLAN_GROUPS_STACK 180224
 
 /* The same for plan_groups_recursive, which needs more. */
-#define PLAN_GROUPS_RECURSIVE_STACK 221184
+#define PLAN_GROUPS_RECURSIVE_STACK 262144
 
 /*
  * Plans the groups of the plant that a plant file describes.
@@ -83,12 +83,15 @@ extern "C" {
  *
  * What it uses. The call is reentrant and keeps nothing: the library has no writable data and allocates
  * none. Calls may run at once in any threads, each with an out of its own; they may share a file that
- * nobody changes meanwhile. Its lists stand on the stack: about 93 KB, nearly the same for every file. A
- * thread whose stack has PLAN_GROUPS_STACK bytes, with what the thread itself takes of them, can make
- * the call; what the thread does besides needs more.
+ * nobody changes meanwhile. Its lists stand on the stack: 160,240 bytes were measured, nearly the same for
+ * every file (why_alone 125,216, check_groups 112,824, plan_groups_recursive below). A thread whose stack
+ * has PLAN_GROUPS_STACK bytes, with what the thread itself takes of them, can make the call; what the
+ * thread does besides needs more.
  *
- * Its time grows as n * n * (m + 1) at worst. With 1,024 gateways most plants take well under a second;
- * one with thousands of links that leaves hundreds alone can take a few seconds.
+ * Its time grows as n * (n + m) at worst, and as n + m on most plants: a few microseconds for 64 gateways,
+ * 30 to 120 microseconds for 1,024 gateways with some thousand links, under a millisecond on most plants
+ * of 8,192 links. Where many links end at the same gateways a link that stands there already is looked
+ * for along chains that are long; the slowest of thousands of plants tried took under 4 milliseconds.
  *
  * The plant file: "PLT", version, n, T, m, then m links of two ends, then the n numbers of the order; in
  * version 2 then a pair of bytes for each gateway, from gateway 0 on: its kind and its limit byte. T has one
@@ -181,11 +184,11 @@ uint32_t why_alone(const uint8_t *file, size_t file_len, uint32_t gateway, uint8
  *   - the number moved is counted in the same way, placing by placing, but need not be the least.
  *
  * What it uses. Its two functions call each other, up to 512 times each one within the other in a plant of
- * 1,024 gateways; on such plants it takes about 185 KB of stack, on most far less. A thread whose stack has
- * PLAN_GROUPS_RECURSIVE_STACK bytes, with what the thread itself takes of them, can make the call on every
- * file. Its time grows as n * n * (n + m) at worst: it takes about as long as plan_groups on most plants, up
- * to about twice as long where many are left alone, and longer where many are moved. All else is as for
- * plan_groups.
+ * 1,024 gateways; on such plants 250,280 bytes of stack were measured, on most far less. A thread whose
+ * stack has PLAN_GROUPS_RECURSIVE_STACK bytes, with what the thread itself takes of them, can make the call
+ * on every file. Its time grows as n * (n + m) at worst: it takes about as long as plan_groups on most
+ * plants, and up to some thirty times as long, milliseconds then, where many are left alone. All else is as
+ * for plan_groups.
  */
 uint32_t plan_groups_recursive(const uint8_t *file, size_t file_len, uint8_t *out, size_t out_len);
 
@@ -225,8 +228,8 @@ uint32_t plan_groups_recursive(const uint8_t *file, size_t file_len, uint8_t *ou
  *        number of entries of 65535
  *
  * The three areas may overlap: none of them is written. NULL may stand for an area of length 0. All else is
- * as for plan_groups: what is lent and what is used. The time grows as m * m, for the test of the file's links
- * against each other; all else that the call does grows as n + m.
+ * as for plan_groups: what is lent and what is used. The time grows as n + m, and with the lengths of the
+ * chains along which a link that stands there already is looked for.
  */
 uint32_t check_groups(const uint8_t *file, size_t file_len, const uint8_t *leaders, size_t leaders_len,
                       const uint8_t *choke, size_t choke_len);

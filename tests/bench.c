@@ -1,7 +1,8 @@
 /*
  * How fast plan_groups is: beside a plain program of the same method in C, the solver by network flow and
- * plan_groups_recursive, on the same plants in one run. First all that the plain program gives is compared with the call;
- * then a table of kinds of plants; then a search for plants on which the call is slow. Nothing is cleared between calls.
+ * plan_groups_recursive, on the same plants in one run. All begin with the bytes of the file. First all that the plain
+ * program gives is compared with the call; then a table of kinds of plants; then a search for plants on which the call is
+ * slow. Nothing is cleared between calls.
  *
  *   bench [GATEWAYS [PLANTS [FIRST]]]
  *
@@ -33,7 +34,10 @@ struct highest {
     int n, m;
 };
 
-static struct highest to_plain, to_flow;
+/* Of plants of 64 gateways apart: there most of the call's time goes into clearing lists that fit the largest plant. */
+enum { SMALL = 64 };
+
+static struct highest to_plain[2], to_flow[2];
 
 static void print_head(void)
 {
@@ -83,8 +87,8 @@ static bool show(const struct kind *k, int n, enum links links, struct before *b
         return false;
     }
     print_line(k->name, b, &t);
-    keep_highest(&to_plain, t.call / t.plain, k->name);
-    keep_highest(&to_flow, t.call / t.flow, k->name);
+    keep_highest(&to_plain[n <= SMALL], t.call / t.plain, k->name);
+    keep_highest(&to_flow[n <= SMALL], t.call / t.flow, k->name);
     b->size = plant.n + plant.m;
     b->timing = t;
     return true;
@@ -95,15 +99,17 @@ static bool table(int most)
     print_head();
     for (int i = 0; i < kind_count; i++) {
         struct before b = {0};
-        for (int n = 64; n <= most; n *= 4)
+        for (int n = SMALL; n <= most; n *= 4)
             if (!show(&kinds[i], n, USUAL, &b))
                 return false;
         if (most >= MAX_GATEWAYS && kinds[i].has_most && !show(&kinds[i], MAX_GATEWAYS, MOST_OF_ALL, &b))
             return false;
     }
     printf("growth: over the line before, of gateways and links together and of the times\n");
-    print_highest("call to plain C", &to_plain);
-    print_highest("call to flow", &to_flow);
+    for (int small = 0; small < 2; small++) {
+        print_highest("call to plain C", &to_plain[small]);
+        print_highest("call to flow", &to_flow[small]);
+    }
     return true;
 }
 

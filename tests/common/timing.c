@@ -5,6 +5,7 @@
 #include "answer.h"
 #include "flow.h"
 #include "plain_plan.h"
+#include "plain_work.h"
 #include "plan_groups.h"
 #include "stopwatch.h"
 
@@ -30,8 +31,11 @@ static void work_recursive(void)
     refusals |= plan_groups_recursive(file, len, by_other, sizeof by_other);
 }
 
+/* It begins with the file too, which the plain program's reader checks, and gives only how many can be covered. */
 static void work_flow(void)
 {
+    static struct work w;
+    refusals |= plain_take(&w, file, len);
     covered = flow_most(plant, plant->n);
 }
 
