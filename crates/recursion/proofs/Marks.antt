@@ -13,7 +13,7 @@ use Rattle.packing.specs.Plant.{NONE, at}
 use Rattle.packing.proofs.Tests.{by-bool, clash, and-l, and-r, and-i, not-i}
 use Rattle.packing.proofs.Sums.{count-ext, count-mono, count-bound}
 use Rattle.packing.proofs.Moved.{count-point}
-use Rattle.search.proofs.States.{unseen-below, seen-marked, seen-other, seen-kept}
+use Rattle.search.proofs.States.{unseen-below, seen-marked, unseen-falls, seen-kept}
 use Rattle.recursion.specs.Recursion.{tried, mark}
 use Rattle.recursion.specs.Pre.{untriedIn, untried, Front}
 
@@ -22,31 +22,16 @@ pub untried-below : (marks : List ℕ) (u : ℕ) → tried marks u ≡ false →
 untried-below marks u e = unseen-below marks u refl e
 
 -- 0 is a mark
+zero-some : _≡_ {A = ℕ} 0 NONE → ⊥
+zero-some q = omega arith
+
 pub marked : (marks : List ℕ) (u : ℕ) → tried marks u ≡ false → tried (mark marks u) u ≡ true
-marked marks u e = seen-marked marks u 0 (untried-below marks u e) none
-  where
-    none : _≡_ {A = ℕ} 0 NONE → ⊥
-    none q = omega arith
+marked marks u e = seen-marked marks u 0 (untried-below marks u e) zero-some
 
 -- one of a set that is marked is one fewer of it to try
 pub one-tried : (set : ℕ → Bool) (marks : List ℕ) (u : ℕ) → tried marks u ≡ false → set u ≡ true → untriedIn set marks ≡ untriedIn set (mark marks u) + 1
 unfolding untriedIn
-one-tried set marks u e s =
-    rw (length-set marks u 0)
-    (omega (
-      arith,
-      count-point (length marks) (λ w. not (tried marks w) && set w) u (untried-below marks u e),
-      ap (λ (b : Bool). pick (not b && set u) 1) e,
-      ap (λ (b : Bool). pick b 1) s,
-      count-point (length marks) (λ w. not (tried (mark marks u) w) && set w) u (untried-below marks u e),
-      ap (λ (b : Bool). pick (not b && set u) 1) (marked marks u e),
-      count-ext (length marks) (λ w. not (tried (mark marks u) w) && set w && not (eqb u w)) (λ w. not (tried marks w) && set w && not (eqb u w)) rest,
-    ))
-  where
-    rest : (w : ℕ) → w < length marks → (not (tried (mark marks u) w) && set w && not (eqb u w)) ≡ (not (tried marks w) && set w && not (eqb u w))
-    rest w l =
-        by-bool (eqb u w) (λ q. rw q (and-false (not (tried (mark marks u) w) && set w) ∙ sym (and-false (not (tried marks w) && set w))))
-        (λ q. rw (seen-other marks u 0 w (λ r. eqb-false u w q (sym r))))
+one-tried set marks u e s = rw (length-set marks u 0) (unseen-falls set marks u 0 e zero-some s)
 
 -- "the count of untried neighbours falls"
 pub untried-falls : (marks : List ℕ) (u : ℕ) → tried marks u ≡ false → untried marks ≡ untried (mark marks u) + 1

@@ -14,6 +14,7 @@ pub mod RowSteps
 pub mod RowMoves
 pub mod Joining
 pub mod Results
+pub mod Noting
 pub mod Looks
 pub mod Turns
 pub mod Settling
@@ -47,6 +48,4 @@ pub mod DeadKept
 pub mod DeadOut
 pub mod DeadPlacing
 pub mod DeadChoke
-pub mod FirstTurn
-pub mod PuttingBack
 pub mod DeadStep

@@ -17,9 +17,11 @@ use Rattle.search.specs.declared.Walked.{Walked}
 use Rattle.search.specs.declared.Walked.the-variants.{Found, RanOut}
 use Rattle.search.specs.Table.{rowAt}
 use Rattle.search.specs.Pre.{TableOf, ForSome, ForEach, Is, Ready, rowHasPlace, Joinable, Joined}
+use Rattle.search.specs.Noted.{NotedThen, Notes}
 use Rattle.search.proofs.Queue.{heldBy-length}
 use Rattle.search.proofs.Rows.{table-holds, table-place}
-use Rattle.search.proofs.States.{unseen-below, look-seen, look-free, look-full, look-going, going-room, visit-found}
+use Rattle.search.proofs.States.{gateway-some, unseen-below, look-seen, look-free, look-full, look-going, going-room, visit-found}
+use Rattle.search.proofs.Noting.{notes-mark}
 use Rattle.search.proofs.Results.{found-state, more-state, more-within, found-is, more-is, some-then}
 
 -- The three ways of a look. The lent list of marks is from' once u is marked, k is u's entry, t is u's limit, and b says whether its row has a place.
@@ -44,6 +46,10 @@ module _
       look-joins =
           rw (table-holds h (r .going .few) look-below)
           (omega (arith, r .places, length-take-le tail queue (r .within), heldBy-length n hs u, going-room (r .going) u x (r .gateway) unseen))
+
+      -- it is noted
+      pub look-notes : {looked looked' : List ℕ} {c c' : ℕ} {from' : List ℕ} → from' ≡ set from u x → NotedThen u looked c looked' c' → Notes looked c from looked' c' from'
+      look-notes mark then = notes-mark from u x unseen (gateway-some (r .going .few) (r .gateway)) mark then
 
       pub look-is-free : {t : ℕ} {b : Bool} {from' : List ℕ} → from' ≡ set from u x → t ≡ limit u → b ≡ rowHasPlace (rowAt rows u) t → b ≡ true
           → Is (Found u x) queue from' (look n limit hs x u (take tail queue) from)

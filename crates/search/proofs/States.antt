@@ -1,18 +1,19 @@
 -- States of the search: who is seen, the three ways a look ends, and room for all that may yet join the queue.
 use Prim.Native.Nat.{ℕ, zero, suc, _+_, _<_, _≤_}
 use mathlib.Core.Path.{_≡_, refl, sym, ap, _∙_}
-use mathlib.Core.Bool.{true, false, not, _&&_}
+use mathlib.Core.Bool.{Bool, true, false, not, _&&_, and-false}
 use mathlib.Core.List.{List, [], _∷_, _++_}
 use native.Mathlib.Omega.{arith}
 use lib.Dec.{eqb, ltb}
 use lib.ListN.{length, set, replicate, length-append, length-set, length-replicate, getD-replicate, List·getD-eq-default}
 use lib.Seq.{getD-set-same, getD-set-other}
 use borrow.Author.Tests.{eqb-true, eqb-false, ne-eqb, lt-ltb, le-ltb, ltb-true, ltb-false, not-true, not-false}
-use Rattle.packing.specs.Count.{count}
+use Rattle.packing.specs.Count.{pick, count}
 use Rattle.packing.specs.Plant.{NONE, GATEWAYS, at, neighbours}
 use Rattle.packing.specs.Holders.{held, holds}
 use Rattle.packing.proofs.Tests.{by-bool, clash, and-l, and-r, and-i, not-i, iff-test}
 use Rattle.packing.proofs.Sums.{count-ext, count-split, count-mono, count-all, count-some}
+use Rattle.packing.proofs.Moved.{count-point}
 use Rattle.search.specs.Search.{Search, found, more, seen, heldBy, look, visit, turn, turns, walk}
 use Rattle.search.specs.Pre.{waiting, Going, Startable, Placeable}
 use Rattle.packing.proofs.Lists.{member-at}
@@ -37,6 +38,28 @@ seen-marked from u x l some = not-i _ (ne-eqb (at (set from u x) u) NONE (λ e. 
 
 pub seen-other : (from : List ℕ) (u x w : ℕ) → (w ≡ u → ⊥) → seen (set from u x) w ≡ seen from w
 seen-other from u x w other = ap (λ (k : ℕ). not (eqb k NONE)) (getD-set-other from u w x 0 other)
+
+-- one of a set that is marked is one fewer of it to see
+pub unseen-falls : (set' : ℕ → Bool) (from : List ℕ) (u x : ℕ) → seen from u ≡ false → (x ≡ NONE → ⊥) → set' u ≡ true
+    → count (length from) (λ w. not (seen from w) && set' w) ≡ count (length from) (λ w. not (seen (set from u x) w) && set' w) + 1
+unseen-falls set' from u x e some s =
+    omega (
+      arith,
+      count-point (length from) (λ w. not (seen from w) && set' w) u below,
+      ap (λ (b : Bool). pick (not b && set' u) 1) e,
+      ap (λ (b : Bool). pick b 1) s,
+      count-point (length from) (λ w. not (seen (set from u x) w) && set' w) u below,
+      ap (λ (b : Bool). pick (not b && set' u) 1) (seen-marked from u x below some),
+      count-ext (length from) (λ w. not (seen (set from u x) w) && set' w && not (eqb u w)) (λ w. not (seen from w) && set' w && not (eqb u w)) rest,
+    )
+  where
+    below : u < length from
+    below = unseen-below from u refl e
+
+    rest : (w : ℕ) → w < length from → (not (seen (set from u x) w) && set' w && not (eqb u w)) ≡ (not (seen from w) && set' w && not (eqb u w))
+    rest w l =
+        by-bool (eqb u w) (λ q. rw q (and-false (not (seen (set from u x) w) && set' w) ∙ sym (and-false (not (seen from w) && set' w))))
+        (λ q. rw (seen-other from u x w (λ r. eqb-false u w q (sym r))))
 
 -- whoever was seen is seen after a mark, from where it was
 pub mark-keeps : (from : List ℕ) (u x w : ℕ) → seen from u ≡ false → seen from w ≡ true → at (set from u x) w ≡ at from w

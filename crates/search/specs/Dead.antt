@@ -31,15 +31,15 @@ pub record Dead (n : ℕ) (limit : ℕ → ℕ) (ls hs : List ℕ) (left : ℕ �
       → ((v : ℕ) → v < n → held n (at hs) v ≡ true → S (at hs v) ≡ true → R v ≡ true)
       → (u : ℕ) → u < n → seen dead u ≡ true → S u ≡ true
 
--- Places v past the dead, with rows that are kept: v may be placed and is not among those left, the holders are along links and within limits, which are those of a row, and the marks that the search starts from are the dead.
-pub record Past (n : ℕ) (limit : ℕ → ℕ) (ls hs : List ℕ) (v : ℕ) (rows : List (List ℕ)) (queue dead from : List ℕ) : Type 0 where
+-- Places v past the dead, with rows that are kept: v may be placed and is not among those left, the holders are along links and within limits, which are those of a row, and there is room to note whom the search marks.
+pub record Past (n : ℕ) (limit : ℕ → ℕ) (ls hs : List ℕ) (v : ℕ) (rows : List (List ℕ)) (queue dead looked : List ℕ) : Type 0 where
   pub free : Placeable n hs v
   pub none : at hs v ≡ NONE
   pub feasible : Feasible n limit (linked ls) (at hs)
   pub fits : (u : ℕ) → u < n → limit u ≤ HIGHEST
   pub table : rows ≡ heldTable n hs
   pub places : n ≤ length queue
-  pub same : from ≡ dead
+  pub room : n ≤ length looked
   pub left : ℕ → Bool
   pub new : left v ≡ false
   pub pair : Dead n limit ls hs left dead
@@ -48,17 +48,6 @@ pub record Past (n : ℕ) (limit : ℕ → ℕ) (ls hs : List ℕ) (v : ℕ) (ro
 abbrev pub leftThen : ℕ → (ℕ → Bool) → ℕ → List ℕ → ℕ → Bool
 leftThen n left v hs x = left x || (eqb x v && not (held n (at hs) x))
 
--- The marks after it: hs' are the holders then. The dead are the dead of those left then, and the marks are theirs again.
-pub record PastMarks (n : ℕ) (limit : ℕ → ℕ) (ls hs : List ℕ) (v : ℕ) (dead hs' dead' from' : List ℕ) : Type 0 where
-  pub same : from' ≡ dead'
-  pub pair : (left : ℕ → Bool) → left v ≡ false → Dead n limit ls hs left dead → Dead n limit ls hs' (leftThen n left v hs') dead'
-
--- a list up to the first u in it
-unfoldable pub upToFirst : ℕ → List ℕ → List ℕ
-upToFirst u [] = []
-upToFirst u (w ∷ us) = w ∷ cond (eqb w u) [] (upToFirst u us)
-
--- marks that are put back to those of the dead, one gateway after the other
-unfoldable pub putBack : List ℕ → List ℕ → List ℕ → List ℕ
-putBack [] dead from = from
-putBack (u ∷ us) dead from = putBack us dead (set from u (at dead u))
+-- the dead after it are the dead of those left then; hs' are the holders then
+unfoldable pub DeadThen : (n : ℕ) (limit : ℕ → ℕ) (ls hs : List ℕ) (v : ℕ) (dead hs' dead' : List ℕ) → Type 0
+DeadThen n limit ls hs v dead hs' dead' = (left : ℕ → Bool) → left v ≡ false → Dead n limit ls hs left dead → Dead n limit ls hs' (leftThen n left v hs') dead'

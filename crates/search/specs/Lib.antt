@@ -10,4 +10,5 @@ pub mod Ascending
 pub mod ChokePre
 pub mod ReachedPre
 pub mod Dead
+pub mod Noted
 pub mod RowPre

@@ -27,7 +27,19 @@ fn write_set(
 {
     let tail = queue_unheld(n, holders, queue);
     let limits = lists::marks::bytes(0);
-    walk(&limits, links, next, rows, queue, tail, from);
+    let mut looked = [0u16; 0];
+    let mut count: usize = 0;
+    walk(
+        &limits,
+        links,
+        next,
+        rows,
+        queue,
+        tail,
+        from,
+        &mut looked,
+        &mut count,
+    );
     write_seen(from, out);
 }
 

@@ -2,6 +2,7 @@
 pub mod bytes;
 pub mod choke;
 pub mod held;
+mod noted;
 pub mod past;
 pub mod reached;
 pub mod shift;
@@ -19,6 +20,7 @@ ghost use Rattle.chains.specs.Index.{Index};
 ghost use Rattle.search.specs.Search.{placeable, placedHolders, holdersAfter};
 ghost use Rattle.search.specs.Moved.{placeAnswer};
 ghost use Rattle.search.specs.Dead.{walkPast};
+ghost use Rattle.search.specs.Noted.{Notes};
 ghost use Rattle.search.specs.Pre.{Placeable, Settleable, Outcome};
 
 // How a search ends or stands: at a gateway with a place free, looked at from another; or with so many queued.
@@ -44,12 +46,15 @@ fn settle(
     holders: &mut [u16],
     queue: &mut [u16],
     from: &mut [u16],
+    looked: &mut [u16],
+    count: &mut usize,
 ) -> u16
     requires { ⌜ Index (now links) (now next) × Settleable n (now holders) v (now rows) (now queue) (now from) ⌝ }
-    ensures { λ r. ⌜ Outcome n v (now (holders .entry)) (walkPast n (at (now (limits .entry))) (now (links .entry)) (now (holders .entry)) (v ∷ []) (now (from .entry))) r (now (holders .exit)) (now (from .exit)) (now (rows .entry)) (now (rows .exit)) ⌝ }
+    ensures outcome { λ r. ⌜ Outcome n v (now (holders .entry)) (walkPast n (at (now (limits .entry))) (now (links .entry)) (now (holders .entry)) (v ∷ []) (now (from .entry))) r (now (holders .exit)) (now (from .exit)) (now (rows .entry)) (now (rows .exit)) ⌝ }
+    ensures marks { λ _. ⌜ Notes (now (looked .entry)) (now (count .entry)) (now (from .entry)) (now (looked .exit)) (now (count .exit)) (now (from .exit)) ⌝ }
 {
     queue[0] = v;
-    let w = walk::walk(limits, links, next, rows, queue, 1, from);
+    let w = walk::walk(limits, links, next, rows, queue, 1, from, looked, count);
     match w {
         Walked::Found(u, x) => shift_back(n, v, u, x, from, rows, holders),
         Walked::RanOut(_) => 0,
@@ -72,6 +77,8 @@ fn place_unheld(
     let mut rows = gather(n, holders);
     let mut queue = lists::marks::zeros();
     let mut from = lists::marks::nones();
+    let mut looked = [0u16; 0];
+    let mut count: usize = 0;
     let end = n as usize;
     settle(
         n,
@@ -83,6 +90,8 @@ fn place_unheld(
         holders,
         &mut queue,
         &mut from[..end],
+        &mut looked,
+        &mut count,
     )
 }
 

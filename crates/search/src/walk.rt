@@ -3,15 +3,17 @@ use crate::Walked;
 use crate::held::Rows;
 use crate::held::has_place;
 use crate::held::join;
+use crate::noted::note;
 ghost use lib.ListN.{take};
 ghost use Rattle.packing.specs.Plant.{at, neighbours};
 ghost use Rattle.chains.specs.Index.{Index};
 ghost use Rattle.search.specs.Search as model;
 ghost use Rattle.search.specs.Search.{more};
 ghost use Rattle.search.specs.Dead.{walkPast};
+ghost use Rattle.search.specs.Noted.{Notes};
 ghost use Rattle.search.specs.Pre.{ForEach, ForSome, Is, Ready, Walkable};
 
-// Looks at u from x.
+// Looks at u from x. If it marks u, u is noted.
 fn look(
     limits: &[u8],
     x: u16,
@@ -20,14 +22,18 @@ fn look(
     queue: &mut [u16],
     tail: usize,
     from: &mut [u16],
+    looked: &mut [u16],
+    count: &mut usize,
 ) -> Walked
     requires { ⌜ ForSome (now rows) (λ n hs. Ready n x hs (now queue) tail (now from)) ⌝ }
-    ensures { λ r. ⌜ ForEach (now (rows .entry)) (λ n hs. Ready n x hs (now (queue .entry)) tail (now (from .entry))) (λ n hs. Is r (now (queue .exit)) (now (from .exit)) (model.look n (at (now (limits .entry))) hs x u (take tail (now (queue .entry))) (now (from .entry)))) ⌝ }
+    ensures state { λ r. ⌜ ForEach (now (rows .entry)) (λ n hs. Ready n x hs (now (queue .entry)) tail (now (from .entry))) (λ n hs. Is r (now (queue .exit)) (now (from .exit)) (model.look n (at (now (limits .entry))) hs x u (take tail (now (queue .entry))) (now (from .entry)))) ⌝ }
+    ensures marks { λ _. ⌜ Notes (now (looked .entry)) (now (count .entry)) (now (from .entry)) (now (looked .exit)) (now (count .exit)) (now (from .exit)) ⌝ }
 {
     if lists::entry(from, u) != lists::NONE {
         return Walked::RanOut(tail);
     }
     lists::put(from, u, x);
+    note(u, looked, count);
     if has_place(&rows[u as usize], lists::byte(limits, u as usize)) {
         return Walked::Found(u, x);
     }
@@ -44,15 +50,18 @@ fn visit(
     queue: &mut [u16],
     tail: usize,
     from: &mut [u16],
+    looked: &mut [u16],
+    count: &mut usize,
 ) -> Walked
     requires { ⌜ Index (now links) (now next) × ForSome (now rows) (λ n hs. Ready n x hs (now queue) tail (now from)) ⌝ }
-    ensures { λ r. ⌜ ForEach (now (rows .entry)) (λ n hs. Ready n x hs (now (queue .entry)) tail (now (from .entry))) (λ n hs. Is r (now (queue .exit)) (now (from .exit)) (model.visit n (at (now (limits .entry))) hs x (neighbours (now (links .entry)) x) (more (take tail (now (queue .entry))) (now (from .entry))))) ⌝ }
+    ensures state { λ r. ⌜ ForEach (now (rows .entry)) (λ n hs. Ready n x hs (now (queue .entry)) tail (now (from .entry))) (λ n hs. Is r (now (queue .exit)) (now (from .exit)) (model.visit n (at (now (limits .entry))) hs x (neighbours (now (links .entry)) x) (more (take tail (now (queue .entry))) (now (from .entry))))) ⌝ }
+    ensures marks { λ _. ⌜ Notes (now (looked .entry)) (now (count .entry)) (now (from .entry)) (now (looked .exit)) (now (count .exit)) (now (from .exit)) ⌝ }
 {
     let mut end = tail;
     let mut e = chains::first_end(next, x);
     while e != lists::NONE {
         let u = chains::across(links, e);
-        let w = look(limits, x, u, rows, queue, end, from);
+        let w = look(limits, x, u, rows, queue, end, from, looked, count);
         match w {
             Walked::Found(y, z) => return Walked::Found(y, z),
             Walked::RanOut(t) => end = t,
@@ -62,7 +71,7 @@ fn visit(
     Walked::RanOut(end)
 }
 
-// The search from the first `tail` of the queue, past those that are marked. A limit of 0 leaves nobody a place free.
+// The search from the first `tail` of the queue, past those that are marked. A limit of 0 leaves nobody a place free. All that it marks are noted, as far as there is room.
 pub(crate) fn walk(
     limits: &[u8],
     links: &[u16],
@@ -71,15 +80,29 @@ pub(crate) fn walk(
     queue: &mut [u16],
     tail: usize,
     from: &mut [u16],
+    looked: &mut [u16],
+    count: &mut usize,
 ) -> Walked
     requires { ⌜ Index (now links) (now next) × ForSome (now rows) (λ n hs. Walkable n hs (now queue) tail (now from)) ⌝ }
-    ensures { λ r. ⌜ ForEach (now (rows .entry)) (λ n hs. Walkable n hs (now (queue .entry)) tail (now (from .entry))) (λ n hs. Is r (now (queue .exit)) (now (from .exit)) (walkPast n (at (now (limits .entry))) (now (links .entry)) hs (take tail (now (queue .entry))) (now (from .entry)))) ⌝ }
+    ensures state { λ r. ⌜ ForEach (now (rows .entry)) (λ n hs. Walkable n hs (now (queue .entry)) tail (now (from .entry))) (λ n hs. Is r (now (queue .exit)) (now (from .exit)) (walkPast n (at (now (limits .entry))) (now (links .entry)) hs (take tail (now (queue .entry))) (now (from .entry)))) ⌝ }
+    ensures marks { λ _. ⌜ Notes (now (looked .entry)) (now (count .entry)) (now (from .entry)) (now (looked .exit)) (now (count .exit)) (now (from .exit)) ⌝ }
 {
     let mut end = tail;
     let mut head: usize = 0;
     while head < end {
         let x = queue[head];
-        let w = visit(limits, x, links, next, rows, queue, end, from);
+        let w = visit(
+            limits,
+            x,
+            links,
+            next,
+            rows,
+            queue,
+            end,
+            from,
+            looked,
+            count,
+        );
         match w {
             Walked::Found(y, z) => return Walked::Found(y, z),
             Walked::RanOut(e) => end = e,

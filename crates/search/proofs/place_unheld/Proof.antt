@@ -22,8 +22,11 @@ slice-aggregate-settle-2 : tie.Need-slice-aggregate-settle-2
 slice-aggregate-settle-2 c = let marks = c .before .before .before .before in
     place-marks (marks .nones .ensures) (marks .before .before .before .before .before .before .before .before .pre .1 .few)
 
+slice-aggregate-settle-3 : tie.Need-slice-aggregate-settle-3
+slice-aggregate-settle-3 c = search needs
+
 settle-requires : tie.Need-settle-requires
-settle-requires c κs = let marks = c .before .before .before .before in
+settle-requires c κs = let marks = c .before .before .before .before .before .before in
     let zeros = marks .before in
     let gathered = zeros .before in
     let start = gathered .before .before .before .before .before .before in
@@ -33,10 +36,10 @@ same-length : tie.Need-same-length
 same-length c = search needs
 
 returns : tie.Need-returns
-returns c = let called = c .before .before .before .before in
-    let marks = called .before .before .before .before .before in
+returns c = let called = c .before .before .before .before .before in
+    let marks = called .before .before .before .before .before .before .before in
     let start = marks .before .before .before .before .before .before .before .before in
-    unmarked-outcome _ _ _ _ _ _ _ (start .pre .1) (workspace (marks .nones .ensures) (marks .before .zeros .ensures) (start .pre .1 .few) .unseen) (called .settle .ensures)
+    unmarked-outcome _ _ _ _ _ _ _ (start .pre .1) (workspace (marks .nones .ensures) (marks .before .zeros .ensures) (start .pre .1 .few) .unseen) (called .settle .ensures .0)
 
 pub place-unheld-spec : {M : Type 1} → statement M
 place-unheld-spec =
@@ -48,6 +51,7 @@ place-unheld-spec =
     slice-aggregate-settle
     array-borrow-prefix-from
     slice-aggregate-settle-2
+    slice-aggregate-settle-3
     settle-requires
     same-length
     returns)

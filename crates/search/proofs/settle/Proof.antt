@@ -9,7 +9,7 @@ slice-write-queue : tie.Need-slice-write-queue
 slice-write-queue c = search needs
 
 walk-requires : tie.Need-walk-requires
-walk-requires c κs = let start = c .before .before .before .before .before .before .before .before .before in
+walk-requires c κs = let start = c .before .before .before .before .before .before .before .before .before .before .before .before in
     (start .pre .0, settle-some (start .pre .1))
 
 enum-known-w : tie.Need-enum-known-w
@@ -25,31 +25,37 @@ same-length : tie.Need-same-length
 same-length c = search needs
 
 same-length-2 : tie.Need-same-length-2
-same-length-2 c = let called = c .before .before .before .before .before .before .before .before .before .before .before .before .before in
-    let start = called .before .before .before .before .before .before .before .before .before .before in
+same-length-2 c = let called = c .before .before .before .before .before .before .before .before .before .before .before .before .before .before .before in
+    let start = called .before .before .before .before .before .before .before .before .before .before .before .before .before in
     called .walk .kept .1 .1 .1 .1 .0 ∙ length-set (start .args .queue .now) 0 (start .args .v)
 
 same-length-3 : tie.Need-same-length-3
 same-length-3 c = search needs
 
+same-length-4 : tie.Need-same-length-4
+same-length-4 c = search needs
+
 returns : tie.Need-returns
 returns c = let known = c .before .before .before .before .before .before .before in
-    let called = known .before .before .before .before .before .before in
-    let start = called .before .before .before .before .before .before .before .before .before .before in
-    settle-kept _ _ (start .pre .1) (called .walk .ensures) _ (known .w .given .1) (c .before .before .shift-back .ensures)
-
-same-length-4 : tie.Need-same-length-4
-same-length-4 c = let called = c .before .before .before .before .before .before in
-    let start = called .before .before .before .before .before .before .before .before .before .before in
-    called .walk .kept .1 .1 .1 .1 .0 ∙ length-set (start .args .queue .now) 0 (start .args .v)
+    let called = known .before .before .before .before .before .before .before .before in
+    let start = called .before .before .before .before .before .before .before .before .before .before .before .before .before in
+    (settle-kept _ _ (start .pre .1) (called .walk .ensures .0) _ (known .w .given .1) (c .before .before .shift-back .ensures), called .walk .ensures .1)
 
 same-length-5 : tie.Need-same-length-5
-same-length-5 c = search needs
+same-length-5 c = let called = c .before .before .before .before .before .before .before .before in
+    let start = called .before .before .before .before .before .before .before .before .before .before .before .before .before in
+    called .walk .kept .1 .1 .1 .1 .0 ∙ length-set (start .args .queue .now) 0 (start .args .v)
+
+same-length-6 : tie.Need-same-length-6
+same-length-6 c = search needs
+
+same-length-7 : tie.Need-same-length-7
+same-length-7 c = search needs
 
 returns-2 : tie.Need-returns-2
-returns-2 c = let called = c .before .before .before .before .before .before in
-    let start = called .before .before .before .before .before .before .before .before .before .before in
-    settle-left _ _ (start .pre .1) (called .walk .ensures) (c .enum-told .given .1)
+returns-2 c = let called = c .before .before .before .before .before .before .before .before in
+    let start = called .before .before .before .before .before .before .before .before .before .before .before .before .before in
+    (settle-left _ _ (start .pre .1) (called .walk .ensures .0) (c .enum-told .given .1), called .walk .ensures .1)
 
 pub settle-spec : {M : Type 1} → statement M
 settle-spec =
@@ -63,7 +69,9 @@ settle-spec =
     same-length
     same-length-2
     same-length-3
-    returns
     same-length-4
+    returns
     same-length-5
+    same-length-6
+    same-length-7
     returns-2)

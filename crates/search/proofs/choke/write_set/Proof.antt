@@ -12,14 +12,17 @@ bytes-requires c κs = search needs
 slice-aggregate-walk : tie.Need-slice-aggregate-walk
 slice-aggregate-walk c = search needs
 
+slice-aggregate-walk-2 : tie.Need-slice-aggregate-walk-2
+slice-aggregate-walk-2 c = search needs
+
 walk-requires : tie.Need-walk-requires
-walk-requires c κs = let called = c .before .before .before .before .before .before in
+walk-requires c κs = let called = c .before .before .before .before .before .before .before .before in
     let start = called .before .before .before .before .before .before .before .before in
     (start .pre .0, set-some (start .pre .1) (called .queue-unheld .ensures) (called .queue-unheld .kept .1 .1 .0))
 
 write-seen-requires : tie.Need-write-seen-requires
-write-seen-requires c κs = let walked = c .before .before .before .before .before .before in
-    let called = walked .before .before .before .before .before .before .before in
+write-seen-requires c κs = let walked = c .before .before .before .before .before .before .before in
+    let called = walked .before .before .before .before .before .before .before .before .before in
     let start = called .before .before .before .before .before .before .before .before in
     set-places (start .pre .1) (called .queue-unheld .ensures) (walked .walk .kept .1 .1 .1 .1 .1 .1 .0)
 
@@ -33,11 +36,11 @@ same-length-3 : tie.Need-same-length-3
 same-length-3 c = search needs
 
 returns : tie.Need-returns
-returns c = let walked = c .before .before .before .before .before .before .before .before .before in
-    let made = walked .before .before .before .before in
+returns c = let walked = c .before .before .before .before .before .before .before .before .before .before in
+    let made = walked .before .before .before .before .before .before in
     let called = made .before .before .before in
     let start = called .before .before .before .before .before .before .before .before in
-    set-written (start .pre .1) (called .queue-unheld .ensures) _ _ (walked .walk .ensures) (made .bytes .ensures) (called .queue-unheld .kept .1 .1 .0) (walked .walk .kept .1 .1 .1 .1 .1 .1 .0) (c .before .before .write-seen .ensures)
+    set-written (start .pre .1) (called .queue-unheld .ensures) _ _ (walked .walk .ensures .0) (made .bytes .ensures) (called .queue-unheld .kept .1 .1 .0) (walked .walk .kept .1 .1 .1 .1 .1 .1 .0) (c .before .before .write-seen .ensures)
 
 pub write-set-spec : {M : Type 1} → statement M
 write-set-spec =
@@ -46,6 +49,7 @@ write-set-spec =
     queue-unheld-requires
     bytes-requires
     slice-aggregate-walk
+    slice-aggregate-walk-2
     walk-requires
     write-seen-requires
     same-length

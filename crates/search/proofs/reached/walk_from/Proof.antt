@@ -22,8 +22,11 @@ slice-aggregate-walk c = search needs
 slice-aggregate-walk-2 : tie.Need-slice-aggregate-walk-2
 slice-aggregate-walk-2 c = search needs
 
+slice-aggregate-walk-3 : tie.Need-slice-aggregate-walk-3
+slice-aggregate-walk-3 c = search needs
+
 walk-requires : tie.Need-walk-requires
-walk-requires c κs = let zeros = c .before .before .before .before .before in
+walk-requires c κs = let zeros = c .before .before .before .before .before .before .before in
     let start = zeros .before .before .before .before .before .before in
     (start .pre .0, settle-some (from-settles (start .pre .1) (zeros .zeros .ensures) (zeros .before .gather .ensures)))
 
@@ -31,10 +34,10 @@ same-length : tie.Need-same-length
 same-length c = search needs
 
 returns : tie.Need-returns
-returns c = let walked = c .before .before .before in
-    let made = walked .before .before .before .before .before in
+returns c = let walked = c .before .before .before .before in
+    let made = walked .before .before .before .before .before .before .before in
     let zeros = made .before in
-    from-marks (zeros .before .before .before .before .before .before .pre .1) (zeros .zeros .ensures) (zeros .before .gather .ensures) _ _ (walked .walk .ensures) (made .bytes .ensures) (walked .walk .kept .1 .1 .1 .1 .1 .1 .0)
+    from-marks (zeros .before .before .before .before .before .before .pre .1) (zeros .zeros .ensures) (zeros .before .gather .ensures) _ _ (walked .walk .ensures .0) (made .bytes .ensures) (walked .walk .kept .1 .1 .1 .1 .1 .1 .0)
 
 pub walk-from-spec : {M : Type 1} → statement M
 walk-from-spec =
@@ -46,6 +49,7 @@ walk-from-spec =
     bytes-requires
     slice-aggregate-walk
     slice-aggregate-walk-2
+    slice-aggregate-walk-3
     walk-requires
     same-length
     returns)

@@ -1,33 +1,35 @@
 use borrow.Author.Needs.{needs}
 use Prim.Native.Nat.{_-_}
+use mathlib.Core.Path.{refl}
 use Rattle.packing.specs.Plant.{NONE, at}
+use Rattle.search.proofs.Noting.{NotesSo, notes-same, notes-then, notes-on}
 use Rattle.search.proofs.Looks.{Visiting, ready-below, visit-start, visit-ready, visit-places, visit-turn, visit-ends, visit-out}
 use Rattle.search.proofs.walk.visit.Statement.{statement}
 use Rattle.search.proofs.walk.visit.Tie as tie
 
 abbrev Inv-loop : tie.InvT-loop
-Inv-loop limits x links next rows queue₀ tail from₀ end₀ e₀ queue from end e = Visiting (at limits) x links rows queue₀ tail from₀ queue from end e
+Inv-loop limits x links next rows queue₀ tail from₀ looked₀ count₀ end₀ e₀ queue from looked count end e = Visiting (at limits) x links rows queue₀ tail from₀ queue from end e × NotesSo looked₀ count₀ from₀ looked count from
 
 abbrev μ-loop : tie.MeasureT-loop
-μ-loop limits x links next rows queue₀ tail from₀ end₀ e₀ queue from end e = NONE - e
+μ-loop limits x links next rows queue₀ tail from₀ looked₀ count₀ end₀ e₀ queue from looked count end e = NONE - e
 
 first-end-requires : tie.Need-first-end-requires Inv-loop μ-loop
-first-end-requires c κs = let start = c .before .before .before .before .before in
+first-end-requires c κs = let start = c .before .before .before .before .before .before in
     (start .pre .0 .places, ready-below (start .pre .1))
 
 loop-holds : tie.Need-loop-holds Inv-loop μ-loop
-loop-holds c = let start = c .before .before .before .before .before .before in
-    visit-start _ _ _ _ _ _ _ _ (start .pre .0) (start .pre .1) (c .first-end .ensures)
+loop-holds c = let start = c .before .before .before .before .before .before .before in
+    (visit-start _ _ _ _ _ _ _ _ (start .pre .0) (start .pre .1) (c .first-end .ensures), (refl, notes-same _ _ _))
 
 across-requires : tie.Need-across-requires Inv-loop μ-loop
 across-requires c κs = let turn = c .before in
-    let start = turn .before .before .before .before .before .before .before in
-    visit-places _ _ _ _ _ _ _ _ (start .pre .0) (start .pre .1) (turn .loop .inv) (c .loop-test .taken) .0
+    let start = turn .before .before .before .before .before .before .before .before in
+    visit-places _ _ _ _ _ _ _ _ (start .pre .0) (start .pre .1) (turn .loop .inv .0) (c .loop-test .taken) .0
 
 look-requires : tie.Need-look-requires Inv-loop μ-loop
-look-requires c κs = let turn = c .before .before .before .before in
-    let start = turn .before .before .before .before .before .before .before in
-    visit-ready _ _ _ _ _ _ _ _ (start .pre .0) (start .pre .1) (turn .loop .inv)
+look-requires c κs = let turn = c .before .before .before .before .before .before in
+    let start = turn .before .before .before .before .before .before .before .before in
+    visit-ready _ _ _ _ _ _ _ _ (start .pre .0) (start .pre .1) (turn .loop .inv .0)
 
 enum-known-w : tie.Need-enum-known-w Inv-loop μ-loop
 enum-known-w c = search needs
@@ -38,48 +40,58 @@ same-length c = search needs
 same-length-2 : tie.Need-same-length-2 Inv-loop μ-loop
 same-length-2 c = search needs
 
+same-length-3 : tie.Need-same-length-3 Inv-loop μ-loop
+same-length-3 c = search needs
+
 returns : tie.Need-returns Inv-loop μ-loop
-returns c = let called = c .before .before .before .before .before .before .before in
-    let across = called .before .before .before in
+returns c = let called = c .before .before .before .before .before .before .before .before .before in
+    let across = called .before .before .before .before .before in
     let turn = across .before in
-    let start = turn .before .before .before .before .before .before .before .before in
-    visit-ends _ _ _ _ _ _ _ _ (start .pre .0) (start .pre .1) (turn .before .loop .inv) (turn .loop-test .taken) (across .across .ensures) (called .look .ensures) (c .before .w .given .1)
+    let start = turn .before .before .before .before .before .before .before .before .before in (
+      visit-ends _ _ _ _ _ _ _ _ (start .pre .0) (start .pre .1) (turn .before .loop .inv .0) (turn .loop-test .taken) (across .across .ensures) (called .look .ensures .0) (c .before .w .given .1),
+      notes-then (turn .before .loop .inv .1 .1) (called .look .ensures .1),
+    )
 
 enum-known-w-2 : tie.Need-enum-known-w-2 Inv-loop μ-loop
 enum-known-w-2 c = search needs
 
 next-end-requires : tie.Need-next-end-requires Inv-loop μ-loop
-next-end-requires c κs = let turn = c .before .before .before .before .before .before .before .before .before .before .before in
-    let start = turn .before .before .before .before .before .before .before .before in
-    visit-places _ _ _ _ _ _ _ _ (start .pre .0) (start .pre .1) (turn .before .loop .inv) (turn .loop-test .taken) .1
+next-end-requires c κs = let turn = c .before .before .before .before .before .before .before .before .before .before .before .before .before .before .before in
+    let start = turn .before .before .before .before .before .before .before .before .before in
+    visit-places _ _ _ _ _ _ _ _ (start .pre .0) (start .pre .1) (turn .before .loop .inv .0) (turn .loop-test .taken) .1
 
 loop-less : tie.Need-loop-less Inv-loop μ-loop
 loop-less c = let told = c .before in
-    let called = told .before .before .before .before .before .before .before in
-    let across = called .before .before .before in
+    let called = told .before .before .before .before .before .before .before .before .before in
+    let across = called .before .before .before .before .before in
     let turn = across .before in
-    let start = turn .before .before .before .before .before .before .before .before in
-    visit-turn _ _ _ _ _ _ _ _ (start .pre .0) (start .pre .1) (turn .before .loop .inv) (turn .loop-test .taken) (across .across .ensures) (called .look .ensures) (told .before .w2 .given .1)
+    let start = turn .before .before .before .before .before .before .before .before .before in
+    visit-turn _ _ _ _ _ _ _ _ (start .pre .0) (start .pre .1) (turn .before .loop .inv .0) (turn .loop-test .taken) (across .across .ensures) (called .look .ensures .0) (told .before .w2 .given .1)
     (called .look .kept .1 .1 .1 .1 .0, called .look .kept .1 .1 .1 .1 .1 .1 .0) (c .next-end .ensures) .1
 
 loop-again : tie.Need-loop-again Inv-loop μ-loop
 loop-again c = let told = c .before in
-    let called = told .before .before .before .before .before .before .before in
-    let across = called .before .before .before in
+    let called = told .before .before .before .before .before .before .before .before .before in
+    let across = called .before .before .before .before .before in
     let turn = across .before in
-    let start = turn .before .before .before .before .before .before .before .before in
-    visit-turn _ _ _ _ _ _ _ _ (start .pre .0) (start .pre .1) (turn .before .loop .inv) (turn .loop-test .taken) (across .across .ensures) (called .look .ensures) (told .before .w2 .given .1)
-    (called .look .kept .1 .1 .1 .1 .0, called .look .kept .1 .1 .1 .1 .1 .1 .0) (c .next-end .ensures) .0
-
-same-length-3 : tie.Need-same-length-3 Inv-loop μ-loop
-same-length-3 c = search needs
+    let start = turn .before .before .before .before .before .before .before .before .before in (
+      visit-turn _ _ _ _ _ _ _ _ (start .pre .0) (start .pre .1) (turn .before .loop .inv .0) (turn .loop-test .taken) (across .across .ensures) (called .look .ensures .0) (told .before .w2 .given .1)
+          (called .look .kept .1 .1 .1 .1 .0, called .look .kept .1 .1 .1 .1 .1 .1 .0) (c .next-end .ensures) .0,
+      notes-on (turn .before .loop .inv .1) (called .look .kept .1 .1 .1 .1 .1 .1 .1 .0) (called .look .ensures .1),
+    )
 
 same-length-4 : tie.Need-same-length-4 Inv-loop μ-loop
 same-length-4 c = search needs
 
+same-length-5 : tie.Need-same-length-5 Inv-loop μ-loop
+same-length-5 c = search needs
+
+same-length-6 : tie.Need-same-length-6 Inv-loop μ-loop
+same-length-6 c = search needs
+
 returns-2 : tie.Need-returns-2 Inv-loop μ-loop
-returns-2 c = let start = c .before .before .before .before .before .before .before .before in
-    visit-out _ _ _ _ _ _ _ _ (start .pre .0) (start .pre .1) (c .before .loop .inv) (c .loop-test .left)
+returns-2 c = let start = c .before .before .before .before .before .before .before .before .before in
+    (visit-out _ _ _ _ _ _ _ _ (start .pre .0) (start .pre .1) (c .before .loop .inv .0) (c .loop-test .left), c .before .loop .inv .1 .1)
 
 pub visit-spec : {M : Type 1} → statement M
 visit-spec =
@@ -94,11 +106,13 @@ visit-spec =
     enum-known-w
     same-length
     same-length-2
+    same-length-3
     returns
     enum-known-w-2
     next-end-requires
     loop-less
     loop-again
-    same-length-3
     same-length-4
+    same-length-5
+    same-length-6
     returns-2)
