@@ -18,7 +18,7 @@ use Rattle.packing.proofs.Prefixes.{Among, order-place}
 use Rattle.search.specs.Table.{heldTable}
 use Rattle.search.specs.ChokeSet.{inChoke}
 use Rattle.search.specs.Pre.{Placeable}
-use Rattle.search.specs.Dead.{Dead, Past, PastMarks, leftThen}
+use Rattle.search.specs.Dead.{Dead, Past, DeadThen, leftThen}
 use Rattle.search.proofs.Dead.{dead-none}
 use Rattle.search.proofs.DeadChoke.{dead-choke}
 use Rattle.chains.specs.Index.{Index}
@@ -33,7 +33,7 @@ use Rattle.plant_file.proofs.Accepted.{file-allowed}
 use Rattle.plant_file.proofs.GatewayLimits.{limits-in-range}
 use Rattle.plan.specs.Plan.{stateBy, fileMovesBy}
 use Rattle.plan.specs.Claim.{MovesFit}
-use Rattle.plan.specs.Pre.{isQueued, MarksBy, Placings, DeadChoke}
+use Rattle.plan.specs.Pre.{isQueued, DeadBy, Placings, DeadChoke}
 use Rattle.plan.proofs.FileMoves.{file-moves-fit}
 use Rattle.plan.proofs.NextPlacing.{first-moves, placing-placeable, placing-next, placing-feasible, placing-moves, placing-none}
 
@@ -46,31 +46,30 @@ pub record LeftSoFar (w : Way) (file : List ℕ) (j : ℕ) (limit : ℕ → ℕ)
   pub nobody : isQueued w ≡ false → dead ≡ replicate (fileN file) NONE
 
 -- the first j are placed
-pub record Placed (w : Way) (file : List ℕ) (k : ℕ) (ls ts hs₀ queue₀ dead₀ from₀ hs : List ℕ) (rows : List (List ℕ)) (queue dead from : List ℕ) (total j : ℕ) : Type 0 where
+pub record Placed (w : Way) (file : List ℕ) (k : ℕ) (ls ts hs₀ queue₀ dead₀ looked₀ hs : List ℕ) (rows : List (List ℕ)) (queue dead looked : List ℕ) (total j : ℕ) : Type 0 where
   pub upto : j ≤ k
   pub holders : hs ≡ stateBy w file j .holders
   pub table : rows ≡ heldTable (fileN file) hs
-  pub same : from ≡ dead
-  pub long : (length hs ≡ length hs₀) × (length queue ≡ length queue₀) × (length dead ≡ length dead₀) × (length from ≡ length from₀)
+  pub long : (length hs ≡ length hs₀) × (length queue ≡ length queue₀) × (length dead ≡ length dead₀) × (length looked ≡ length looked₀)
   pub moves : total ≡ fileMovesBy w file j
   pub so-far : LeftSoFar w file j (at ts) ls hs dead
 
 -- What the short search leaves.
-pub one-kept : {n : ℕ} {limit : ℕ → ℕ} {ls hs : List ℕ} {v : ℕ} {rows : List (List ℕ)} {queue dead from : List ℕ} → Past n limit ls hs v rows queue dead from → {hs' new : List ℕ} {r number : ℕ} {rows' : List (List ℕ)}
-    → (hs' ≡ new) × ((r ≡ number) × (Fits n limit hs v → rows' ≡ heldTable n new)) → (hs' ≡ new) × ((r ≡ number) × ((rows' ≡ heldTable n new) × ((dead ≡ dead) × (from ≡ from))))
-one-kept p (e, (f, g)) = (e, (f, (g (record { limits = p .fits; own = λ l. absurd (omega (arith, p .none)) }), (refl, refl))))
+pub one-kept : {n : ℕ} {limit : ℕ → ℕ} {ls hs : List ℕ} {v : ℕ} {rows : List (List ℕ)} {queue dead looked : List ℕ} → Past n limit ls hs v rows queue dead looked → {hs' new : List ℕ} {r number : ℕ} {rows' : List (List ℕ)}
+    → (hs' ≡ new) × ((r ≡ number) × (Fits n limit hs v → rows' ≡ heldTable n new)) → (hs' ≡ new) × ((r ≡ number) × ((rows' ≡ heldTable n new) × (dead ≡ dead)))
+one-kept p (e, (f, g)) = (e, (f, (g (record { limits = p .fits; own = λ l. absurd (omega (arith, p .none)) }), refl)))
 
--- the marks by the way
-module _ (n : ℕ) (limit : ℕ → ℕ) (ls hs : List ℕ) (v : ℕ) (dead from hs' dead' from' : List ℕ) where
-  marks-queued : (w : Way) → isQueued w ≡ true → MarksBy w n limit ls hs v dead from hs' dead' from' → PastMarks n limit ls hs v dead hs' dead' from'
+-- the dead by the way
+module _ (n : ℕ) (limit : ℕ → ℕ) (ls hs : List ℕ) (v : ℕ) (dead hs' dead' : List ℕ) where
+  dead-queued : (w : Way) → isQueued w ≡ true → DeadBy w n limit ls hs v dead hs' dead' → DeadThen n limit ls hs v dead hs' dead'
   unfolding isQueued
-  marks-queued Queued e m = m
-  marks-queued Recursive e m = clash false e refl
+  dead-queued Queued e m = m
+  dead-queued Recursive e m = clash false e refl
 
-  marks-recursive : (w : Way) → isQueued w ≡ false → MarksBy w n limit ls hs v dead from hs' dead' from' → (dead' ≡ dead) × (from' ≡ from)
+  dead-recursive : (w : Way) → isQueued w ≡ false → DeadBy w n limit ls hs v dead hs' dead' → dead' ≡ dead
   unfolding isQueued
-  marks-recursive Queued e m = clash true refl e
-  marks-recursive Recursive e m = m
+  dead-recursive Queued e m = clash true refl e
+  dead-recursive Recursive e m = m
 
 -- nobody is left before the first, whatever the holders are
 left-nobody : (w : Way) (file : List ℕ) (j : ℕ) (limit : ℕ → ℕ) (ls hs : List ℕ) {dead : List ℕ} → dead ≡ replicate (fileN file) NONE → (isQueued w ≡ true → j ≡ 0) → LeftSoFar w file j limit ls hs dead
@@ -84,27 +83,26 @@ left-nobody w file j limit ls hs none first =
     }
 
 module _
-    (w : Way) (file : List ℕ) (k : ℕ) (ls next os ts : List ℕ) {hs₀ : List ℕ} {rows₀ : List (List ℕ)} {queue₀ dead₀ from₀ : List ℕ}
-    (p : Placings w file k ls next os ts hs₀ rows₀ queue₀ dead₀ from₀)
+    (w : Way) (file : List ℕ) (k : ℕ) (ls next os ts : List ℕ) {hs₀ : List ℕ} {rows₀ : List (List ℕ)} {queue₀ dead₀ looked₀ : List ℕ}
+    (p : Placings w file k ls next os ts hs₀ rows₀ queue₀ dead₀ looked₀)
   where
     z : fileRefusal file ≡ 0
     z = p .loaded .accepted
 
-    pub placed-start : Placed w file k ls ts hs₀ queue₀ dead₀ from₀ hs₀ rows₀ queue₀ dead₀ from₀ 0 0
+    pub placed-start : Placed w file k ls ts hs₀ queue₀ dead₀ looked₀ hs₀ rows₀ queue₀ dead₀ looked₀ 0 0
     placed-start =
         record {
           upto = omega arith;
           holders = p .first;
           table = p .table;
-          same = p .same;
           long = (refl, refl, refl, refl);
           moves = sym (first-moves file z w);
           so-far = left-nobody w file 0 (at ts) ls hs₀ (p .none) (λ _. refl);
         }
 
     module _
-        {hs : List ℕ} {rows : List (List ℕ)} {queue dead from : List ℕ} {total j v : ℕ}
-        (now : Placed w file k ls ts hs₀ queue₀ dead₀ from₀ hs rows queue dead from total j) (l : j < k) (is : v ≡ at os j)
+        {hs : List ℕ} {rows : List (List ℕ)} {queue dead looked : List ℕ} {total j v : ℕ}
+        (now : Placed w file k ls ts hs₀ queue₀ dead₀ looked₀ hs rows queue dead looked total j) (l : j < k) (is : v ≡ at os j)
       where
         below : j < fileN file
         below = omega (arith, p .within)
@@ -124,7 +122,7 @@ module _
             not-test (now .so-far .left v)
             (λ e. let (i, less, same) = now .so-far .early v (free .inside) e in omega (arith, less, file-allowed file z .order .once i j (omega (arith, below, less)) below (same ∙ is-v)))
 
-        past : Past (fileN file) (at ts) ls hs v rows queue dead from
+        past : Past (fileN file) (at ts) ls hs v rows queue dead looked
         unfolding LimitsInRange
         past =
             record {
@@ -134,7 +132,7 @@ module _
               fits = λ u q. rw (p .loaded .limits u q) (limits-in-range file z u q .1);
               table = now .table;
               places = omega (arith, now .long .1, p .places);
-              same = now .same;
+              room = omega (arith, now .long .3, p .room);
               left = now .so-far .left;
               new = new;
               pair = now .so-far .pair;
@@ -158,11 +156,12 @@ module _
             (λ h. clash (held (fileN file) (at after) x) (⊎-elim (λ kept. kept .holding x q ∙ or-l (held (fileN file) (at hs) x) (eqb x v) h) (λ left. subst (λ (f : ℕ → ℕ). held (fileN file) f x ≡ true) (sym (left .unchanged)) h) (ways-place w (at ts) ls free feasible .placing)) e)
 
         -- one more is left, or none
-        left-more : {dead' from' : List ℕ} → isQueued w ≡ true → PastMarks (fileN file) (at ts) ls hs v dead after dead' from' → LeftSoFar w file (j + 1) (at ts) ls after dead'
+        left-more : {dead' : List ℕ} → isQueued w ≡ true → DeadThen (fileN file) (at ts) ls hs v dead after dead' → LeftSoFar w file (j + 1) (at ts) ls after dead'
+        unfolding DeadThen
         left-more q m =
             record {
               left = leftThen (fileN file) (now .so-far .left) v after;
-              pair = m .pair (now .so-far .left) new (now .so-far .pair);
+              pair = m (now .so-far .left) new (now .so-far .pair);
               early = early;
               all = λ _ i less e. below-suc i j (rw (add-one j) at less) (λ same. mine i (ap (at (fileOrder file)) same ∙ sym is-v) e) (λ less'. earlier i less' e);
               nobody = λ r. clash (isQueued w) q r;
@@ -181,28 +180,26 @@ module _
                 or-l (now .so-far .left (at (fileOrder file) i)) _
                 (now .so-far .all q i less (still-free (at (fileOrder file) i) (file-allowed file z .order .below i (omega (arith, less, below))) e))
 
-        -- the marks and the dead after it
-        marks-next : (dead' from' : List ℕ) → MarksBy w (fileN file) (at ts) ls hs v dead from after dead' from' → (from' ≡ dead') × LeftSoFar w file (j + 1) (at ts) ls after dead'
-        marks-next dead' from' m =
-            by-bool (isQueued w) (λ q. let k = marks-queued (fileN file) (at ts) ls hs v dead from after dead' from' w q m in (k .same, left-more q k))
-            (λ q.
-            let (d, f) = marks-recursive (fileN file) (at ts) ls hs v dead from after dead' from' w q m in
-            (f ∙ now .same ∙ sym d, left-nobody w file (j + 1) (at ts) ls after (d ∙ now .so-far .nobody q) (λ r. clash (isQueued w) r q)))
+        -- the dead after it
+        dead-next : (dead' : List ℕ) → DeadBy w (fileN file) (at ts) ls hs v dead after dead' → LeftSoFar w file (j + 1) (at ts) ls after dead'
+        dead-next dead' m =
+            by-bool (isQueued w) (λ q. left-more q (dead-queued (fileN file) (at ts) ls hs v dead after dead' w q m))
+            (λ q. left-nobody w file (j + 1) (at ts) ls after (dead-recursive (fileN file) (at ts) ls hs v dead after dead' w q m ∙ now .so-far .nobody q) (λ r. clash (isQueued w) r q))
 
         pub placed-place : j < length os
         placed-place = omega (arith, below, p .loaded .order-long)
 
-        pub placed-past : {n : ℕ} → n ≡ fileN file → Index ls next × Past n (at ts) ls hs v rows queue dead from
-        placed-past e = (p .loaded .index, subst (λ (n : ℕ). Past n (at ts) ls hs v rows queue dead from) (sym e) past)
+        pub placed-past : {n : ℕ} → n ≡ fileN file → Index ls next × Past n (at ts) ls hs v rows queue dead looked
+        placed-past e = (p .loaded .index, subst (λ (n : ℕ). Past n (at ts) ls hs v rows queue dead looked) (sym e) past)
 
         -- what place_one leaves
         module _
-            {n r : ℕ} {hs' : List ℕ} {rows' : List (List ℕ)} (dead' from' : List ℕ) (e : n ≡ fileN file)
+            {n r : ℕ} {hs' : List ℕ} {rows' : List (List ℕ)} (dead' : List ℕ) (e : n ≡ fileN file)
             (d : (hs' ≡ placedBy w n (at ts) ls hs v)
             × ((r ≡ moved n (at hs) (at (placedBy w n (at ts) ls hs v)))
-            × ((rows' ≡ heldTable n (placedBy w n (at ts) ls hs v)) × MarksBy w n (at ts) ls hs v dead from (placedBy w n (at ts) ls hs v) dead' from')))
+            × ((rows' ≡ heldTable n (placedBy w n (at ts) ls hs v)) × DeadBy w n (at ts) ls hs v dead (placedBy w n (at ts) ls hs v) dead')))
           where
-            left-then : (hs' ≡ after) × ((r ≡ moved (fileN file) (at hs) (at after)) × ((rows' ≡ heldTable (fileN file) after) × MarksBy w (fileN file) (at ts) ls hs v dead from after dead' from'))
+            left-then : (hs' ≡ after) × ((r ≡ moved (fileN file) (at hs) (at after)) × ((rows' ≡ heldTable (fileN file) after) × DeadBy w (fileN file) (at ts) ls hs v dead after dead'))
             left-then = rw e at d
 
             moves-next : total + r ≡ fileMovesBy w file (j + 1)
@@ -215,21 +212,19 @@ module _
             unfolding MovesFit
             placed-fits = rw moves-next (file-moves-fit w file (j + 1))
 
-            pub placed-turn : (queue' : List ℕ) → (length hs' ≡ length hs) × (length queue' ≡ length queue) × (length dead' ≡ length dead) × (length from' ≡ length from)
-                → Placed w file k ls ts hs₀ queue₀ dead₀ from₀ hs' rows' queue' dead' from' (total + r) (j + 1)
-            placed-turn queue' long =
-                let (same, so-far) = marks-next dead' from' (left-then .1 .1 .1) in
+            pub placed-turn : (queue' looked' : List ℕ) → (length hs' ≡ length hs) × (length queue' ≡ length queue) × (length dead' ≡ length dead) × (length looked' ≡ length looked)
+                → Placed w file k ls ts hs₀ queue₀ dead₀ looked₀ hs' rows' queue' dead' looked' (total + r) (j + 1)
+            placed-turn queue' looked' long =
                 record {
                   upto = omega arith;
                   holders = left-then .0 ∙ after-is;
                   table = left-then .1 .1 .0 ∙ ap (heldTable (fileN file)) (sym (left-then .0));
-                  same = same;
                   long = (long .0 ∙ now .long .0, long .1 ∙ now .long .1, long .2 ∙ now .long .2, long .3 ∙ now .long .3);
                   moves = moves-next;
-                  so-far = subst (λ (l : List ℕ). LeftSoFar w file (j + 1) (at ts) ls l dead') (sym (left-then .0)) so-far;
+                  so-far = subst (λ (l : List ℕ). LeftSoFar w file (j + 1) (at ts) ls l dead') (sym (left-then .0)) (dead-next dead' (left-then .1 .1 .1));
                 }
 
-    pub placed-end : {hs : List ℕ} {rows : List (List ℕ)} {queue dead from : List ℕ} {total j : ℕ} → Placed w file k ls ts hs₀ queue₀ dead₀ from₀ hs rows queue dead from total j → k ≤ j
+    pub placed-end : {hs : List ℕ} {rows : List (List ℕ)} {queue dead looked : List ℕ} {total j : ℕ} → Placed w file k ls ts hs₀ queue₀ dead₀ looked₀ hs rows queue dead looked total j → k ≤ j
         → (hs ≡ stateBy w file k .holders) × ((total ≡ fileMovesBy w file k) × DeadChoke w file k dead)
     placed-end {hs} {dead = dead} {j = j} now l = let end : j ≡ k = le-antisymm (now .upto) l in (now .holders ∙ ap (λ (i : ℕ). stateBy w file i .holders) end, (now .moves ∙ ap (fileMovesBy w file) end, chosen end))
       where

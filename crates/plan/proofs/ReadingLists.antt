@@ -17,10 +17,9 @@ use Rattle.sound.proofs.Searchable.{Searchable, searchable-holds, sound-searcha
 use Rattle.search.specs.Search.{seen}
 use Rattle.search.specs.ChokeSet.{inChoke, chokeByte, chokeWritten}
 use Rattle.search.specs.ChokePre.{seenByte}
-use Rattle.search.specs.Pre.{Workspace}
 use Rattle.search.proofs.Tested.{chokeable-holds, choke-written}
 use Rattle.search.proofs.Rows.{take-replicate, table-none}
-use Rattle.search.proofs.Settling.{marks-room, place-marks, workspace}
+use Rattle.search.proofs.Settling.{marks-room, place-marks}
 use Rattle.stars.specs.Stars.{leaderList, leadersWritten}
 use Rattle.stars.proofs.Lent.{leaders-written}
 use Rattle.stars.proofs.OrderPlaces.{list-by-order}
@@ -61,18 +60,17 @@ module _ (w : Way) (file : List ℕ) (k : ℕ) {ls next os ts hs dead : List ℕ
   pub making-room : {n : ℕ} → n ≡ fileN file → n ≤ length hs
   making-room e = rw (e, m .zeros, length-replicate) (few file (m .loaded))
 
-  pub making-placings : {n : ℕ} {hs' queue all : List ℕ} {rows : List (List ℕ)} → n ≡ fileN file → hs' ≡ written n (replicate n NONE) hs → rows ≡ replicate GATEWAYS (replicate HIGHEST NONE) → queue ≡ replicate GATEWAYS 0
-      → all ≡ replicate GATEWAYS NONE → Placings w file k ls next os ts hs' rows queue dead (take n all)
-  making-placings {n} {hs'} {queue} {all} e held table zeros none =
-      let space : Workspace (fileN file) queue (take (fileN file) all) = workspace none zeros (few file (m .loaded)) in
+  pub making-placings : {n : ℕ} {hs' queue looked : List ℕ} {rows : List (List ℕ)} → n ≡ fileN file → hs' ≡ written n (replicate n NONE) hs → rows ≡ replicate GATEWAYS (replicate HIGHEST NONE) → queue ≡ replicate GATEWAYS 0
+      → looked ≡ replicate GATEWAYS 0 → Placings w file k ls next os ts hs' rows queue dead looked
+  making-placings {n} {hs'} {queue} {looked} e held table zeros zeros₂ =
       record {
         loaded = m .loaded;
         within = m .within;
         first = held ∙ rw (e, m .zeros) (sym (first-holders file (m .loaded .accepted) w));
         table = table ∙ table-none (fileN file) hs' (λ v l. ap (λ (k : List ℕ). at k v) held ∙ rw e (repeated-at (fileN file) NONE hs v l));
-        places = space .places;
+        places = rw (zeros, length-replicate) (few file (m .loaded));
         none = m .none;
-        same = ap (λ (i : ℕ). take i all) e ∙ space .unseen ∙ sym (m .none);
+        room = rw (zeros₂, length-replicate) (few file (m .loaded));
       }
 
 -- a search may be made with the holders of the record made

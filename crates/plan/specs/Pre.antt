@@ -9,7 +9,7 @@ use Rattle.chains.specs.Index.{Index}
 use Rattle.search.specs.Search.{seen}
 use Rattle.search.specs.Table.{heldTable}
 use Rattle.search.specs.ChokeSet.{inChoke}
-use Rattle.search.specs.Dead.{PastMarks}
+use Rattle.search.specs.Dead.{DeadThen}
 use Rattle.planner.specs.declared.Way.{Way}
 use Rattle.planner.specs.declared.Way.the-variants.{Queued, Recursive}
 use Rattle.plant_file.specs.PlantFile.{fileN, fileLinks, fileOrder, fileLimit, fileRefusal}
@@ -20,10 +20,10 @@ unfoldable pub isQueued : Way → Bool
 isQueued Queued = true
 isQueued Recursive = false
 
--- the marks after a placing: the short search passes nobody by
-abbrev pub MarksBy : Way → (n : ℕ) (limit : ℕ → ℕ) (ls hs : List ℕ) (v : ℕ) (dead from hs' dead' from' : List ℕ) → Type 0
-MarksBy Queued n limit ls hs v dead from hs' dead' from' = PastMarks n limit ls hs v dead hs' dead' from'
-MarksBy Recursive n limit ls hs v dead from hs' dead' from' = (dead' ≡ dead) × (from' ≡ from)
+-- the dead after a placing: the short search passes nobody by
+abbrev pub DeadBy : Way → (n : ℕ) (limit : ℕ → ℕ) (ls hs : List ℕ) (v : ℕ) (dead hs' dead' : List ℕ) → Type 0
+DeadBy Queued n limit ls hs v dead hs' dead' = DeadThen n limit ls hs v dead hs' dead'
+DeadBy Recursive n limit ls hs v dead hs' dead' = dead' ≡ dead
 
 -- the lists of an accepted file, with the index of its links: limits and order from their first n entries
 pub record Loaded (file ls next os ts : List ℕ) : Type 0 where
@@ -34,15 +34,15 @@ pub record Loaded (file ls next os ts : List ℕ) : Type 0 where
   pub order : (i : ℕ) → i < fileN file → at os i ≡ at (fileOrder file) i
   pub limits : (u : ℕ) → u < fileN file → at ts u ≡ fileLimit file u
 
--- .. and what k placings work on: holders of which none is one, the table of them, a queue, and marks of nobody
-pub record Placings (w : Way) (file : List ℕ) (k : ℕ) (ls next os ts hs : List ℕ) (rows : List (List ℕ)) (queue dead from : List ℕ) : Type 0 where
+-- .. and what k placings work on: holders of which none is one, the table of them, a queue, marks of nobody, and room to note whom a search marks
+pub record Placings (w : Way) (file : List ℕ) (k : ℕ) (ls next os ts hs : List ℕ) (rows : List (List ℕ)) (queue dead looked : List ℕ) : Type 0 where
   pub loaded : Loaded file ls next os ts
   pub within : k ≤ fileN file
   pub first : hs ≡ stateBy w file 0 .holders
   pub table : rows ≡ heldTable (fileN file) hs
   pub places : fileN file ≤ length queue
   pub none : dead ≡ replicate (fileN file) NONE
-  pub same : from ≡ dead
+  pub room : fileN file ≤ length looked
 
 -- once all are placed by 01's search, those marked are the choke set
 abbrev pub DeadChoke : Way → List ℕ → ℕ → List ℕ → Type 0

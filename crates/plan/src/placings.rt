@@ -1,15 +1,15 @@
 // The placings of a file, one after the other, on holders and rows that are kept.
 use planner::Way;
-use search::held::Rows;
+use search::held::Row;
 ghost use mathlib.Core.Path.{_≡_};
 ghost use Rattle.packing.specs.Plant.{at};
 ghost use Rattle.packing.specs.Moved.{moved};
 ghost use Rattle.chains.specs.Index.{Index};
-ghost use Rattle.search.specs.Table.{heldTable};
+ghost use Rattle.search.specs.RowPre.{RowsOf};
 ghost use Rattle.search.specs.Dead.{Past};
 ghost use Rattle.planner.specs.Ways.{placedBy};
 ghost use Rattle.plan.specs.Plan.{stateBy, fileMovesBy};
-ghost use Rattle.plan.specs.Pre.{MarksBy, Placings, DeadChoke};
+ghost use Rattle.plan.specs.Pre.{DeadBy, Placings, DeadChoke};
 
 // One placing. 01's search passes the dead by; the short one does not.
 fn place_one(
@@ -19,17 +19,17 @@ fn place_one(
     limits: &[u8],
     links: &[u16],
     next: &[u16],
-    rows: &mut Rows,
+    rows: &mut [Row],
     holders: &mut [u16],
     queue: &mut [u16],
     dead: &mut [u16],
-    from: &mut [u16],
+    looked: &mut [u16],
 ) -> u16
-    requires { ⌜ Index (now links) (now next) × Past n (at (now limits)) (now links) (now holders) v (now rows) (now queue) (now dead) (now from) ⌝ }
+    requires { ⌜ Index (now links) (now next) × Past n (at (now limits)) (now links) (now holders) v (now rows) (now queue) (now dead) (now looked) ⌝ }
     ensures holders { λ _. ⌜ now (holders .exit) ≡ placedBy way n (at (now (limits .entry))) (now (links .entry)) (now (holders .entry)) v ⌝ }
     ensures moved { λ r. ⌜ r ≡ moved n (at (now (holders .entry))) (at (placedBy way n (at (now (limits .entry))) (now (links .entry)) (now (holders .entry)) v)) ⌝ }
-    ensures rows { λ _. ⌜ now (rows .exit) ≡ heldTable n (placedBy way n (at (now (limits .entry))) (now (links .entry)) (now (holders .entry)) v) ⌝ }
-    ensures marks { λ _. ⌜ MarksBy way n (at (now (limits .entry))) (now (links .entry)) (now (holders .entry)) v (now (dead .entry)) (now (from .entry)) (placedBy way n (at (now (limits .entry))) (now (links .entry)) (now (holders .entry)) v) (now (dead .exit)) (now (from .exit)) ⌝ }
+    ensures rows { λ _. ⌜ RowsOf n (placedBy way n (at (now (limits .entry))) (now (links .entry)) (now (holders .entry)) v) (now (rows .exit)) ⌝ }
+    ensures dead { λ _. ⌜ DeadBy way n (at (now (limits .entry))) (now (links .entry)) (now (holders .entry)) v (now (dead .entry)) (placedBy way n (at (now (limits .entry))) (now (links .entry)) (now (holders .entry)) v) (now (dead .exit)) ⌝ }
 {
     match way {
         Way::Queued => search::past::place_past(
@@ -42,7 +42,7 @@ fn place_one(
             holders,
             queue,
             dead,
-            from,
+            looked,
         ),
         Way::Recursive => recursion::place_kept(n, v, limits, links, next, rows, holders),
     }
@@ -57,13 +57,13 @@ pub(crate) fn place_all(
     links: &[u16],
     next: &[u16],
     order: &[u16],
-    rows: &mut Rows,
+    rows: &mut [Row],
     holders: &mut [u16],
     queue: &mut [u16],
     dead: &mut [u16],
-    from: &mut [u16],
+    looked: &mut [u16],
 ) -> u32
-    requires { ⌜ Placings way (now file) placings (now links) (now next) (now order) (now limits) (now holders) (now rows) (now queue) (now dead) (now from) ⌝ }
+    requires { ⌜ Placings way (now file) placings (now links) (now next) (now order) (now limits) (now holders) (now rows) (now queue) (now dead) (now looked) ⌝ }
     ensures holders { λ _. ⌜ now (holders .exit) ≡ stateBy way (now (file .entry)) placings .holders ⌝ }
     ensures moved { λ r. ⌜ r ≡ fileMovesBy way (now (file .entry)) placings ⌝ }
     ensures dead { λ _. ⌜ DeadChoke way (now (file .entry)) placings (now (dead .exit)) ⌝ }
@@ -84,7 +84,7 @@ pub(crate) fn place_all(
             holders,
             queue,
             dead,
-            from,
+            looked,
         ) as u32;
         i += 1;
     }

@@ -30,7 +30,7 @@ pub(crate) fn make(
     lists::fill::with_none(end, holders);
     let mut rows = search::held::empty_rows();
     let mut queue = lists::marks::zeros();
-    let mut from = lists::marks::nones();
+    let mut looked = lists::marks::zeros();
     place_all(
         file,
         way,
@@ -43,7 +43,7 @@ pub(crate) fn make(
         holders,
         &mut queue,
         dead,
-        &mut from[..end],
+        &mut looked,
     )
 }
 

@@ -19,7 +19,7 @@ use Rattle.chains.proofs.Following.{Standing, chain-first, chain-next, chain-en
 use Rattle.search.specs.RowPre.{Taken}
 use Rattle.search.proofs.States.{seen-kept}
 use Rattle.search.proofs.Taken.{taken-here, taken-other}
-use Rattle.search.proofs.RowMoves.{table-moved}
+use Rattle.search.proofs.RowMoves.{rows-moved}
 use Rattle.recursion.specs.Recursion.{Try, tried, mark, orElse, tryEach, takes, unlessTried, findHolder, freePlace}
 use Rattle.recursion.specs.Pre.{untried, asTry, Working, Front, SmallLimits}
 use Rattle.recursion.proofs.Marks.{untried-below, untried-falls, marked, front-long, front-at, front-mark, front-same, front-then, front-marked}
@@ -207,7 +207,7 @@ module _
                       unchanged = λ q. absurd (freed' q);
                       kept = λ fit.
                           rw (t .table, t .holders)
-                          (table-moved n hs' v u (w .few) room' (w .inside) (rw (mine .0) (λ l. within (fit .limits) (at hs₀ v) (fit .own l))) (r .kept (fit .limits)));
+                          (rows-moved n hs' v u (w .few) room' (w .inside) (rw (mine .0) (λ l. within (fit .limits) (at hs₀ v) (fit .own l))) (r .kept (fit .limits)));
                     },
                     front-then front-now g,
                   ),

@@ -46,7 +46,7 @@ module _ (n : ℕ) (limit : ℕ → ℕ) (ls next : List ℕ) (u : ℕ) (rows₀
 
   -- u has a row of sixteen places
   places : length (rowAt rows₀ u) ≡ HIGHEST
-  places = rw (w .table .is) (row-long n hs₀ u (working-below w .1))
+  places = row-long (w .table .is) (w .few) (w .inside)
 
   -- by whether there is a place free in the row, by u's limit
   module _ {most : ℕ} {b : Bool} (its : most ≡ limit u) (free : b ≡ rowHasPlace (rowAt rows₀ u) most) where

@@ -13,7 +13,7 @@ use Rattle.packing.specs.Plant.{NONE, GATEWAYS, at}
 use Rattle.packing.proofs.Tests.{by-bool}
 use Rattle.packing.proofs.Lists.{zero-at, written-front, written-room}
 use Rattle.packing.proofs.Moved.{moved-none}
-use Rattle.search.specs.Table.{heldTable}
+use Rattle.search.specs.RowPre.{RowsOf}
 use Rattle.recursion.specs.Recursion.{search, settled, recursiveHolders}
 use Rattle.recursion.specs.Pre.{Working, Fits, PlaceableBy}
 use Rattle.recursion.proofs.Marks.{untried-start}
@@ -66,5 +66,5 @@ module _
         number = by-bool (eqb k 0) (λ e. rw (eqb-true k 0 e, promise .unchanged (eqb-true k 0 e)) (sym (moved-none n (at hs)))) (λ e. promise .counted (eqb-false k 0 e))
 
         pub place-leaves : (hs' ≡ recursiveHolders n limit ls hs v)
-            × ((k ≡ moved n (at hs) (at (recursiveHolders n limit ls hs v))) × (Fits n limit hs v → rows' ≡ heldTable n (recursiveHolders n limit ls hs v)))
+            × ((k ≡ moved n (at hs) (at (recursiveHolders n limit ls hs v))) × (Fits n limit hs v → RowsOf n (recursiveHolders n limit ls hs v) rows'))
         place-leaves = (holders, (rw (← holders) number, λ fit. rw (← holders) (r .kept fit)))

@@ -8,7 +8,7 @@ use Rattle.packing.specs.Count.{count}
 use Rattle.packing.specs.Plant.{GATEWAYS, HIGHEST, at}
 use Rattle.packing.specs.Holders.{holds}
 use Rattle.chains.specs.Index.{Index}
-use Rattle.search.specs.Table.{heldTable}
+use Rattle.search.specs.RowPre.{RowsOf}
 use Rattle.search.specs.Pre.{TableOf, Placeable}
 use Rattle.recursion.specs.Recursion.{Try, freed, failed, tried}
 
@@ -48,10 +48,10 @@ pub record Ends (k : ℕ) (hs hs' marks marks' : List ℕ) (try : ℕ → Try) (
   pub fewer : untried marks' ≤ untried marks
   pub counted : (k ≡ 0 → ⊥) → k ≡ number
 
--- The rows that it left: nothing is changed where it failed, and they are the table of the holders hs' of n gateways, if they fit.
+-- The rows that it left: nothing is changed where it failed, and they are those of the holders hs' of n gateways, if they fit.
 pub record RowsEnd (k n : ℕ) (hs' : List ℕ) (rows rows' : List (List ℕ)) (Fit : Type 0) : Type 0 where
   pub unchanged : k ≡ 0 → rows' ≡ rows
-  pub kept : Fit → rows' ≡ heldTable n hs'
+  pub kept : Fit → RowsOf n hs' rows'
 
 -- nobody's limit is above the places of a row
 abbrev pub SmallLimits : ℕ → (ℕ → ℕ) → Type 0
@@ -66,4 +66,4 @@ pub record Fits (n : ℕ) (limit : ℕ → ℕ) (hs : List ℕ) (v : ℕ) : Type
 pub record PlaceableBy (n : ℕ) (hs : List ℕ) (v : ℕ) (ls next : List ℕ) (rows : List (List ℕ)) : Type 0 where
   pub free : Placeable n hs v
   pub index : Index ls next
-  pub table : rows ≡ heldTable n hs
+  pub table : RowsOf n hs rows

@@ -1,7 +1,7 @@
 // The short search (02, change 7): finds a holder for a gateway by two functions that call each other. At full depth a call of each stands for every two gateways, so they have few lists and no arrays of their own; only their contracts use n.
 use search::Placed;
 use search::held::ROW;
-use search::held::Rows;
+use search::held::Row;
 use search::shift::take;
 ghost use mathlib.Core.Path.{_≡_};
 ghost use Prim.Native.Nat.{suc, _+_, _*_};
@@ -9,7 +9,7 @@ ghost use lib.ListN.{take};
 ghost use Rattle.packing.specs.Plant.{at};
 ghost use Rattle.packing.specs.Moved.{moved};
 ghost use Rattle.chains.specs.Index.{Index};
-ghost use Rattle.search.specs.Table.{heldTable};
+ghost use Rattle.search.specs.RowPre.{RowsOf};
 ghost use Rattle.recursion.specs.Recursion.{findHolder, freePlace, recursiveHolders, recursiveAfter, recursiveAnswer};
 ghost use Rattle.recursion.specs.Pre.{untried, Working, Ends, RowsEnd, Front, SmallLimits, Fits, PlaceableBy};
 
@@ -20,7 +20,7 @@ fn find_holder(
     limits: &[u8],
     links: &[u16],
     next: &[u16],
-    rows: &mut Rows,
+    rows: &mut [Row],
     holders: &mut [u16],
     tried: &mut [u16; lists::PLACES],
 ) -> u16
@@ -52,7 +52,7 @@ fn free_place(
     limits: &[u8],
     links: &[u16],
     next: &[u16],
-    rows: &mut Rows,
+    rows: &mut [Row],
     holders: &mut [u16],
     tried: &mut [u16; lists::PLACES],
 ) -> u16
@@ -86,13 +86,13 @@ pub fn place_kept(
     limits: &[u8],
     links: &[u16],
     next: &[u16],
-    rows: &mut Rows,
+    rows: &mut [Row],
     holders: &mut [u16],
 ) -> u16
     requires { ⌜ PlaceableBy n (now holders) v (now links) (now next) (now rows) ⌝ }
     ensures holders { λ _. ⌜ now (holders .exit) ≡ recursiveHolders n (at (now (limits .entry))) (now (links .entry)) (now (holders .entry)) v ⌝ }
     ensures moved { λ r. ⌜ r ≡ moved n (at (now (holders .entry))) (at (recursiveHolders n (at (now (limits .entry))) (now (links .entry)) (now (holders .entry)) v)) ⌝ }
-    ensures rows { λ _. ⌜ (Fits n (at (now (limits .entry))) (now (holders .entry)) v → now (rows .exit) ≡ heldTable n (recursiveHolders n (at (now (limits .entry))) (now (links .entry)) (now (holders .entry)) v)) ⌝ }
+    ensures rows { λ _. ⌜ (Fits n (at (now (limits .entry))) (now (holders .entry)) v → RowsOf n (recursiveHolders n (at (now (limits .entry))) (now (links .entry)) (now (holders .entry)) v) (now (rows .exit))) ⌝ }
 {
     let mut tried = lists::marks::zeros();
     lists::fill::with_none(n as usize, &mut tried);

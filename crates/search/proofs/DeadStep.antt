@@ -17,8 +17,7 @@ use Rattle.packing.proofs.Tests.{by-bool, or-r}
 use Rattle.packing.proofs.Lists.{written-whole}
 use Rattle.packing.proofs.Moved.{moved-none}
 use Rattle.search.specs.Search.{found, shift, settled, placedHolders}
-use Rattle.search.specs.Table.{heldTable}
-use Rattle.search.specs.RowPre.{RowsFit, RowsKept}
+use Rattle.search.specs.RowPre.{RowsOf, RowsKept}
 use Rattle.search.specs.Pre.{takings, Settleable, Outcome}
 use Rattle.search.specs.Noted.{RoomToNote, takenBack, Notes}
 use Rattle.search.specs.Dead.{walkPast, Past, leftThen, DeadThen}
@@ -59,18 +58,18 @@ module _ {n : ℕ} (limit : ℕ → ℕ) (ls : List ℕ) {hs : List ℕ} {v : �
   left-same w left x = by-bool (eqb x v) (λ q. rw (q, eqb-true x v q, held-now w) (or-false (left v))) (λ q. rw q (or-false (left x)))
 
   module _ (r : ℕ) (hs' dead' : List ℕ) (rows' : List (List ℕ)) (o : Outcome n v hs (walkPast n limit ls hs (v ∷ []) dead) r hs' dead' rows rows') where
-    pub past-done : (hs' ≡ new) × ((r ≡ moved n (at hs) (at new)) × (rows' ≡ heldTable n new))
+    pub past-done : (hs' ≡ new) × ((r ≡ moved n (at hs) (at new)) × RowsOf n new rows')
     unfolding Outcome settled RowsKept
     past-done =
         by-state (walkPast n limit ls hs (v ∷ []) dead)
         (λ u x f e.
         let (h, m, kept, _) = rw e at o in
         let same : shift n v f u x hs ≡ new = rw e at (past-settled (p .pair) (p .free) (p .new)) in
-        (h ∙ same, (m ∙ past-takings (p .pair) (p .free) (p .new) e, kept (p .free .few) (p .free .holders) (past-fits (p .pair) (p .free) (p .new) e (p .fits) its) (p .table) ∙ ap (heldTable n) same)))
+        (h ∙ same, (m ∙ past-takings (p .pair) (p .free) (p .new) e, rw (← same) (kept (p .free .few) (p .free .holders) (past-fits (p .pair) (p .free) (p .new) e (p .fits) its) (p .table)))))
         (λ q f e.
         let (h, m, _, same) = rw e at o in
         let still : new ≡ hs = past-left (p .pair) (p .feasible) (p .free) (p .new) e .0 in
-        (h ∙ sym still, (m ∙ sym (ap (λ (l : List ℕ). moved n (at hs) (at l)) still ∙ moved-none n (at hs)), same ∙ p .table ∙ ap (heldTable n) (sym still))))
+        (h ∙ sym still, (m ∙ sym (ap (λ (l : List ℕ). moved n (at hs) (at l)) still ∙ moved-none n (at hs)), rw (same, still) (p .table))))
 
     -- v is left: all that its search saw are dead too
     pub past-dead-left : r ≡ 0 → DeadThen n limit ls hs v dead new dead'

@@ -36,9 +36,12 @@ module _
       unseen : seen from u ≡ false
       unseen = not-i-false _ (eq-eqb (at from u) NONE (sym e ∙ none))
 
-      -- u is a gateway, ..
-      pub look-below : u < n
+      -- u is a gateway, which has a row, ..
+      look-below : u < n
       look-below = unseen-below from u (r .going .marks) unseen
+
+      pub look-row : u < length rows
+      look-row = omega (arith, look-below, h .is .wide)
 
       -- .. and what stands in its row finds room in the queue
       pub look-joins : Joinable (rowAt rows u) queue tail

@@ -22,7 +22,7 @@ use Rattle.search.specs.Pre.{ForEach, Is, Placeable, Walkable, Settleabl
 use Rattle.search.specs.ChokeSet.{chokeWalk, walkSaw}
 use Rattle.search.specs.Reached.{queuedFrom, seenFrom, setWritten, reachable, reachedAnswer, queuedWritten, seenWritten}
 use Rattle.search.specs.ReachedPre.{Unmarked, Marked, joined, Sets, bothCounted}
-use Rattle.search.proofs.Rows.{take-replicate}
+use Rattle.search.proofs.Rows.{take-replicate, rows-whole}
 use Rattle.search.proofs.States.{going-start, placeable-startable}
 use Rattle.search.proofs.Settling.{settle-walked}
 use Rattle.search.proofs.Seen.{walked-seen, zero-walk}
@@ -50,7 +50,7 @@ set-room n p r = omega (arith, listWhere-length n p, count-bound n p, r .places)
 -- the walk from v: a queue that starts with v, and nobody marked
 module _ {n : ℕ} {hs : List ℕ} {v : ℕ} {from queue : List ℕ} {rows : List (List ℕ)} (u : Unmarked n hs v from) (zeros : queue ≡ replicate GATEWAYS 0) (table : rows ≡ heldTable n hs) where
   pub from-settles : Settleable n hs v rows queue from
-  from-settles = record { free = u .free; table = table; places = rw (zeros, length-replicate) (u .free .few); going = rw (u .unseen) (going-start (placeable-startable (u .free))) }
+  from-settles = record { free = u .free; table = rows-whole (u .free .few) table; places = rw (zeros, length-replicate) (u .free .few); going = rw (u .unseen) (going-start (placeable-startable (u .free))) }
 
   -- those marked after it are those seen
   pub from-marks : (limits ls : List ℕ) {r : Walked} {queue' from' : List ℕ}

@@ -6,7 +6,7 @@ use mathlib.Core.List.{List, [], _∷_, _++_}
 use native.Mathlib.Omega.{arith}
 use lib.Dec.{eqb, ltb}
 use lib.ListN.{length, set, take, replicate, length-set}
-use lib.Seq.{set-set}
+use lib.Seq.{set-set, set-out, getD-take, take-set-lt, take-set-le}
 use borrow.Author.Tests.{eqb-true, eqb-false, eq-eqb, ne-eqb, lt-ltb, le-ltb, ltb-true, ltb-false}
 use Rattle.packing.specs.Lists.{listWhere}
 use Rattle.packing.specs.Plant.{NONE, GATEWAYS, HIGHEST, at}
@@ -15,7 +15,7 @@ use Rattle.packing.proofs.Tests.{by-bool}
 use Rattle.packing.proofs.Lists.{whereFrom, where-all, listWhere-ext}
 use Rattle.search.specs.Search.{heldBy}
 use Rattle.search.specs.Table.{asRow, heldRow, heldTable, rowAt}
-use Rattle.search.specs.RowPre.{entered, movedUp, without, leftRow, joinedRow, movedRows}
+use Rattle.search.specs.RowPre.{RowsOf, entered, movedUp, without, leftRow, joinedRow, movedRows}
 use Rattle.search.proofs.Queue.{heldBy-length}
 use Rattle.search.proofs.Rows.{table-length, table-row, table-is, one-row}
 use Rattle.search.proofs.Taken.{taken-here, taken-other}
@@ -163,13 +163,13 @@ module _ (n : ℕ) (hs : List ℕ) (x u : ℕ) (few : n ≤ GATEWAYS) (long : n 
   table-left past fits =
       by-bool (ltb (at hs x) GATEWAYS)
       (λ e. let l : at hs x < GATEWAYS = ltb-true _ _ e in
-      rw e
       (sym
       (one-row n (set hs x u) (heldTable n hs) (at hs x) (without x (rowAt (heldTable n hs) (at hs x))) (table-length n hs)
       (sym (ap (without x) (table-row n hs (at hs x) l) ∙ row-left (fits l) (λ q. omega arith)))
       (λ w b apart. row-same w (λ q. apart (sym q)) (λ q. omega arith) ∙ sym (table-row n hs w b)))))
       (λ e. let l : GATEWAYS ≤ at hs x = ltb-false _ _ e in
-      rw e (table-is n (set hs x u) (heldTable n hs) (table-length n hs) (λ w b. table-row n hs w b ∙ sym (row-same w (λ q. omega arith) (λ q. omega arith)))))
+      set-out (heldTable n hs) (at hs x) (without x (rowAt (heldTable n hs) (at hs x))) (rw table-length l)
+      ∙ (table-is n (set hs x u) (heldTable n hs) (table-length n hs) (λ w b. table-row n hs w b ∙ sym (row-same w (λ q. omega arith) (λ q. omega arith)))))
 
   -- .. and once it has a holder whose own was past it
   table-joined : GATEWAYS ≤ at hs x → joinedRow x u (heldTable n hs) ≡ heldTable n (set hs x u)
@@ -177,18 +177,48 @@ module _ (n : ℕ) (hs : List ℕ) (x u : ℕ) (few : n ≤ GATEWAYS) (long : n 
   table-joined past =
       by-bool (ltb u GATEWAYS)
       (λ e. let l : u < GATEWAYS = ltb-true _ _ e in
-      rw e
       (sym
       (one-row n (set hs x u) (heldTable n hs) u (entered x (rowAt (heldTable n hs) u)) (table-length n hs) (sym (ap (entered x) (table-row n hs u l) ∙ row-joined (λ q. omega arith)))
       (λ w b apart. row-same w (λ q. omega arith) (λ q. apart (sym q)) ∙ sym (table-row n hs w b)))))
       (λ e. let l : GATEWAYS ≤ u = ltb-false _ _ e in
-      rw e (table-is n (set hs x u) (heldTable n hs) (table-length n hs) (λ w b. table-row n hs w b ∙ sym (row-same w (λ q. omega arith) (λ q. omega arith)))))
+      set-out (heldTable n hs) u (entered x (rowAt (heldTable n hs) u)) (rw table-length l)
+      ∙ (table-is n (set hs x u) (heldTable n hs) (table-length n hs) (λ w b. table-row n hs w b ∙ sym (row-same w (λ q. omega arith) (λ q. omega arith)))))
 
--- The rows of the holders are those of the new holders once x, held by u now, has left its old holder's row and joined u's. The old holder may be u, and either may be past the table.
-pub table-moved : (n : ℕ) (hs : List ℕ) {rows : List (List ℕ)} (x u : ℕ) → n ≤ GATEWAYS → n ≤ length hs → x < n → (at hs x < GATEWAYS → holds n (at hs) (at hs x) ≤ HIGHEST) → rows ≡ heldTable n hs
-    → movedRows x (at hs x) u rows ≡ heldTable n (set hs x u)
-table-moved n hs x u few long inside fits is =
-    ap (λ (r : List (List ℕ)). movedRows x (at hs x) u r) is
-    ∙ ap (joinedRow x u) (table-left n hs x NONE few long inside (omega arith) fits)
+-- The table of the holders is that of the new holders once x, held by u now, has left its old holder's row and joined u's. The old holder may be u, and either may be past the table.
+table-moved : (n : ℕ) (hs : List ℕ) (x u : ℕ) → n ≤ GATEWAYS → n ≤ length hs → x < n → (at hs x < GATEWAYS → holds n (at hs) (at hs x) ≤ HIGHEST)
+    → movedRows x (at hs x) u (heldTable n hs) ≡ heldTable n (set hs x u)
+table-moved n hs x u few long inside fits =
+    ap (joinedRow x u) (table-left n hs x NONE few long inside (omega arith) fits)
     ∙ table-joined n (set hs x NONE) x u few (rw length-set long) inside (rw (taken-here n hs x NONE long inside) (omega arith))
     ∙ ap (heldTable n) (set-set hs x NONE u)
+
+front-length : (c : ℕ) (rows : List (List ℕ)) → length (take c rows) ≤ c
+front-length zero rows = omega arith
+front-length (suc c) [] = omega arith
+front-length (suc c) (row ∷ rows) = omega (arith, front-length c rows)
+
+-- a row changed among those from the front on is that row changed in the whole table
+front-set : (c : ℕ) (rows : List (List ℕ)) (u : ℕ) (f : List ℕ → List ℕ) → set (take c rows) u (f (rowAt (take c rows) u)) ≡ take c (set rows u (f (rowAt rows u)))
+front-set c rows u f =
+    by-bool (ltb u c) (λ e. let l : u < c = ltb-true _ _ e in rw (getD-take c rows u [] l) (sym (take-set-lt c rows u (f (rowAt rows u)) l)))
+    (λ e.
+    let l : c ≤ u = ltb-false _ _ e in
+    set-out (take c rows) u (f (rowAt (take c rows) u)) (omega (arith, front-length c rows)) ∙ sym (take-set-le c rows u (f (rowAt rows u)) l))
+
+-- so with the rows of the gateways
+pub rows-moved : (n : ℕ) (hs : List ℕ) {rows : List (List ℕ)} (x u : ℕ) → n ≤ GATEWAYS → n ≤ length hs → x < n → (at hs x < GATEWAYS → holds n (at hs) (at hs x) ≤ HIGHEST) → RowsOf n hs rows
+    → RowsOf n (set hs x u) (movedRows x (at hs x) u rows)
+unfolding leftRow joinedRow
+rows-moved n hs {rows} x u few long inside fits r =
+    record {
+      wide = rw same (r .wide);
+      is =
+          ap (movedRows x (at hs x) u) (r .is)
+          ∙ ap (joinedRow x u) (front-set (length rows) (heldTable n hs) (at hs x) (without x))
+          ∙ front-set (length rows) (leftRow x (at hs x) (heldTable n hs)) u (entered x)
+          ∙ ap (take (length rows)) (table-moved n hs x u few long inside fits)
+          ∙ ap (λ (c : ℕ). take c (heldTable n (set hs x u))) (sym same);
+    }
+  where
+    same : length (movedRows x (at hs x) u rows) ≡ length rows
+    same = length-set (leftRow x (at hs x) rows) u (entered x (rowAt (leftRow x (at hs x) rows) u)) ∙ length-set rows (at hs x) (without x (rowAt rows (at hs x)))

@@ -13,10 +13,9 @@ use Rattle.packing.specs.Plant.{GATEWAYS, HIGHEST, at}
 use Rattle.packing.specs.Holders.{holds}
 use Rattle.packing.proofs.Tests.{by-bool}
 use Rattle.search.specs.Search.{found, walk, shift}
-use Rattle.search.specs.Table.{heldTable}
 use Rattle.search.specs.Pre.{takings, Placeable}
-use Rattle.search.specs.RowPre.{Taken, RowsFit, RowsKept}
-use Rattle.search.proofs.RowMoves.{table-moved}
+use Rattle.search.specs.RowPre.{RowsOf, Taken, RowsFit, RowsKept}
+use Rattle.search.proofs.RowMoves.{rows-moved}
 use Rattle.search.proofs.Taken.{taken-other, taken-holds}
 use Rattle.search.proofs.Shifting.{Rounds, rounds-start, rounds-turn, rounds-done, rounds-end, Chain, chain-next}
 use Rattle.search.proofs.Placing.{FoundFrom, walk-found}
@@ -24,30 +23,32 @@ use Rattle.search.proofs.Placing.{FoundFrom, walk-found}
 -- after k rounds the rows are the table still, where the shift's rounds fit, and those that are left fit
 pub record RowRounds (n v u x : ℕ) (from hs₀ : List ℕ) (rows₀ : List (List ℕ)) (hs : List ℕ) (rows : List (List ℕ)) (taker taken k : ℕ) : Type 0 where
   pub rounds : Rounds n v u x from hs₀ hs taker taken k
-  pub kept : n ≤ GATEWAYS → n ≤ length hs₀ → RowsFit n n v from u x hs₀ → rows₀ ≡ heldTable n hs₀ → RowsFit (n - k) n v from taker taken hs × (rows ≡ heldTable n hs)
+  pub wide : length rows ≡ length rows₀
+  pub kept : n ≤ GATEWAYS → n ≤ length hs₀ → RowsFit n n v from u x hs₀ → RowsOf n hs₀ rows₀ → RowsFit (n - k) n v from taker taken hs × RowsOf n hs rows
 
 module _ (n v u x : ℕ) (from hs₀ : List ℕ) (rows₀ : List (List ℕ)) where
   pub row-rounds-start : RowRounds n v u x from hs₀ rows₀ hs₀ rows₀ u x 0
-  row-rounds-start = record { rounds = rounds-start n v u x from hs₀; kept = λ few long fits is. (rw sub-zero fits, is) }
+  row-rounds-start = record { rounds = rounds-start n v u x from hs₀; wide = refl; kept = λ few long fits is. (rw sub-zero fits, is) }
 
   module _
       {hs : List ℕ} {rows : List (List ℕ)} {taker taken k : ℕ} (r : RowRounds n v u x from hs₀ rows₀ hs rows taker taken k) (l : k < n)
       {old : ℕ} {hs' : List ℕ} {rows' : List (List ℕ)} (t : Taken taken taker hs hs' rows rows' old)
     where
       -- the rows after one more round, and the rounds then left
-      one-more : n ≤ GATEWAYS → n ≤ length hs₀ → RowsFit n n v from u x hs₀ → rows₀ ≡ heldTable n hs₀
-          → (rows' ≡ heldTable n hs') × ((taken ≡ v → ⊥) → RowsFit (n - (k + 1)) n v from (at hs taken) (at from (at hs taken)) (set hs taken taker))
+      one-more : n ≤ GATEWAYS → n ≤ length hs₀ → RowsFit n n v from u x hs₀ → RowsOf n hs₀ rows₀
+          → RowsOf n hs' rows' × ((taken ≡ v → ⊥) → RowsFit (n - (k + 1)) n v from (at hs taken) (at from (at hs taken)) (set hs taken taker))
       unfolding RowsFit
       one-more few long fits is =
           let before = r .kept few long fits is in
           let next : n - k ≡ suc (n - (k + 1)) = omega arith in
           let round = rw next at (before .0) in
-          (rw (t .table, t .holders) (table-moved n hs taken taker few (rw (r .rounds .same) long) (round .0) (round .1) (before .1)), round .2)
+          (rw (t .table, t .holders) (rows-moved n hs taken taker few (rw (r .rounds .same) long) (round .0) (round .1) (before .1)), round .2)
 
-      pub row-rounds-turn : {taken' : ℕ} → (taken ≡ v → ⊥) → taken' ≡ at from old → RowRounds n v u x from hs₀ rows₀ hs' rows' old taken' (k + 1)
-      row-rounds-turn go next =
+      pub row-rounds-turn : {taken' : ℕ} → length rows' ≡ length rows → (taken ≡ v → ⊥) → taken' ≡ at from old → RowRounds n v u x from hs₀ rows₀ hs' rows' old taken' (k + 1)
+      row-rounds-turn same go next =
           record {
             rounds = rounds-turn n v u x from hs₀ (r .rounds) l (t .old) (t .holders) go next;
+            wide = same ∙ r .wide;
             kept = λ few long fits is. let m = one-more few long fits is in (rw (next, t .old, t .holders) (m .1 go), m .0);
           }
 
@@ -55,14 +56,14 @@ module _ (n v u x : ℕ) (from hs₀ : List ℕ) (rows₀ : List (List ℕ)) whe
       unfolding RowsKept
       row-rounds-done done =
           let e = rounds-done n v u x from hs₀ (r .rounds) l (t .holders) done in
-          (e .0, (e .1, λ few long fits is. one-more few long fits is .0 ∙ ap (heldTable n) (e .0)))
+          (e .0, (e .1, λ few long fits is. rw (← e .0) (one-more few long fits is .0)))
 
   pub row-rounds-end : {hs : List ℕ} {rows : List (List ℕ)} {taker taken k : ℕ} → RowRounds n v u x from hs₀ rows₀ hs rows taker taken k → n ≤ k
       → (hs ≡ shift n v from u x hs₀) × ((k ≡ takings n v from u x hs₀) × RowsKept n v from u x hs₀ rows₀ rows)
   unfolding RowsKept
   row-rounds-end r l =
       let e = rounds-end n v u x from hs₀ (r .rounds) l in
-      (e .0, (e .1, λ few long fits is. r .kept few long fits is .1 ∙ ap (heldTable n) (e .0)))
+      (e .0, (e .1, λ few long fits is. rw (← e .0) (r .kept few long fits is .1)))
 
 -- Along a chain each that is taken has a holder, but v. Who holds no more than a row has places, holds no more in any round: each taker has a place free when it takes.
 module _ (n : ℕ) (ls : List ℕ) (v : ℕ) (from : List ℕ) (inside : v < n) (Few : ℕ → Type 0) (below : (w : ℕ) → w < n → Few w) where

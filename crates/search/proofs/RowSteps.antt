@@ -6,7 +6,7 @@ use native.Mathlib.Nat.{add-zero}
 use native.Mathlib.Numerals.{add-one}
 use native.Mathlib.Omega.{arith}
 use lib.ListN.{length, set, take, drop, getD, length-set, take-append-drop, drop-of-length-le, List·getD-eq-default}
-use lib.Seq.{take-suc, take-suc-set, take-all, drop-cons, drop-set-lt, append-snoc, getD-drop}
+use lib.Seq.{take-suc, take-suc-set, take-all, drop-cons, drop-set-lt, append-snoc, getD-drop, set-out}
 use borrow.Author.Tests.{eq-eqb, ne-eqb, lt-ltb, le-ltb}
 use Rattle.packing.specs.Plant.{NONE, GATEWAYS, at}
 use Rattle.search.specs.Table.{rowAt}
@@ -130,21 +130,21 @@ module _ (row₀ : List ℕ) (x : ℕ) where
 
 -- the rows of which one is changed
 module _ (x u : ℕ) (rows : List (List ℕ)) where
-  pub left-row : u < GATEWAYS → {row : List ℕ} → row ≡ without x (rowAt rows u) → set rows u row ≡ leftRow x u rows
+  pub left-row : {row : List ℕ} → row ≡ without x (rowAt rows u) → set rows u row ≡ leftRow x u rows
   unfolding leftRow
-  left-row l e = rw (lt-ltb u GATEWAYS l, e)
+  left-row e = rw e
 
-  pub left-none : GATEWAYS ≤ u → rows ≡ leftRow x u rows
+  pub left-none : length rows ≤ u → rows ≡ leftRow x u rows
   unfolding leftRow
-  left-none l = rw (le-ltb u GATEWAYS l)
+  left-none l = sym (set-out rows u (without x (rowAt rows u)) l)
 
-  pub joined-row : u < GATEWAYS → {row : List ℕ} → row ≡ entered x (rowAt rows u) → set rows u row ≡ joinedRow x u rows
+  pub joined-row : {row : List ℕ} → row ≡ entered x (rowAt rows u) → set rows u row ≡ joinedRow x u rows
   unfolding joinedRow
-  joined-row l e = rw (lt-ltb u GATEWAYS l, e)
+  joined-row e = rw e
 
-  pub joined-none : GATEWAYS ≤ u → rows ≡ joinedRow x u rows
+  pub joined-none : length rows ≤ u → rows ≡ joinedRow x u rows
   unfolding joinedRow
-  joined-none l = rw (le-ltb u GATEWAYS l)
+  joined-none l = sym (set-out rows u (entered x (rowAt rows u)) l)
 
 pub moved-rows : (x old u : ℕ) (rows : List (List ℕ)) {rows₁ rows₂ : List (List ℕ)} → rows₁ ≡ leftRow x old rows → rows₂ ≡ joinedRow x u rows₁ → rows₂ ≡ movedRows x old u rows
 moved-rows x old u rows e f = f ∙ ap (joinedRow x u) e

@@ -7,7 +7,7 @@ use mathlib.Core.List.{List, [], _∷_, _++_, map}
 use native.Mathlib.Omega.{arith}
 use lib.Dec.{eqb, ltb}
 use lib.ListN.{length, set, take, getD, replicate, length-set, length-map, length-append, length-replicate, getD-replicate, List·getD-map, List·getD-append, List·getD-eq-default}
-use lib.Seq.{ext-getD, getD-set-same, getD-set-other, length-take-le, take-append-add, take-append-seam, getD-append-add}
+use lib.Seq.{ext-getD, getD-set-same, getD-set-other, length-take-le, getD-take, take-all, take-append-add, take-append-seam, getD-append-add}
 use borrow.Author.Tests.{eqb-true, eqb-false, eq-eqb, ne-eqb, lt-ltb, le-ltb, ltb-true, ltb-false}
 use Rattle.packing.specs.Count.{count}
 use Rattle.packing.specs.Lists.{listOf, listWhere}
@@ -21,6 +21,7 @@ use Rattle.sound.proofs.Searchable.{sound-searchable}
 use Rattle.search.specs.Search.{heldBy}
 use Rattle.search.specs.Table.{asRow, heldRow, heldTable, rowAt, RowHolds, TableHolds}
 use Rattle.search.specs.Ascending.{HeldAscend}
+use Rattle.search.specs.RowPre.{RowsOf}
 use Rattle.search.specs.Pre.{inRow, rowHasPlace, TableOf}
 use Rattle.search.proofs.Queue.{heldBy-length, heldBy-out}
 use Rattle.search.proofs.Ascending.{held-ascend}
@@ -81,9 +82,17 @@ row-all k a l h =
 pub row-length : (k a : ℕ) (l : List ℕ) → length (take k (l ++ replicate k a)) ≡ k
 row-length k a l = length-take-le k (l ++ replicate k a) (omega (arith, length-append l (replicate k a), length-replicate k a))
 
-pub row-long : (n : ℕ) (hs : List ℕ) (u : ℕ) → u < GATEWAYS → length (rowAt (heldTable n hs) u) ≡ HIGHEST
+-- the whole table is rows from its front on
+pub rows-whole : {n : ℕ} {hs : List ℕ} {rows : List (List ℕ)} → n ≤ GATEWAYS → rows ≡ heldTable n hs → RowsOf n hs rows
+rows-whole {n} {hs} few is = rw is (record { wide = rw table-length few; is = sym (take-all (length (heldTable n hs)) (heldTable n hs) (omega arith)) })
+
+-- each gateway's row among them is that of the table
+pub rows-row : {n : ℕ} {hs : List ℕ} {rows : List (List ℕ)} → RowsOf n hs rows → n ≤ GATEWAYS → {u : ℕ} → u < n → rowAt rows u ≡ heldRow n hs u
+rows-row {n} {hs} {rows} r few {u} l = ap (λ (k : List (List ℕ)). rowAt k u) (r .is) ∙ getD-take (length rows) (heldTable n hs) u [] (omega (arith, r .wide)) ∙ table-row n hs u (omega arith)
+
+pub row-long : {n : ℕ} {hs : List ℕ} {rows : List (List ℕ)} → RowsOf n hs rows → n ≤ GATEWAYS → {u : ℕ} → u < n → length (rowAt rows u) ≡ HIGHEST
 unfolding heldRow asRow
-row-long n hs u l = ap length (table-row n hs u l) ∙ row-length HIGHEST NONE (heldBy n hs u)
+row-long {n} {hs} r few {u} l = ap length (rows-row r few l) ∙ row-length HIGHEST NONE (heldBy n hs u)
 
 -- what stands in a row, where no entry is 65535
 in-padded : (l : List ℕ) (k : ℕ) → ((i : ℕ) → i < length l → at l i ≡ NONE → ⊥) → inRow (l ++ replicate k NONE) ≡ l
@@ -141,7 +150,7 @@ held-row n hs u h = row-all HIGHEST NONE (heldBy n hs u) (omega (arith, heldBy-l
 -- What the table tells of u.
 module _ {n : ℕ} {hs : List ℕ} {rows : List (List ℕ)} (t : TableOf n hs rows) (few : n ≤ GATEWAYS) {u : ℕ} (l : u < n) where
   row-is : rowAt rows u ≡ padded (heldBy n hs u)
-  row-is = rw (t .is) (table-row n hs u (omega arith)) ∙ held-row n hs u (t .within u l)
+  row-is = rows-row (t .is) few l ∙ held-row n hs u (t .within u l)
 
   pub table-holds : inRow (rowAt rows u) ≡ heldBy n hs u
   unfolding padded

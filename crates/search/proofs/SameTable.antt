@@ -11,7 +11,7 @@ use Rattle.search.specs.Search.{more, seen, heldBy, look, visit}
 use Rattle.search.specs.Table.{heldTable, TableDecides}
 use Rattle.search.specs.Pre.{TableOf}
 use Rattle.search.proofs.Queue.{heldBy-length}
-use Rattle.search.proofs.Rows.{table-holds}
+use Rattle.search.proofs.Rows.{rows-whole, table-holds}
 use Rattle.search.proofs.States.{unseen-below, look-cases, by-state, never-both, visit-found, walk-same}
 
 -- a look keeps the number of marks, and so do the looks at any neighbours
@@ -55,10 +55,10 @@ table-decides n hs hs' s s' e limit ls start =
     may = searchable-means n hs s
 
     table : TableOf n hs (heldTable n hs)
-    table = record { is = refl; within = may .within }
+    table = record { is = rows-whole (may .few) refl; within = may .within }
 
     table' : TableOf n hs' (heldTable n hs)
-    table' = record { is = e; within = searchable-means n hs' s' .within }
+    table' = record { is = rows-whole (may .few) e; within = searchable-means n hs' s' .within }
 
     same : (u : ℕ) → u < n → heldBy n hs u ≡ heldBy n hs' u
     same u l = sym (table-holds table (may .few) l) ∙ table-holds table' (may .few) l

@@ -20,6 +20,7 @@ use Rattle.search.specs.ChokeSet.{withoutHolder, chokeWalk, seenIn, walk
 use Rattle.search.specs.ChokePre.{Queued, Workable, seenByte}
 use Rattle.packing.proofs.Lists.{listOf-ext, zero-at}
 use Rattle.sound.proofs.Searchable.{Searchable}
+use Rattle.search.proofs.Rows.{rows-whole}
 use Rattle.search.proofs.Settling.{workspace}
 use Rattle.search.proofs.States.{going-start}
 use Rattle.search.proofs.Unheld.{unheld-startable}
@@ -91,6 +92,6 @@ pub searchable-workable : {n : ℕ} {hs out queue all : List ℕ} {rows : List (
 searchable-workable zeros unseen table s room =
     record {
       lent = record { few = s .few; entries = s .holders; places = room };
-      table = record { is = table; within = s .within };
+      table = record { is = rows-whole (s .few) table; within = s .within };
       space = workspace unseen zeros (s .few);
     }

@@ -14,7 +14,7 @@ use Rattle.search.specs.Table.{heldTable}
 use Rattle.search.specs.Dead.{walkPast}
 use Rattle.search.specs.RowPre.{RowsKept}
 use Rattle.search.specs.Pre.{takings, TableOf, ForSome, ForEach, Is, Workspace, Walkable, Placeable, Settleable, Outcome}
-use Rattle.search.proofs.Rows.{take-replicate}
+use Rattle.search.proofs.Rows.{take-replicate, rows-whole}
 use Rattle.search.proofs.States.{by-state, going-start, placeable-startable}
 use Rattle.search.proofs.Results.{found-state, more-state}
 use Rattle.search.proofs.Least.{found-moved}
@@ -79,4 +79,4 @@ module _ {n : ℕ} {all : List ℕ} (unseen : all ≡ replicate GATEWAYS NONE) w
 
   pub place-settles : {queue hs : List ℕ} {rows : List (List ℕ)} {v : ℕ} → queue ≡ replicate GATEWAYS 0 → rows ≡ heldTable n hs → Placeable n hs v → Settleable n hs v rows queue (take n all)
   place-settles zeros table p =
-      record { free = p; table = table; places = workspace zeros (p .few) .places; going = rw (workspace zeros (p .few) .unseen) (going-start (placeable-startable p)) }
+      record { free = p; table = rows-whole (p .few) table; places = workspace zeros (p .few) .places; going = rw (workspace zeros (p .few) .unseen) (going-start (placeable-startable p)) }

@@ -10,7 +10,7 @@ use Rattle.packing.specs.Plant.{NONE, HIGHEST, at, linked}
 use Rattle.packing.specs.Holders.{held, Feasible}
 use Rattle.packing.proofs.Tight.{Tight}
 use Rattle.search.specs.Search.{Search, more, seen, turns}
-use Rattle.search.specs.Table.{heldTable}
+use Rattle.search.specs.RowPre.{RowsOf}
 use Rattle.search.specs.Pre.{Placeable}
 
 -- the search from a queue of gateways, where those that have a mark count as seen: the turns of `walk`, from other marks
@@ -37,7 +37,7 @@ pub record Past (n : ℕ) (limit : ℕ → ℕ) (ls hs : List ℕ) (v : ℕ) (ro
   pub none : at hs v ≡ NONE
   pub feasible : Feasible n limit (linked ls) (at hs)
   pub fits : (u : ℕ) → u < n → limit u ≤ HIGHEST
-  pub table : rows ≡ heldTable n hs
+  pub table : RowsOf n hs rows
   pub places : n ≤ length queue
   pub room : n ≤ length looked
   pub left : ℕ → Bool

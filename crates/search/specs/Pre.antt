@@ -9,14 +9,13 @@ use Rattle.packing.specs.Count.{count}
 use Rattle.packing.specs.Plant.{NONE, GATEWAYS, HIGHEST, at}
 use Rattle.packing.specs.Holders.{held, holds}
 use Rattle.search.specs.Search.{Search, found, more, seen, shift}
-use Rattle.search.specs.Table.{heldTable}
-use Rattle.search.specs.RowPre.{RowsKept}
+use Rattle.search.specs.RowPre.{RowsOf, RowsKept}
 use Rattle.search.specs.declared.Walked.{Walked}
 use Rattle.search.specs.declared.Walked.the-variants.{Found, RanOut}
 
--- rows is the table of the holders hs of n gateways, none of whom holds more than a row has places
+-- rows are those of the holders hs of n gateways, none of whom holds more than a row has places
 pub record TableOf (n : ℕ) (hs : List ℕ) (rows : List (List ℕ)) : Type 0 where
-  pub is : rows ≡ heldTable n hs
+  pub is : RowsOf n hs rows
   pub within : (u : ℕ) → u < n → holds n (at hs) u ≤ HIGHEST
 
 -- 02, change 3: "the search learns only from it what a gateway holds". A function of the search is handed the table and no holders.
@@ -115,7 +114,7 @@ pub record Placeable (n : ℕ) (hs : List ℕ) (v : ℕ) : Type 0 where
 -- .. with the table of the holders, a queue to work in, and marks that the search may start from
 pub record Settleable (n : ℕ) (hs : List ℕ) (v : ℕ) (rows : List (List ℕ)) (queue from : List ℕ) : Type 0 where
   pub free : Placeable n hs v
-  pub table : rows ≡ heldTable n hs
+  pub table : RowsOf n hs rows
   pub places : n ≤ length queue
   pub going : Going n hs (v ∷ []) from
 

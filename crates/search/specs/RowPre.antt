@@ -4,11 +4,16 @@ use mathlib.Core.Path.{_≡_}
 use mathlib.Core.Bool.{cond}
 use mathlib.Core.List.{List, [], _∷_}
 use lib.Dec.{eqb, ltb}
-use lib.ListN.{length, set, getD}
+use lib.ListN.{length, set, take, getD}
 use Rattle.packing.specs.Plant.{NONE, GATEWAYS, HIGHEST, at}
 use Rattle.packing.specs.Holders.{holds}
 use Rattle.search.specs.Search.{shift}
 use Rattle.search.specs.Table.{heldTable, rowAt}
+
+-- rows are those of the table from its front on, as many as there are: one for each gateway at least
+pub record RowsOf (n : ℕ) (hs : List ℕ) (rows : List (List ℕ)) : Type 0 where
+  pub wide : n ≤ length rows
+  pub is : rows ≡ take (length rows) (heldTable n hs)
 
 -- x joins a row in its place, ascending: at each place the smaller number stays and the larger goes on. The last one falls out; where 65535 goes on, nothing more changes.
 unfoldable pub entered : ℕ → List ℕ → List ℕ
@@ -27,11 +32,11 @@ without x (a ∷ row) = cond (eqb a x) (movedUp (a ∷ row)) (a ∷ without x ro
 
 -- the rows once x leaves that of u, ..
 unfoldable pub leftRow : ℕ → ℕ → List (List ℕ) → List (List ℕ)
-leftRow x u rows = cond (ltb u GATEWAYS) (set rows u (without x (rowAt rows u))) rows
+leftRow x u rows = set rows u (without x (rowAt rows u))
 
--- .. and once it joins that of u; a number past the table has no row
+-- .. and once it joins that of u; a number past the rows has none
 unfoldable pub joinedRow : ℕ → ℕ → List (List ℕ) → List (List ℕ)
-joinedRow x u rows = cond (ltb u GATEWAYS) (set rows u (entered x (rowAt rows u))) rows
+joinedRow x u rows = set rows u (entered x (rowAt rows u))
 
 -- the rows once x is held by u and no more by its old holder
 abbrev pub movedRows : ℕ → ℕ → ℕ → List (List ℕ) → List (List ℕ)
@@ -49,7 +54,7 @@ RowsFit zero n v from u x hs = Unit {0}
 RowsFit (suc fuel) n v from u x hs =
     (x < n) × (at hs x < GATEWAYS → holds n (at hs) (at hs x) ≤ HIGHEST) × ((x ≡ v → ⊥) → RowsFit fuel n v from (at hs x) (at from (at hs x)) (set hs x u))
 
--- a shift with such rounds leaves the table of the holders after it, where the rows were the table of those before it
+-- a shift with such rounds leaves the rows of the holders after it, where they were those of the holders before it
 unfoldable pub RowsKept : (n v : ℕ) (from : List ℕ) (u x : ℕ) (hs : List ℕ) (rows rows' : List (List ℕ)) → Type 0
 RowsKept n v from u x hs rows rows' =
-    n ≤ GATEWAYS → n ≤ length hs → RowsFit n n v from u x hs → rows ≡ heldTable n hs → rows' ≡ heldTable n (shift n v from u x hs)
+    n ≤ GATEWAYS → n ≤ length hs → RowsFit n n v from u x hs → RowsOf n hs rows → RowsOf n (shift n v from u x hs) rows'

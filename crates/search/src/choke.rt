@@ -1,6 +1,6 @@
 // The choke set (01, "Reading"), on plain lists and numbers.
 use crate::bytes::write_seen;
-use crate::held::Rows;
+use crate::held::Row;
 use crate::held::gather;
 use crate::start::queue_unheld;
 use crate::walk::walk;
@@ -16,7 +16,7 @@ fn write_set(
     n: u16,
     links: &[u16],
     next: &[u16],
-    rows: &Rows,
+    rows: &[Row],
     holders: &[u16],
     queue: &mut [u16],
     from: &mut [u16],

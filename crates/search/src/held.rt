@@ -10,8 +10,10 @@ ghost use Rattle.search.specs.RowPre.{entered, movedUp, without, leftRow
 // The places of a row: as many as the highest limit.
 pub const ROW: usize = 16;
 
+pub type Row = [u16; ROW];
+
 // A row for each number below 1,024.
-pub type Rows = [[u16; ROW]; lists::PLACES];
+pub type Rows = [Row; lists::PLACES];
 
 // Rows with nobody in them.
 pub fn empty_rows() -> Rows
@@ -131,25 +133,25 @@ fn leave(row: &mut [u16], x: u16)
 }
 
 // x leaves the row of u.
-fn leave_row(rows: &mut Rows, x: u16, u: u16)
+fn leave_row(rows: &mut [Row], x: u16, u: u16)
     ensures { λ _. ⌜ now (rows .exit) ≡ leftRow x u (now (rows .entry)) ⌝ }
 {
-    if u < lists::GATEWAYS {
+    if (u as usize) < rows.len() {
         leave(&mut rows[u as usize], x);
     }
 }
 
 // x joins the row of u.
-fn join_row(rows: &mut Rows, x: u16, u: u16)
+fn join_row(rows: &mut [Row], x: u16, u: u16)
     ensures { λ _. ⌜ now (rows .exit) ≡ joinedRow x u (now (rows .entry)) ⌝ }
 {
-    if u < lists::GATEWAYS {
+    if (u as usize) < rows.len() {
         enter(&mut rows[u as usize], x);
     }
 }
 
-// x is held by u, and no more by its old holder. A number past the table has no row.
-pub(crate) fn move_row(rows: &mut Rows, x: u16, old: u16, u: u16)
+// x is held by u, and no more by its old holder. A number past the rows has none.
+pub(crate) fn move_row(rows: &mut [Row], x: u16, old: u16, u: u16)
     ensures { λ _. ⌜ now (rows .exit) ≡ movedRows x old u (now (rows .entry)) ⌝ }
 {
     leave_row(rows, x, old);

@@ -9,7 +9,7 @@ pub mod shift;
 mod start;
 pub mod walk;
 
-use crate::held::Rows;
+use crate::held::Row;
 use crate::held::gather;
 use crate::shift::shift_back;
 ghost use mathlib.Core.Path.{_≡_};
@@ -42,7 +42,7 @@ fn settle(
     limits: &[u8],
     links: &[u16],
     next: &[u16],
-    rows: &mut Rows,
+    rows: &mut [Row],
     holders: &mut [u16],
     queue: &mut [u16],
     from: &mut [u16],

@@ -1,5 +1,5 @@
 // "u takes x. If x is not v, x's old holder lets x go and takes the gateway it was seen from, and so on until v has a holder."
-use crate::held::Rows;
+use crate::held::Row;
 use crate::held::move_row;
 ghost use mathlib.Core.Path.{_≡_};
 ghost use Rattle.search.specs.Search.{shift};
@@ -7,7 +7,7 @@ ghost use Rattle.search.specs.Pre.{takings};
 ghost use Rattle.search.specs.RowPre.{Taken, RowsKept};
 
 // u takes x, which leaves the row of its old holder and joins that of u. Returns the old holder.
-pub fn take(x: u16, u: u16, rows: &mut Rows, holders: &mut [u16]) -> u16
+pub fn take(x: u16, u: u16, rows: &mut [Row], holders: &mut [u16]) -> u16
     ensures { λ r. ⌜ Taken x u (now (holders .entry)) (now (holders .exit)) (now (rows .entry)) (now (rows .exit)) r ⌝ }
 {
     let old = lists::entry(holders, x);
@@ -23,7 +23,7 @@ pub(crate) fn shift_back(
     u: u16,
     x: u16,
     from: &[u16],
-    rows: &mut Rows,
+    rows: &mut [Row],
     holders: &mut [u16],
 ) -> u16
     ensures holders { λ _. ⌜ now (holders .exit) ≡ shift n v (now (from .entry)) u x (now (holders .entry)) ⌝ }

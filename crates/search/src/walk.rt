@@ -1,6 +1,6 @@
 // The search for a gateway with a place free. What a gateway holds, it learns from the table alone.
 use crate::Walked;
-use crate::held::Rows;
+use crate::held::Row;
 use crate::held::has_place;
 use crate::held::join;
 use crate::noted::note;
@@ -18,7 +18,7 @@ fn look(
     limits: &[u8],
     x: u16,
     u: u16,
-    rows: &Rows,
+    rows: &[Row],
     queue: &mut [u16],
     tail: usize,
     from: &mut [u16],
@@ -46,7 +46,7 @@ fn visit(
     x: u16,
     links: &[u16],
     next: &[u16],
-    rows: &Rows,
+    rows: &[Row],
     queue: &mut [u16],
     tail: usize,
     from: &mut [u16],
@@ -76,7 +76,7 @@ pub(crate) fn walk(
     limits: &[u8],
     links: &[u16],
     next: &[u16],
-    rows: &Rows,
+    rows: &[Row],
     queue: &mut [u16],
     tail: usize,
     from: &mut [u16],

@@ -15,15 +15,18 @@ nones-requires c κs = search needs
 slice-aggregate-settle : tie.Need-slice-aggregate-settle
 slice-aggregate-settle c = search needs
 
+slice-aggregate-settle-2 : tie.Need-slice-aggregate-settle-2
+slice-aggregate-settle-2 c = search needs
+
 array-borrow-prefix-from : tie.Need-array-borrow-prefix-from
 array-borrow-prefix-from c = search needs
 
-slice-aggregate-settle-2 : tie.Need-slice-aggregate-settle-2
-slice-aggregate-settle-2 c = let marks = c .before .before .before .before in
+slice-aggregate-settle-3 : tie.Need-slice-aggregate-settle-3
+slice-aggregate-settle-3 c = let marks = c .before .before .before .before in
     place-marks (marks .nones .ensures) (marks .before .before .before .before .before .before .before .before .pre .1 .few)
 
-slice-aggregate-settle-3 : tie.Need-slice-aggregate-settle-3
-slice-aggregate-settle-3 c = search needs
+slice-aggregate-settle-4 : tie.Need-slice-aggregate-settle-4
+slice-aggregate-settle-4 c = search needs
 
 settle-requires : tie.Need-settle-requires
 settle-requires c κs = let marks = c .before .before .before .before .before .before in
@@ -36,7 +39,7 @@ same-length : tie.Need-same-length
 same-length c = search needs
 
 returns : tie.Need-returns
-returns c = let called = c .before .before .before .before .before in
+returns c = let called = c .before .before .before .before .before .before in
     let marks = called .before .before .before .before .before .before .before in
     let start = marks .before .before .before .before .before .before .before .before in
     unmarked-outcome _ _ _ _ _ _ _ (start .pre .1) (workspace (marks .nones .ensures) (marks .before .zeros .ensures) (start .pre .1 .few) .unseen) (called .settle .ensures .0)
@@ -49,9 +52,10 @@ place-unheld-spec =
     zeros-requires
     nones-requires
     slice-aggregate-settle
-    array-borrow-prefix-from
     slice-aggregate-settle-2
+    array-borrow-prefix-from
     slice-aggregate-settle-3
+    slice-aggregate-settle-4
     settle-requires
     same-length
     returns)

@@ -25,32 +25,38 @@ same-length : tie.Need-same-length
 same-length c = search needs
 
 same-length-2 : tie.Need-same-length-2
-same-length-2 c = let called = c .before .before .before .before .before .before .before .before .before .before .before .before .before .before .before in
-    let start = called .before .before .before .before .before .before .before .before .before .before .before .before .before in
-    called .walk .kept .1 .1 .1 .1 .0 ∙ length-set (start .args .queue .now) 0 (start .args .v)
+same-length-2 c = search needs
 
 same-length-3 : tie.Need-same-length-3
-same-length-3 c = search needs
+same-length-3 c = let called = c .before .before .before .before .before .before .before .before .before .before .before .before .before .before .before .before in
+    let start = called .before .before .before .before .before .before .before .before .before .before .before .before .before in
+    called .walk .kept .1 .1 .1 .1 .0 ∙ length-set (start .args .queue .now) 0 (start .args .v)
 
 same-length-4 : tie.Need-same-length-4
 same-length-4 c = search needs
 
+same-length-5 : tie.Need-same-length-5
+same-length-5 c = search needs
+
 returns : tie.Need-returns
-returns c = let known = c .before .before .before .before .before .before .before in
+returns c = let known = c .before .before .before .before .before .before .before .before in
     let called = known .before .before .before .before .before .before .before .before in
     let start = called .before .before .before .before .before .before .before .before .before .before .before .before .before in
-    (settle-kept _ _ (start .pre .1) (called .walk .ensures .0) _ (known .w .given .1) (c .before .before .shift-back .ensures), called .walk .ensures .1)
-
-same-length-5 : tie.Need-same-length-5
-same-length-5 c = let called = c .before .before .before .before .before .before .before .before in
-    let start = called .before .before .before .before .before .before .before .before .before .before .before .before .before in
-    called .walk .kept .1 .1 .1 .1 .0 ∙ length-set (start .args .queue .now) 0 (start .args .v)
+    (settle-kept _ _ (start .pre .1) (called .walk .ensures .0) _ (known .w .given .1) (c .before .before .before .shift-back .ensures), called .walk .ensures .1)
 
 same-length-6 : tie.Need-same-length-6
 same-length-6 c = search needs
 
 same-length-7 : tie.Need-same-length-7
-same-length-7 c = search needs
+same-length-7 c = let called = c .before .before .before .before .before .before .before .before in
+    let start = called .before .before .before .before .before .before .before .before .before .before .before .before .before in
+    called .walk .kept .1 .1 .1 .1 .0 ∙ length-set (start .args .queue .now) 0 (start .args .v)
+
+same-length-8 : tie.Need-same-length-8
+same-length-8 c = search needs
+
+same-length-9 : tie.Need-same-length-9
+same-length-9 c = search needs
 
 returns-2 : tie.Need-returns-2
 returns-2 c = let called = c .before .before .before .before .before .before .before .before in
@@ -70,8 +76,10 @@ settle-spec =
     same-length-2
     same-length-3
     same-length-4
-    returns
     same-length-5
+    returns
     same-length-6
     same-length-7
+    same-length-8
+    same-length-9
     returns-2)

@@ -7,11 +7,11 @@ use Rattle.plan.proofs.placings.place_all.Statement.{statement}
 use Rattle.plan.proofs.placings.place_all.Tie as tie
 
 abbrev Inv-loop : tie.InvT-loop
-Inv-loop file way placings limits links next order rows₀ holders₀ queue₀ dead₀ from₀ n moved₀ i₀ rows holders queue dead from moved i =
-    Placed way file placings links limits holders₀ queue₀ dead₀ from₀ holders rows queue dead from moved i
+Inv-loop file way placings limits links next order rows₀ holders₀ queue₀ dead₀ looked₀ n moved₀ i₀ rows holders queue dead looked moved i =
+    Placed way file placings links limits holders₀ queue₀ dead₀ looked₀ holders rows queue dead looked moved i
 
 abbrev μ-loop : tie.MeasureT-loop
-μ-loop file way placings limits links next order rows₀ holders₀ queue₀ dead₀ from₀ n moved₀ i₀ rows holders queue dead from moved i =
+μ-loop file way placings limits links next order rows₀ holders₀ queue₀ dead₀ looked₀ n moved₀ i₀ rows holders queue dead looked moved i =
     placings - i
 
 gateways-requires : tie.Need-gateways-requires Inv-loop μ-loop
@@ -43,7 +43,7 @@ add-moved c = let called = c .before .before .before .before .before .before .be
     let turn = called .before .before .before .before .before .before .before in
     let counted = turn .before .before in
     let start = counted .before .before .before .before .before .before .before .before .before .before in
-    omega (arith, placed-fits _ _ _ _ _ _ _ (start .pre) (turn .before .loop .inv) (turn .loop-test .taken) refl _ _ (counted .gateways .ensures) (called .place-one .ensures))
+    omega (arith, placed-fits _ _ _ _ _ _ _ (start .pre) (turn .before .loop .inv) (turn .loop-test .taken) refl _ (counted .gateways .ensures) (called .place-one .ensures))
 
 add-i : tie.Need-add-i Inv-loop μ-loop
 add-i c = search needs
@@ -56,7 +56,7 @@ loop-again c = let called = c .before .before .before .before .before .before .b
     let turn = called .before .before .before .before .before .before .before in
     let counted = turn .before .before in
     let start = counted .before .before .before .before .before .before .before .before .before .before in
-    placed-turn _ _ _ _ _ _ _ (start .pre) (turn .before .loop .inv) (turn .loop-test .taken) refl _ _ (counted .gateways .ensures) (called .place-one .ensures) _
+    placed-turn _ _ _ _ _ _ _ (start .pre) (turn .before .loop .inv) (turn .loop-test .taken) refl _ (counted .gateways .ensures) (called .place-one .ensures) _ _
     (called .place-one .kept .1 .1 .1 .1 .1 .1 .1 .0, called .place-one .kept .1 .1 .1 .1 .1 .1 .1 .1 .0, called .place-one .kept .1 .1 .1 .1 .1 .1 .1 .1 .1 .0, called .place-one .kept .1 .1 .1 .1 .1 .1 .1 .1 .1 .1 .0)
 
 same-length : tie.Need-same-length Inv-loop μ-loop

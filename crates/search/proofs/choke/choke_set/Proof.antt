@@ -23,13 +23,16 @@ nones-requires c κs = search needs
 slice-aggregate-write-set : tie.Need-slice-aggregate-write-set
 slice-aggregate-write-set c = search needs
 
+slice-aggregate-write-set-2 : tie.Need-slice-aggregate-write-set-2
+slice-aggregate-write-set-2 c = search needs
+
 array-borrow-prefix-from : tie.Need-array-borrow-prefix-from
 array-borrow-prefix-from c = let marks = c .before .before in
     let test = marks .before .before .before in
     marks-room (marks .nones .ensures) (choke-may _ _ _ (test .before .is-chokeable .ensures) (test .if1 .left) .0 .few)
 
-slice-aggregate-write-set-2 : tie.Need-slice-aggregate-write-set-2
-slice-aggregate-write-set-2 c = let marks = c .before .before .before in
+slice-aggregate-write-set-3 : tie.Need-slice-aggregate-write-set-3
+slice-aggregate-write-set-3 c = let marks = c .before .before .before in
     let test = marks .before .before .before in
     place-marks (marks .nones .ensures) (choke-may _ _ _ (test .before .is-chokeable .ensures) (test .if1 .left) .0 .few)
 
@@ -59,8 +62,9 @@ choke-set-spec =
     zeros-requires
     nones-requires
     slice-aggregate-write-set
-    array-borrow-prefix-from
     slice-aggregate-write-set-2
+    array-borrow-prefix-from
+    slice-aggregate-write-set-3
     write-set-requires
     same-length
     returns-2)

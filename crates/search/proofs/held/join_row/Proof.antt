@@ -12,11 +12,14 @@ index-1-enter c = search needs
 enter-requires : tie.Need-enter-requires
 enter-requires c κs = search needs
 
+same-length : tie.Need-same-length
+same-length c = search needs
+
 returns : tie.Need-returns
-returns c = joined-row _ _ _ (c .before .before .if1 .taken) (c .enter .ensures)
+returns c = joined-row _ _ _ (c .enter .ensures)
 
 returns-2 : tie.Need-returns-2
 returns-2 c = joined-none _ _ _ (c .if1 .left)
 
 pub join-row-spec : {M : Type 1} → statement M
-join-row-spec = tie.close (tie.spec mul-enter index-1-enter enter-requires returns returns-2)
+join-row-spec = tie.close (tie.spec mul-enter index-1-enter enter-requires same-length returns returns-2)

@@ -9,8 +9,12 @@ leave-row-requires c κs = search needs
 join-row-requires : tie.Need-join-row-requires
 join-row-requires c κs = search needs
 
+same-length : tie.Need-same-length
+same-length c = search needs
+
 returns : tie.Need-returns
-returns c = moved-rows _ _ _ _ (c .before .before .leave-row .ensures) (c .join-row .ensures)
+returns c = let joined = c .before in
+    moved-rows _ _ _ _ (joined .before .before .before .leave-row .ensures) (joined .join-row .ensures)
 
 pub move-row-spec : {M : Type 1} → statement M
-move-row-spec = tie.close (tie.spec leave-row-requires join-row-requires returns)
+move-row-spec = tie.close (tie.spec leave-row-requires join-row-requires same-length returns)

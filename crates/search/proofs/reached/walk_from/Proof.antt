@@ -25,6 +25,9 @@ slice-aggregate-walk-2 c = search needs
 slice-aggregate-walk-3 : tie.Need-slice-aggregate-walk-3
 slice-aggregate-walk-3 c = search needs
 
+slice-aggregate-walk-4 : tie.Need-slice-aggregate-walk-4
+slice-aggregate-walk-4 c = search needs
+
 walk-requires : tie.Need-walk-requires
 walk-requires c κs = let zeros = c .before .before .before .before .before .before .before in
     let start = zeros .before .before .before .before .before .before in
@@ -50,6 +53,7 @@ walk-from-spec =
     slice-aggregate-walk
     slice-aggregate-walk-2
     slice-aggregate-walk-3
+    slice-aggregate-walk-4
     walk-requires
     same-length
     returns)

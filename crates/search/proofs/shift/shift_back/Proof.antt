@@ -1,5 +1,6 @@
 use borrow.Author.Needs.{needs}
 use Prim.Native.Nat.{_-_}
+use mathlib.Core.Path.{_∙_}
 use Rattle.search.proofs.RowShift.{RowRounds, row-rounds-start, row-rounds-turn, row-rounds-done, row-rounds-end}
 use Rattle.search.proofs.shift.shift_back.Statement.{statement}
 use Rattle.search.proofs.shift.shift_back.Tie as tie
@@ -20,10 +21,14 @@ add-result : tie.Need-add-result Inv-loop μ-loop
 add-result c = search needs
 
 same-length : tie.Need-same-length Inv-loop μ-loop
-same-length c = search needs
+same-length c = let called = c .before .before .before .before in
+    called .take .kept .1 .1 .0 ∙ called .before .before .before .before .loop .inv .wide
+
+same-length-2 : tie.Need-same-length-2 Inv-loop μ-loop
+same-length-2 c = search needs
 
 returns : tie.Need-returns Inv-loop μ-loop
-returns c = let called = c .before .before .before in
+returns c = let called = c .before .before .before .before in
     let turn = called .before .before .before in
     row-rounds-done _ _ _ _ _ _ _ (turn .before .loop .inv) (turn .loop-test .taken) (called .take .ensures) (c .if1 .taken)
 
@@ -37,12 +42,15 @@ loop-less : tie.Need-loop-less Inv-loop μ-loop
 loop-less c = search needs
 
 loop-again : tie.Need-loop-again Inv-loop μ-loop
-loop-again c = let called = c .before .before .before .before in
+loop-again c = let called = c .before .before .before .before .before in
     let turn = called .before .before .before in
-    row-rounds-turn _ _ _ _ _ _ _ (turn .before .loop .inv) (turn .loop-test .taken) (called .take .ensures) (c .before .if1 .left) (c .entry .ensures)
+    row-rounds-turn _ _ _ _ _ _ _ (turn .before .loop .inv) (turn .loop-test .taken) (called .take .ensures) (called .take .kept .1 .1 .0) (c .before .if1 .left) (c .entry .ensures)
 
-same-length-2 : tie.Need-same-length-2 Inv-loop μ-loop
-same-length-2 c = search needs
+same-length-3 : tie.Need-same-length-3 Inv-loop μ-loop
+same-length-3 c = c .before .loop .inv .wide
+
+same-length-4 : tie.Need-same-length-4 Inv-loop μ-loop
+same-length-4 c = search needs
 
 returns-2 : tie.Need-returns-2 Inv-loop μ-loop
 returns-2 c = row-rounds-end _ _ _ _ _ _ _ (c .before .loop .inv) (c .loop-test .left)
@@ -57,10 +65,12 @@ shift-back-spec =
     take-requires
     add-result
     same-length
+    same-length-2
     returns
     entry-requires
     add-k
     loop-less
     loop-again
-    same-length-2
+    same-length-3
+    same-length-4
     returns-2)

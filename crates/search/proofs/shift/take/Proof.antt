@@ -15,9 +15,13 @@ move-row-requires c κs = search needs
 same-length : tie.Need-same-length
 same-length c = search needs
 
+same-length-2 : tie.Need-same-length-2
+same-length-2 c = search needs
+
 returns : tie.Need-returns
-returns c = let put = c .before .before .before .before in
-    takes (put .before .before .entry .ensures) (put .put .ensures) (c .move-row .ensures)
+returns c = let moved = c .before in
+    let put = moved .before .before .before .before in
+    takes (put .before .before .entry .ensures) (put .put .ensures) (moved .move-row .ensures)
 
 pub take-spec : {M : Type 1} → statement M
-take-spec = tie.close (tie.spec entry-requires put-requires move-row-requires same-length returns)
+take-spec = tie.close (tie.spec entry-requires put-requires move-row-requires same-length same-length-2 returns)

@@ -1,8 +1,7 @@
 use Rattle.packing.specs.Plant.{at}
 use Rattle.search.proofs.Noting.{notes-same}
-use Rattle.search.proofs.Looks.{look-is-seen, look-below, look-joins, look-notes, look-is-free, look-is-full}
+use Rattle.search.proofs.Looks.{look-is-seen, look-row, look-joins, look-notes, look-is-free, look-is-full}
 use borrow.Author.Needs.{needs}
-use native.Mathlib.Omega.{arith}
 use Rattle.search.proofs.walk.look.Statement.{statement}
 use Rattle.search.proofs.walk.look.Tie as tie
 
@@ -24,11 +23,10 @@ note-requires c κs = search needs
 mul-has-place : tie.Need-mul-has-place
 mul-has-place c = search needs
 
-index-1-has-place : tie.Need-index-1-has-place
-index-1-has-place c = let left = c .before .before .before .before .before .before .before .before .before in
+shared-slice-element-has-place : tie.Need-shared-slice-element-has-place
+shared-slice-element-has-place c = let left = c .before .before .before .before .before .before .before .before .before in
     let start = left .before .before .before .before .before .before .before in
-    let below = look-below (at (start .args .limits .now)) _ (start .pre .table) (start .pre .has) (left .before .entry .ensures) (left .if1 .left) in
-    omega (arith, start .pre .has .going .few, start .pre .has .gateway)
+    look-row (at (start .args .limits .now)) _ (start .pre .table) (start .pre .has) (left .before .entry .ensures) (left .if1 .left)
 
 byte-requires : tie.Need-byte-requires
 byte-requires c κs = search needs
@@ -56,11 +54,10 @@ returns-2 c = let place = c .before in
 mul-join : tie.Need-mul-join
 mul-join c = search needs
 
-index-1-join : tie.Need-index-1-join
-index-1-join c = let left = c .before .before .before .before .before .before .before .before .before .before .before .before .before .before in
+shared-slice-element-join : tie.Need-shared-slice-element-join
+shared-slice-element-join c = let left = c .before .before .before .before .before .before .before .before .before .before .before .before .before .before in
     let start = left .before .before .before .before .before .before .before in
-    let below = look-below (at (start .args .limits .now)) _ (start .pre .table) (start .pre .has) (left .before .entry .ensures) (left .if1 .left) in
-    omega (arith, start .pre .has .going .few, start .pre .has .gateway)
+    look-row (at (start .args .limits .now)) _ (start .pre .table) (start .pre .has) (left .before .entry .ensures) (left .if1 .left)
 
 join-requires : tie.Need-join-requires
 join-requires c κs = let left = c .before .before .before .before .before .before .before .before .before .before .before .before .before .before .before .before .before in
@@ -99,14 +96,14 @@ look-spec =
     put-requires
     note-requires
     mul-has-place
-    index-1-has-place
+    shared-slice-element-has-place
     byte-requires
     has-place-requires
     same-length-2
     same-length-3
     returns-2
     mul-join
-    index-1-join
+    shared-slice-element-join
     join-requires
     same-length-4
     same-length-5
