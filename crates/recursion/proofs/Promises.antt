@@ -32,6 +32,10 @@ FreedRows n limit k hs rows₀ rows = RowsEnd k n hs rows₀ rows (SmallLimits n
 pub working-below : {n x h : ℕ} {ls next : List ℕ} {rows : List (List ℕ)} {hs marks : List ℕ} → Working n x h ls next rows hs marks → (length next ≡ SLOTS) × (x < GATEWAYS)
 working-below w = (w .index .places, omega (arith, w .few, w .inside))
 
+-- .. and x has a row
+pub working-row : {n x h : ℕ} {ls next : List ℕ} {rows : List (List ℕ)} {hs marks : List ℕ} → Working n x h ls next rows hs marks → x < length rows
+working-row w = omega (arith, w .table .is .wide, w .inside)
+
 -- a call with room for one call more than so many
 pub one-more : {t : Try} (g : ℕ → Try) (least : ℕ) → ((calls : ℕ) → least ≤ calls → t ≡ g (suc calls)) → (calls : ℕ) → least + 1 ≤ calls → t ≡ g calls
 one-more g least f zero l = absurd (omega arith)

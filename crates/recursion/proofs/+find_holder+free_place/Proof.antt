@@ -9,7 +9,7 @@ use native.Mathlib.Omega.{arith}
 use lib.ListN.{length, take}
 use Rattle.packing.specs.Plant.{NONE, HIGHEST, at}
 use Rattle.recursion.specs.Pre.{untried}
-use Rattle.recursion.proofs.Promises.{working-below}
+use Rattle.recursion.proofs.Promises.{working-below, working-row}
 use Rattle.recursion.proofs.Finding.{Finding, finding-start, finding-places, finding-passed, finding-less, finding-works, finding-next, finding-found, finding-on, finding-out}
 use Rattle.recursion.proofs.Freeing.{Freeing, freeing-at-once, freeing-start, freeing-none, freeing-works, freeing-few, freeing-next, freeing-freed, freeing-out}
 use Rattle.recursion.proofs.find_holder.Reads as find-holder
@@ -112,14 +112,17 @@ module _ (t : ℕ) where
   find-take-requires c κs = search needs
 
   find-same-length : find.Need-same-length (find-claims t) (find-at t) find-holder.Post Inv-find μ-find
-  find-same-length c = let called = c .before .before .before .before .before .before .before .before in
-      let turn = called .before .before .before .before .before .before .before .before .before .before .before in
-      c .before .before .take .kept .1 .1 .1 .0 ∙ called .free-place .kept .1 .1 .1 .1 .1 .1 .0 ∙ ap length (turn .before .loop .inv .unchanged)
+  find-same-length c = let called = c .before .before .before .before .before .before .before .before .before .before in
+      c .before .before .before .take .kept .1 .1 .0 ∙ called .free-place .kept .1 .1 .1 .1 .1 .0 ∙ ap length (called .before .before .before .before .before .before .before .before .before .before .before .before .loop .inv .same)
+
+  find-same-length-2 : find.Need-same-length-2 (find-claims t) (find-at t) find-holder.Post Inv-find μ-find
+  find-same-length-2 c = let called = c .before .before .before .before .before .before .before .before .before .before in
+      c .before .before .before .take .kept .1 .1 .1 .0 ∙ called .free-place .kept .1 .1 .1 .1 .1 .1 .0 ∙ ap length (called .before .before .before .before .before .before .before .before .before .before .before .before .loop .inv .unchanged)
 
   find-returns : find.Need-returns (find-claims t) (find-at t) find-holder.Post Inv-find μ-find
-  find-returns c = let taken = c .before .before in
+  find-returns c = let taken = c .before .before .before in
       let then = taken .before .before .before in
-      let called = then .before .before .before in
+      let called = then .before .before .before .before in
       let put = called .before .before .before .before in
       let entry = put .before .before .before in
       let across = entry .before .before .before in
@@ -143,13 +146,16 @@ module _ (t : ℕ) where
       let start = turn .before .before .before .before .before .before .before in
       ⊎-elim
       (λ k.
-      rw (k .10, k .11, k .12)
-      (finding-next _ _ _ _ _ _ _ _ (start .pre .1) (turn .before .loop .inv) (turn .loop-test .taken) (across .across .ensures) (entry .entry .ensures) (k .0 .taken) (k .2 .ensures) (k .6 .ensures .1 .1) (k .6 .ensures .0) (k .6 .ensures .1 .0) (k .9 .left) (c .next-end .ensures)))
+      rw (k .11, k .12, k .13)
+      (finding-next _ _ _ _ _ _ _ _ (start .pre .1) (turn .before .loop .inv) (turn .loop-test .taken) (across .across .ensures) (entry .entry .ensures) (k .0 .taken) (k .2 .ensures) (k .6 .ensures .1 .1) (k .6 .ensures .0) (k .6 .ensures .1 .0) (k .10 .left) (c .next-end .ensures)))
       (λ k. rw (k .1, k .2, k .3) (finding-passed _ _ _ _ _ _ _ _ (start .pre .1) (turn .before .loop .inv) (turn .loop-test .taken) (across .across .ensures) (entry .entry .ensures) (c .next-end .ensures) (k .0 .left)))
       (c .before .if1 .came)
 
-  find-same-length-2 : find.Need-same-length-2 (find-claims t) (find-at t) find-holder.Post Inv-find μ-find
-  find-same-length-2 c = search needs
+  find-same-length-3 : find.Need-same-length-3 (find-claims t) (find-at t) find-holder.Post Inv-find μ-find
+  find-same-length-3 c = ap length (c .before .loop .inv .same)
+
+  find-same-length-4 : find.Need-same-length-4 (find-claims t) (find-at t) find-holder.Post Inv-find μ-find
+  find-same-length-4 c = search needs
 
   find-returns-2 : find.Need-returns-2 (find-claims t) (find-at t) find-holder.Post Inv-find μ-find
   find-returns-2 c = finding-out _ _ _ _ _ _ _ _ (c .before .before .before .before .before .before .before .pre .1) (c .before .loop .inv) (c .loop-test .left)
@@ -159,13 +165,16 @@ module _ (t : ℕ) where
   free-mul-has-place c = search needs
 
   free-index-1-has-place : free.Need-index-1-has-place (free-claims t) (free-at t) free-place.Post Inv-free μ-free
-  free-index-1-has-place c = working-below (c .before .before .before .before .pre .1) .1
+  free-index-1-has-place c = working-row (c .before .before .before .before .pre .1)
 
   free-byte-requires : free.Need-byte-requires (free-claims t) (free-at t) free-place.Post Inv-free μ-free
   free-byte-requires c κs = search needs
 
   free-has-place-requires : free.Need-has-place-requires (free-claims t) (free-at t) free-place.Post Inv-free μ-free
   free-has-place-requires c κs = search needs
+
+  free-same-length : free.Need-same-length (free-claims t) (free-at t) free-place.Post Inv-free μ-free
+  free-same-length c = search needs
 
   free-returns : free.Need-returns (free-claims t) (free-at t) free-place.Post Inv-free μ-free
   free-returns c = let byte = c .before .before in
@@ -182,13 +191,16 @@ module _ (t : ℕ) where
   free-mul-x-2 c = search needs
 
   free-index-1-x : free.Need-index-1-x (free-claims t) (free-at t) free-place.Post Inv-free μ-free
-  free-index-1-x c = working-below (c .before .before .before .before .before .before .before .before .before .before .before .pre .1) .1
+  free-index-1-x c = omega (arith, ap length (c .before .loop .inv .same), working-row (c .before .before .before .before .before .before .before .before .before .before .before .pre .1))
 
   free-index-2-x : free.Need-index-2-x (free-claims t) (free-at t) free-place.Post Inv-free μ-free
   free-index-2-x c = search needs
 
-  free-same-length : free.Need-same-length (free-claims t) (free-at t) free-place.Post Inv-free μ-free
-  free-same-length c = search needs
+  free-same-length-2 : free.Need-same-length-2 (free-claims t) (free-at t) free-place.Post Inv-free μ-free
+  free-same-length-2 c = ap length (c .before .before .before .loop .inv .same)
+
+  free-same-length-3 : free.Need-same-length-3 (free-claims t) (free-at t) free-place.Post Inv-free μ-free
+  free-same-length-3 c = search needs
 
   free-returns-2 : free.Need-returns-2 (free-claims t) (free-at t) free-place.Post Inv-free μ-free
   free-returns-2 c = let turn = c .before .before in
@@ -201,19 +213,22 @@ module _ (t : ℕ) where
       (omega (arith, start .pre .0, turn .before .loop .inv .fewer), freeing-works _ _ _ _ _ _ _ _ (start .pre .1) (turn .before .loop .inv) (turn .loop-test .taken) refl (else .if2 .left))
 
   free-add-result : free.Need-add-result (free-claims t) (free-at t) free-place.Post Inv-free μ-free
-  free-add-result c = let called = c .before .before .before in
+  free-add-result c = let called = c .before .before .before .before in
       let else = called .before .before .before .before in
       let turn = else .before .before in
       let start = turn .before .before .before .before .before .before .before .before .before .before .before in
       omega (arith, freeing-few _ _ _ _ _ _ _ _ (start .pre .1) (turn .before .loop .inv) (turn .loop-test .taken) refl (else .if2 .left) (called .find-holder .ensures .1 .1) (called .find-holder .ensures .0) (c .if3 .taken))
 
-  free-same-length-2 : free.Need-same-length-2 (free-claims t) (free-at t) free-place.Post Inv-free μ-free
-  free-same-length-2 c = let called = c .before .before .before in
-      let turn = called .before .before .before .before .before .before in
-      called .find-holder .kept .1 .1 .1 .1 .1 .1 .0 ∙ ap length (turn .before .loop .inv .unchanged)
+  free-same-length-4 : free.Need-same-length-4 (free-claims t) (free-at t) free-place.Post Inv-free μ-free
+  free-same-length-4 c = let called = c .before .before .before .before in
+      called .find-holder .kept .1 .1 .1 .1 .1 .0 ∙ ap length (called .before .before .before .before .before .before .before .loop .inv .same)
+
+  free-same-length-5 : free.Need-same-length-5 (free-claims t) (free-at t) free-place.Post Inv-free μ-free
+  free-same-length-5 c = let called = c .before .before .before .before in
+      called .find-holder .kept .1 .1 .1 .1 .1 .1 .0 ∙ ap length (called .before .before .before .before .before .before .before .loop .inv .unchanged)
 
   free-returns-3 : free.Need-returns-3 (free-claims t) (free-at t) free-place.Post Inv-free μ-free
-  free-returns-3 c = let called = c .before .before .before in
+  free-returns-3 c = let called = c .before .before .before .before in
       let else = called .before .before .before .before in
       let turn = else .before .before in
       let start = turn .before .before .before .before .before .before .before .before .before .before .before in
@@ -226,14 +241,17 @@ module _ (t : ℕ) where
   free-loop-less c = search needs
 
   free-loop-again : free.Need-loop-again (free-claims t) (free-at t) free-place.Post Inv-free μ-free
-  free-loop-again c = let called = c .before .before .before in
+  free-loop-again c = let called = c .before .before .before .before in
       let else = called .before .before .before .before in
       let turn = else .before .before in
       let start = turn .before .before .before .before .before .before .before .before .before .before .before in
       freeing-next _ _ _ _ _ _ _ _ (start .pre .1) (turn .before .loop .inv) (turn .loop-test .taken) refl (else .if2 .left) (called .find-holder .ensures .1 .1) (called .find-holder .ensures .0) (called .find-holder .ensures .1 .0) (c .if3 .left)
 
-  free-same-length-3 : free.Need-same-length-3 (free-claims t) (free-at t) free-place.Post Inv-free μ-free
-  free-same-length-3 c = search needs
+  free-same-length-6 : free.Need-same-length-6 (free-claims t) (free-at t) free-place.Post Inv-free μ-free
+  free-same-length-6 c = ap length (c .before .loop .inv .same)
+
+  free-same-length-7 : free.Need-same-length-7 (free-claims t) (free-at t) free-place.Post Inv-free μ-free
+  free-same-length-7 c = search needs
 
   free-returns-4 : free.Need-returns-4 (free-claims t) (free-at t) free-place.Post Inv-free μ-free
   free-returns-4 c = freeing-out _ _ _ _ _ _ _ _ (c .before .before .before .before .before .before .before .before .before .before .before .pre .1) (c .before .loop .inv) (c .loop-test .left)
@@ -241,5 +259,5 @@ module _ (t : ℕ) where
 pub +find-holder+free-place-spec : {M : Type 1} → statement M
 +find-holder+free-place-spec =
     close μ-find-holder μ-free-place
-    (λ t. find.spec (find-claims t) (find-at t) find-holder.Post Inv-find μ-find (find-first-end-requires t) (find-loop-holds t) (find-across-requires t) (find-entry-requires t) (find-put-requires t) (find-free-place-requires t) (find-take-requires t) (find-same-length t) (find-returns t) (find-next-end-requires t) (find-loop-less t) (find-loop-again t) (find-same-length-2 t) (find-returns-2 t))
-    (λ t. free.spec (free-claims t) (free-at t) free-place.Post Inv-free μ-free (free-mul-has-place t) (free-index-1-has-place t) (free-byte-requires t) (free-has-place-requires t) (free-returns t) (free-loop-holds t) (free-mul-x t) (free-mul-x-2 t) (free-index-1-x t) (free-index-2-x t) (free-same-length t) (free-returns-2 t) (free-find-holder-requires t) (free-add-result t) (free-same-length-2 t) (free-returns-3 t) (free-add-i t) (free-loop-less t) (free-loop-again t) (free-same-length-3 t) (free-returns-4 t))
+    (λ t. find.spec (find-claims t) (find-at t) find-holder.Post Inv-find μ-find (find-first-end-requires t) (find-loop-holds t) (find-across-requires t) (find-entry-requires t) (find-put-requires t) (find-free-place-requires t) (find-take-requires t) (find-same-length t) (find-same-length-2 t) (find-returns t) (find-next-end-requires t) (find-loop-less t) (find-loop-again t) (find-same-length-3 t) (find-same-length-4 t) (find-returns-2 t))
+    (λ t. free.spec (free-claims t) (free-at t) free-place.Post Inv-free μ-free (free-mul-has-place t) (free-index-1-has-place t) (free-byte-requires t) (free-has-place-requires t) (free-same-length t) (free-returns t) (free-loop-holds t) (free-mul-x t) (free-mul-x-2 t) (free-index-1-x t) (free-index-2-x t) (free-same-length-2 t) (free-same-length-3 t) (free-returns-2 t) (free-find-holder-requires t) (free-add-result t) (free-same-length-4 t) (free-same-length-5 t) (free-returns-3 t) (free-add-i t) (free-loop-less t) (free-loop-again t) (free-same-length-6 t) (free-same-length-7 t) (free-returns-4 t))

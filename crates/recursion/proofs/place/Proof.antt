@@ -1,4 +1,5 @@
 use borrow.Author.Needs.{needs}
+use Rattle.search.proofs.Rows.{rows-whole}
 use Rattle.search.proofs.Tested.{place-free, place-refuses, place-places}
 use Rattle.recursion.specs.Recursion.{recursiveAfter, recursiveMoved}
 use Rattle.recursion.proofs.place.Statement.{statement}
@@ -17,17 +18,21 @@ returns c = place-refuses _ _ _ (c .before .is-placeable .ensures) _ (c .if1 .ta
 gather-requires : tie.Need-gather-requires
 gather-requires c κs = search needs
 
+slice-aggregate-place-kept : tie.Need-slice-aggregate-place-kept
+slice-aggregate-place-kept c = search needs
+
 place-kept-requires : tie.Need-place-kept-requires
 place-kept-requires c κs = let gathered = c .before .before in
     let test = gathered .before .before in
-    record { free = place-free _ _ _ (test .before .is-placeable .ensures) (test .if1 .left); index = test .before .before .before .before .before .before .before .pre; table = gathered .gather .ensures }
+    let free = place-free _ _ _ (test .before .is-placeable .ensures) (test .if1 .left) in
+    record { free = free; index = test .before .before .before .before .before .before .before .pre; table = rows-whole (free .few) (gathered .gather .ensures) }
 
 same-length-2 : tie.Need-same-length-2
 same-length-2 c = search needs
 
 returns-2 : tie.Need-returns-2
 unfolding recursiveAfter recursiveMoved
-returns-2 c = let called = c .before .before in
+returns-2 c = let called = c .before .before .before in
     let test = called .before .before .before .before .before in
     place-places _ _ _ (test .before .is-placeable .ensures) (test .if1 .left) (called .place-kept .ensures .0) (called .place-kept .ensures .1 .0)
 
@@ -39,6 +44,7 @@ place-spec =
     same-length
     returns
     gather-requires
+    slice-aggregate-place-kept
     place-kept-requires
     same-length-2
     returns-2)

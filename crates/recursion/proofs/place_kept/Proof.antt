@@ -20,8 +20,11 @@ find-holder-requires c κs = let filled = c .before .before .before .before in
 same-length : tie.Need-same-length
 same-length c = search needs
 
+same-length-2 : tie.Need-same-length-2
+same-length-2 c = search needs
+
 returns : tie.Need-returns
-returns c = let called = c .before .before in
+returns c = let called = c .before .before .before in
     let filled = called .before .before .before .before .before in
     let marks = filled .before .before in
     place-leaves (marks .before .before .before .before .before .pre) (marks .zeros .ensures) (filled .with-none .ensures) _ (called .find-holder .ensures .0) (called .find-holder .ensures .1 .0)
@@ -35,4 +38,5 @@ place-kept-spec =
     with-none-requires
     find-holder-requires
     same-length
+    same-length-2
     returns)
