@@ -15,7 +15,7 @@ use Rattle.packing.specs.Holders.{held, Feasible}
 use Rattle.packing.specs.Moved.{moved}
 use Rattle.packing.proofs.Tests.{by-bool, clash, below-suc, and-l, not-i, not-test, or-cases, or-l, or-r, and-i}
 use Rattle.packing.proofs.Prefixes.{Among, order-place}
-use Rattle.search.specs.Table.{heldTable}
+use Rattle.search.specs.RowPre.{RowsOf}
 use Rattle.search.specs.ChokeSet.{inChoke}
 use Rattle.search.specs.Pre.{Placeable}
 use Rattle.search.specs.Dead.{Dead, Past, DeadThen, leftThen}
@@ -46,17 +46,18 @@ pub record LeftSoFar (w : Way) (file : List ℕ) (j : ℕ) (limit : ℕ → ℕ)
   pub nobody : isQueued w ≡ false → dead ≡ replicate (fileN file) NONE
 
 -- the first j are placed
-pub record Placed (w : Way) (file : List ℕ) (k : ℕ) (ls ts hs₀ queue₀ dead₀ looked₀ hs : List ℕ) (rows : List (List ℕ)) (queue dead looked : List ℕ) (total j : ℕ) : Type 0 where
+pub record Placed (w : Way) (file : List ℕ) (k : ℕ) (ls ts hs₀ : List ℕ) (rows₀ : List (List ℕ)) (queue₀ dead₀ looked₀ hs : List ℕ) (rows : List (List ℕ)) (queue dead looked : List ℕ) (total j : ℕ) : Type 0 where
   pub upto : j ≤ k
   pub holders : hs ≡ stateBy w file j .holders
-  pub table : rows ≡ heldTable (fileN file) hs
+  pub table : RowsOf (fileN file) hs rows
+  pub wide : length rows ≡ length rows₀
   pub long : (length hs ≡ length hs₀) × (length queue ≡ length queue₀) × (length dead ≡ length dead₀) × (length looked ≡ length looked₀)
   pub moves : total ≡ fileMovesBy w file j
   pub so-far : LeftSoFar w file j (at ts) ls hs dead
 
 -- What the short search leaves.
 pub one-kept : {n : ℕ} {limit : ℕ → ℕ} {ls hs : List ℕ} {v : ℕ} {rows : List (List ℕ)} {queue dead looked : List ℕ} → Past n limit ls hs v rows queue dead looked → {hs' new : List ℕ} {r number : ℕ} {rows' : List (List ℕ)}
-    → (hs' ≡ new) × ((r ≡ number) × (Fits n limit hs v → rows' ≡ heldTable n new)) → (hs' ≡ new) × ((r ≡ number) × ((rows' ≡ heldTable n new) × (dead ≡ dead)))
+    → (hs' ≡ new) × ((r ≡ number) × (Fits n limit hs v → RowsOf n new rows')) → (hs' ≡ new) × ((r ≡ number) × (RowsOf n new rows' × (dead ≡ dead)))
 one-kept p (e, (f, g)) = (e, (f, (g (record { limits = p .fits; own = λ l. absurd (omega (arith, p .none)) }), refl)))
 
 -- the dead by the way
@@ -89,12 +90,13 @@ module _
     z : fileRefusal file ≡ 0
     z = p .loaded .accepted
 
-    pub placed-start : Placed w file k ls ts hs₀ queue₀ dead₀ looked₀ hs₀ rows₀ queue₀ dead₀ looked₀ 0 0
+    pub placed-start : Placed w file k ls ts hs₀ rows₀ queue₀ dead₀ looked₀ hs₀ rows₀ queue₀ dead₀ looked₀ 0 0
     placed-start =
         record {
           upto = omega arith;
           holders = p .first;
           table = p .table;
+          wide = refl;
           long = (refl, refl, refl, refl);
           moves = sym (first-moves file z w);
           so-far = left-nobody w file 0 (at ts) ls hs₀ (p .none) (λ _. refl);
@@ -102,7 +104,7 @@ module _
 
     module _
         {hs : List ℕ} {rows : List (List ℕ)} {queue dead looked : List ℕ} {total j v : ℕ}
-        (now : Placed w file k ls ts hs₀ queue₀ dead₀ looked₀ hs rows queue dead looked total j) (l : j < k) (is : v ≡ at os j)
+        (now : Placed w file k ls ts hs₀ rows₀ queue₀ dead₀ looked₀ hs rows queue dead looked total j) (l : j < k) (is : v ≡ at os j)
       where
         below : j < fileN file
         below = omega (arith, p .within)
@@ -197,9 +199,9 @@ module _
             {n r : ℕ} {hs' : List ℕ} {rows' : List (List ℕ)} (dead' : List ℕ) (e : n ≡ fileN file)
             (d : (hs' ≡ placedBy w n (at ts) ls hs v)
             × ((r ≡ moved n (at hs) (at (placedBy w n (at ts) ls hs v)))
-            × ((rows' ≡ heldTable n (placedBy w n (at ts) ls hs v)) × DeadBy w n (at ts) ls hs v dead (placedBy w n (at ts) ls hs v) dead')))
+            × (RowsOf n (placedBy w n (at ts) ls hs v) rows' × DeadBy w n (at ts) ls hs v dead (placedBy w n (at ts) ls hs v) dead')))
           where
-            left-then : (hs' ≡ after) × ((r ≡ moved (fileN file) (at hs) (at after)) × ((rows' ≡ heldTable (fileN file) after) × DeadBy w (fileN file) (at ts) ls hs v dead after dead'))
+            left-then : (hs' ≡ after) × ((r ≡ moved (fileN file) (at hs) (at after)) × (RowsOf (fileN file) after rows' × DeadBy w (fileN file) (at ts) ls hs v dead after dead'))
             left-then = rw e at d
 
             moves-next : total + r ≡ fileMovesBy w file (j + 1)
@@ -212,19 +214,20 @@ module _
             unfolding MovesFit
             placed-fits = rw moves-next (file-moves-fit w file (j + 1))
 
-            pub placed-turn : (queue' looked' : List ℕ) → (length hs' ≡ length hs) × (length queue' ≡ length queue) × (length dead' ≡ length dead) × (length looked' ≡ length looked)
-                → Placed w file k ls ts hs₀ queue₀ dead₀ looked₀ hs' rows' queue' dead' looked' (total + r) (j + 1)
-            placed-turn queue' looked' long =
+            pub placed-turn : (queue' looked' : List ℕ) → length rows' ≡ length rows → (length hs' ≡ length hs) × (length queue' ≡ length queue) × (length dead' ≡ length dead) × (length looked' ≡ length looked)
+                → Placed w file k ls ts hs₀ rows₀ queue₀ dead₀ looked₀ hs' rows' queue' dead' looked' (total + r) (j + 1)
+            placed-turn queue' looked' same long =
                 record {
                   upto = omega arith;
                   holders = left-then .0 ∙ after-is;
-                  table = left-then .1 .1 .0 ∙ ap (heldTable (fileN file)) (sym (left-then .0));
+                  table = subst (λ (l : List ℕ). RowsOf (fileN file) l rows') (sym (left-then .0)) (left-then .1 .1 .0);
+                  wide = same ∙ now .wide;
                   long = (long .0 ∙ now .long .0, long .1 ∙ now .long .1, long .2 ∙ now .long .2, long .3 ∙ now .long .3);
                   moves = moves-next;
                   so-far = subst (λ (l : List ℕ). LeftSoFar w file (j + 1) (at ts) ls l dead') (sym (left-then .0)) (dead-next dead' (left-then .1 .1 .1));
                 }
 
-    pub placed-end : {hs : List ℕ} {rows : List (List ℕ)} {queue dead looked : List ℕ} {total j : ℕ} → Placed w file k ls ts hs₀ queue₀ dead₀ looked₀ hs rows queue dead looked total j → k ≤ j
+    pub placed-end : {hs : List ℕ} {rows : List (List ℕ)} {queue dead looked : List ℕ} {total j : ℕ} → Placed w file k ls ts hs₀ rows₀ queue₀ dead₀ looked₀ hs rows queue dead looked total j → k ≤ j
         → (hs ≡ stateBy w file k .holders) × ((total ≡ fileMovesBy w file k) × DeadChoke w file k dead)
     placed-end {hs} {dead = dead} {j = j} now l = let end : j ≡ k = le-antisymm (now .upto) l in (now .holders ∙ ap (λ (i : ℕ). stateBy w file i .holders) end, (now .moves ∙ ap (fileMovesBy w file) end, chosen end))
       where

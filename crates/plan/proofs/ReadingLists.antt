@@ -18,7 +18,7 @@ use Rattle.search.specs.Search.{seen}
 use Rattle.search.specs.ChokeSet.{inChoke, chokeByte, chokeWritten}
 use Rattle.search.specs.ChokePre.{seenByte}
 use Rattle.search.proofs.Tested.{chokeable-holds, choke-written}
-use Rattle.search.proofs.Rows.{take-replicate, table-none}
+use Rattle.search.proofs.Rows.{take-replicate, rows-none}
 use Rattle.search.proofs.Settling.{marks-room, place-marks}
 use Rattle.stars.specs.Stars.{leaderList, leadersWritten}
 use Rattle.stars.proofs.Lent.{leaders-written}
@@ -60,14 +60,17 @@ module _ (w : Way) (file : List ℕ) (k : ℕ) {ls next os ts hs dead : List ℕ
   pub making-room : {n : ℕ} → n ≡ fileN file → n ≤ length hs
   making-room e = rw (e, m .zeros, length-replicate) (few file (m .loaded))
 
-  pub making-placings : {n : ℕ} {hs' queue looked : List ℕ} {rows : List (List ℕ)} → n ≡ fileN file → hs' ≡ written n (replicate n NONE) hs → rows ≡ replicate GATEWAYS (replicate HIGHEST NONE) → queue ≡ replicate GATEWAYS 0
+  pub making-few : {n : ℕ} → n ≡ fileN file → n ≤ GATEWAYS
+  making-few e = rw e (few file (m .loaded))
+
+  pub making-placings : {n : ℕ} {hs' queue looked : List ℕ} {rows : List (List ℕ)} (c : ℕ) → n ≡ fileN file → n ≤ c → c ≤ GATEWAYS → hs' ≡ written n (replicate n NONE) hs → rows ≡ replicate c (replicate HIGHEST NONE) → queue ≡ replicate GATEWAYS 0
       → looked ≡ replicate GATEWAYS 0 → Placings w file k ls next os ts hs' rows queue dead looked
-  making-placings {n} {hs'} {queue} {looked} e held table zeros zeros₂ =
+  making-placings {n} {hs'} {queue} {looked} c e wide most held table zeros zeros₂ =
       record {
         loaded = m .loaded;
         within = m .within;
         first = held ∙ rw (e, m .zeros) (sym (first-holders file (m .loaded .accepted) w));
-        table = table ∙ table-none (fileN file) hs' (λ v l. ap (λ (k : List ℕ). at k v) held ∙ rw e (repeated-at (fileN file) NONE hs v l));
+        table = rows-none (fileN file) hs' c (rw (← e) wide) most (λ v l. ap (λ (k : List ℕ). at k v) held ∙ rw e (repeated-at (fileN file) NONE hs v l)) table;
         places = rw (zeros, length-replicate) (few file (m .loaded));
         none = m .none;
         room = rw (zeros₂, length-replicate) (few file (m .loaded));

@@ -7,7 +7,7 @@ use lib.ListN.{length, replicate}
 use Rattle.packing.specs.Plant.{GATEWAYS, NONE, at}
 use Rattle.chains.specs.Index.{Index}
 use Rattle.search.specs.Search.{seen}
-use Rattle.search.specs.Table.{heldTable}
+use Rattle.search.specs.RowPre.{RowsOf}
 use Rattle.search.specs.ChokeSet.{inChoke}
 use Rattle.search.specs.Dead.{DeadThen}
 use Rattle.planner.specs.declared.Way.{Way}
@@ -34,12 +34,12 @@ pub record Loaded (file ls next os ts : List ℕ) : Type 0 where
   pub order : (i : ℕ) → i < fileN file → at os i ≡ at (fileOrder file) i
   pub limits : (u : ℕ) → u < fileN file → at ts u ≡ fileLimit file u
 
--- .. and what k placings work on: holders of which none is one, the table of them, a queue, marks of nobody, and room to note whom a search marks
+-- .. and what k placings work on: holders of which none is one, their rows, a queue, marks of nobody, and room to note whom a search marks
 pub record Placings (w : Way) (file : List ℕ) (k : ℕ) (ls next os ts hs : List ℕ) (rows : List (List ℕ)) (queue dead looked : List ℕ) : Type 0 where
   pub loaded : Loaded file ls next os ts
   pub within : k ≤ fileN file
   pub first : hs ≡ stateBy w file 0 .holders
-  pub table : rows ≡ heldTable (fileN file) hs
+  pub table : RowsOf (fileN file) hs rows
   pub places : fileN file ≤ length queue
   pub none : dead ≡ replicate (fileN file) NONE
   pub room : fileN file ≤ length looked

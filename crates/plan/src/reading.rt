@@ -28,9 +28,26 @@ pub(crate) fn make(
 {
     let end = plant_file::gateways(file) as usize;
     lists::fill::with_none(end, holders);
-    let mut rows = search::held::empty_rows();
     let mut queue = lists::marks::zeros();
     let mut looked = lists::marks::zeros();
+    if end <= search::held::FEW {
+        let mut few = search::held::few_rows();
+        return place_all(
+            file,
+            way,
+            placings,
+            limits,
+            links,
+            next,
+            order,
+            &mut few,
+            holders,
+            &mut queue,
+            dead,
+            &mut looked,
+        );
+    }
+    let mut rows = search::held::empty_rows();
     place_all(
         file,
         way,

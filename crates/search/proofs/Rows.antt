@@ -27,10 +27,10 @@ use Rattle.search.proofs.Queue.{heldBy-length, heldBy-out}
 use Rattle.search.proofs.Ascending.{held-ascend}
 
 -- the first n of a list of equal entries
-pub take-replicate : (n m a : ℕ) → n ≤ m → take n (replicate m a) ≡ replicate n a
+pub take-replicate : {A : Type 0} (n m : ℕ) (a : A) → n ≤ m → take n (replicate m a) ≡ replicate n a
 take-replicate zero m a h = refl
 take-replicate (suc n) zero a h = absurd (omega arith)
-take-replicate (suc n) (suc m) a h = ap {B = List ℕ} (λ l. a ∷ l) (take-replicate n m a (omega arith))
+take-replicate {A} (suc n) (suc m) a h = ap {B = List A} (λ l. a ∷ l) (take-replicate n m a (omega arith))
 
 -- a default does not matter below the length
 pub default-below : {A : Type 0} (l : List A) (i : ℕ) (a b : A) → i < length l → getD l i a ≡ getD l i b
@@ -199,8 +199,16 @@ unfolding heldBy listWhere
 nobody-held zero hs u l none = refl
 nobody-held (suc n) hs u l none = rw (ne-eqb (at hs n) u (λ e. omega (arith, e, none n (omega arith))), nobody-held n hs u l (λ v q. none v (omega arith)))
 
-pub table-none : (n : ℕ) (hs : List ℕ) → ((v : ℕ) → v < n → at hs v ≡ NONE) → replicate GATEWAYS (replicate HIGHEST NONE) ≡ heldTable n hs
+table-none : (n : ℕ) (hs : List ℕ) → ((v : ℕ) → v < n → at hs v ≡ NONE) → replicate GATEWAYS (replicate HIGHEST NONE) ≡ heldTable n hs
 unfolding heldRow asRow
 table-none n hs none =
     table-is n hs (replicate GATEWAYS (replicate HIGHEST NONE)) (length-replicate GATEWAYS (replicate HIGHEST NONE))
     (λ u l. getD-replicate GATEWAYS u (replicate HIGHEST NONE) [] l ∙ rw (nobody-held n hs u l none) (sym (take-replicate HIGHEST HIGHEST NONE (omega arith))))
+
+pub rows-none : (n : ℕ) (hs : List ℕ) (c : ℕ) {rows : List (List ℕ)} → n ≤ c → c ≤ GATEWAYS → ((v : ℕ) → v < n → at hs v ≡ NONE) → rows ≡ replicate c (replicate HIGHEST NONE) → RowsOf n hs rows
+rows-none n hs c wide few none is =
+    rw is
+    (record {
+      wide = rw length-replicate wide;
+      is = sym (take-replicate c GATEWAYS (replicate HIGHEST NONE) few) ∙ ap (take c) (table-none n hs none) ∙ ap (λ (k : ℕ). take k (heldTable n hs)) (sym (length-replicate c (replicate HIGHEST NONE)));
+    })

@@ -22,6 +22,15 @@ pub fn empty_rows() -> Rows
     [[lists::NONE; ROW]; lists::PLACES]
 }
 
+// The same for numbers below 128: small plants need no more, and are spared the clearing of all.
+pub const FEW: usize = 128;
+
+pub fn few_rows() -> [Row; FEW]
+    ensures { λ r. ⌜ r ≡ replicate 128 (replicate HIGHEST NONE) ⌝ }
+{
+    [[lists::NONE; ROW]; FEW]
+}
+
 // One pass over the holders: v takes the next place in the row of its holder.
 pub fn gather(n: u16, holders: &[u16]) -> Rows
     ensures { λ r. ⌜ r ≡ heldTable n (now (holders .entry)) ⌝ }

@@ -8,7 +8,7 @@ use Rattle.plan.proofs.placings.place_all.Tie as tie
 
 abbrev Inv-loop : tie.InvT-loop
 Inv-loop file way placings limits links next order rows₀ holders₀ queue₀ dead₀ looked₀ n moved₀ i₀ rows holders queue dead looked moved i =
-    Placed way file placings links limits holders₀ queue₀ dead₀ looked₀ holders rows queue dead looked moved i
+    Placed way file placings links limits holders₀ rows₀ queue₀ dead₀ looked₀ holders rows queue dead looked moved i
 
 abbrev μ-loop : tie.MeasureT-loop
 μ-loop file way placings limits links next order rows₀ holders₀ queue₀ dead₀ looked₀ n moved₀ i₀ rows holders queue dead looked moved i =
@@ -39,7 +39,7 @@ cast-moved : tie.Need-cast-moved Inv-loop μ-loop
 cast-moved c = search needs
 
 add-moved : tie.Need-add-moved Inv-loop μ-loop
-add-moved c = let called = c .before .before .before .before .before .before .before .before in
+add-moved c = let called = c .before .before .before .before .before .before .before .before .before in
     let turn = called .before .before .before .before .before .before .before in
     let counted = turn .before .before in
     let start = counted .before .before .before .before .before .before .before .before .before .before in
@@ -52,15 +52,15 @@ loop-less : tie.Need-loop-less Inv-loop μ-loop
 loop-less c = search needs
 
 loop-again : tie.Need-loop-again Inv-loop μ-loop
-loop-again c = let called = c .before .before .before .before .before .before .before .before in
+loop-again c = let called = c .before .before .before .before .before .before .before .before .before in
     let turn = called .before .before .before .before .before .before .before in
     let counted = turn .before .before in
     let start = counted .before .before .before .before .before .before .before .before .before .before in
-    placed-turn _ _ _ _ _ _ _ (start .pre) (turn .before .loop .inv) (turn .loop-test .taken) refl _ (counted .gateways .ensures) (called .place-one .ensures) _ _
+    placed-turn _ _ _ _ _ _ _ (start .pre) (turn .before .loop .inv) (turn .loop-test .taken) refl _ (counted .gateways .ensures) (called .place-one .ensures) _ _ (called .place-one .kept .1 .1 .1 .1 .1 .1 .0)
     (called .place-one .kept .1 .1 .1 .1 .1 .1 .1 .0, called .place-one .kept .1 .1 .1 .1 .1 .1 .1 .1 .0, called .place-one .kept .1 .1 .1 .1 .1 .1 .1 .1 .1 .0, called .place-one .kept .1 .1 .1 .1 .1 .1 .1 .1 .1 .1 .0)
 
 same-length : tie.Need-same-length Inv-loop μ-loop
-same-length c = search needs
+same-length c = c .before .loop .inv .wide
 
 same-length-2 : tie.Need-same-length-2 Inv-loop μ-loop
 same-length-2 c = search needs
@@ -70,6 +70,9 @@ same-length-3 c = search needs
 
 same-length-4 : tie.Need-same-length-4 Inv-loop μ-loop
 same-length-4 c = search needs
+
+same-length-5 : tie.Need-same-length-5 Inv-loop μ-loop
+same-length-5 c = search needs
 
 returns : tie.Need-returns Inv-loop μ-loop
 returns c = let start = c .before .before .before .before .before .before .before .before .before .before .before .before in placed-end _ _ _ _ _ _ _ (start .pre) (c .before .loop .inv) (c .loop-test .left)
@@ -95,4 +98,5 @@ place-all-spec =
     same-length-2
     same-length-3
     same-length-4
+    same-length-5
     returns)

@@ -28,18 +28,24 @@ same-length-3 c = search needs
 same-length-4 : tie.Need-same-length-4
 same-length-4 c = search needs
 
-returns : tie.Need-returns
-unfolding placedBy
-returns c = let called = c .before .before .before .before .before .before .before .before in
-    let told = called .before .before .before .before .before .before in
-    rw (told .enum-told .given .1) (called .place-past .ensures)
-
 same-length-5 : tie.Need-same-length-5
 same-length-5 c = search needs
 
+returns : tie.Need-returns
+unfolding placedBy
+returns c = let called = c .before .before .before .before .before .before .before .before .before in
+    let told = called .before .before .before .before .before .before in
+    rw (told .enum-told .given .1) (called .place-past .ensures)
+
+same-length-6 : tie.Need-same-length-6
+same-length-6 c = search needs
+
+same-length-7 : tie.Need-same-length-7
+same-length-7 c = search needs
+
 returns-2 : tie.Need-returns-2
 unfolding placedBy
-returns-2 c = let called = c .before .before in
+returns-2 c = let called = c .before .before .before in
     let told = called .before .before .before in
     let start = told .before .before .before .before .before .before .before .before .before in
     rw (told .enum-told2 .given .1) (one-kept (start .pre .1) (called .place-kept .ensures))
@@ -56,6 +62,8 @@ place-one-spec =
     same-length-2
     same-length-3
     same-length-4
-    returns
     same-length-5
+    returns
+    same-length-6
+    same-length-7
     returns-2)
