@@ -10,7 +10,7 @@ use lib.Dec.{eqb, ltb}
 use lib.ListN.{set, length-set}
 use lib.Seq.{getD-set-same, getD-set-other}
 use borrow.Author.Tests.{eqb-true, eqb-false, ltb-true, ltb-false, not-true}
-use Rattle.packing.specs.Plant.{GATEWAYS, NONE, at}
+use Rattle.packing.specs.Plant.{NONE, at}
 use Rattle.packing.proofs.Tests.{by-bool, below-suc, clash, not-test}
 use Rattle.stars.specs.Stars.{back, onCycle, leadsInTrees, begins, cut, leads}
 use Rattle.stars.specs.Pre.{Treed, Unmet, Rounded, Broken, Led, Reading, Read, goesWith, marked}

@@ -10,7 +10,7 @@ use lib.Dec.{eqb, ltb}
 use lib.ListN.{length, set, length-set}
 use borrow.Author.Tests.{eqb-true, eqb-false, ltb-true, ltb-false, not-true, not-false}
 use Rattle.packing.specs.Count.{count}
-use Rattle.packing.specs.Plant.{GATEWAYS, at}
+use Rattle.packing.specs.Plant.{at}
 use Rattle.packing.proofs.Tests.{by-bool, below-suc, clash}
 use Rattle.packing.proofs.Sums.{count-bound}
 use Rattle.stars.specs.Stars.{holder, back}

@@ -40,7 +40,7 @@ fn rule_five(n: u16, places: &[u16], partners: &[u16], u: u16) -> u16
     pair_leader(places, u, w)
 }
 
-// Each entry of the groups: it goes by that entry alone, so that they are rewritten in place.
+// Each entry of the groups, in place: what it becomes goes by no other entry.
 fn turn_entries(n: u16, places: &[u16], partners: &[u16], groups: &mut [u16])
     requires { ⌜ (n ≤ GATEWAYS) × (Partners n n (at (now groups)) (now partners)) × (n ≡ length (now groups)) ⌝ }
     ensures { λ _. ⌜ now (groups .exit) ≡ listOf n (ruleFive (notLater (at (now (places .entry)))) n (at (now (groups .entry)))) ⌝ }
@@ -53,7 +53,7 @@ fn turn_entries(n: u16, places: &[u16], partners: &[u16], groups: &mut [u16])
     }
 }
 
-// .. by the places in the order. The places and the partners are written to lists that are lent for them.
+// .. by the places in the order. What the lists lent for places and partners held before does not matter.
 pub(crate) fn turn_pairs(
     n: u16,
     order: &[u16],

@@ -15,17 +15,17 @@ ghost use Rattle.packing.specs.Plant.{GATEWAYS};
 ghost use Rattle.stars.specs.Stars.{leaderOf, leaderList, leadersFit, leadersWritten};
 ghost use Rattle.stars.specs.Pre.{Cleared};
 
-// Each gateway's leader by rules 1 to 4: first in the trees, then on the cycles. To clear a list of 1,024 takes longer than to read a small plant, so that one that is done with serves again: groups marks who hangs in a tree before it is written, and first says with whom each goes once none is waited for.
-fn write_groups(n: u16, holders: &[u16], first: &mut [u16], leading: &mut [u16], groups: &mut [u16])
-    requires { ⌜ Cleared n (now first) (now groups) (now leading) ⌝ }
+// Each gateway's leader by rules 1 to 4: first in the trees, then on the cycles. Lists serve twice, so that few are cleared: groups first marks who hangs in a tree, and waits later says with whom the first of a cycle goes.
+fn write_groups(n: u16, holders: &[u16], waits: &mut [u16], leading: &mut [u16], groups: &mut [u16])
+    requires { ⌜ Cleared n (now waits) (now groups) (now leading) ⌝ }
     ensures { λ _. ⌜ now (groups .exit) ≡ listOf n (leaderOf n (now (holders .entry))) ⌝ }
 {
-    trees::lead_trees(n, holders, first, groups, leading);
-    rounds::read_cycles(n, holders, groups, leading, first);
-    reading::leaders_of(n, holders, first, leading, groups);
+    trees::lead_trees(n, holders, waits, groups, leading);
+    rounds::read_cycles(n, holders, groups, leading, waits);
+    reading::leaders_of(n, holders, waits, leading, groups);
 }
 
-// The groups by rules 1 to 4, then rule 5 by the order.
+// The groups by rules 1 to 4, then rule 5 by the order. The two lists to work in serve both.
 fn write_leaders(n: u16, order: &[u16], holders: &[u16], out: &mut [u16])
     requires { ⌜ (n ≤ GATEWAYS) × (n ≡ length (now out)) ⌝ }
     ensures { λ _. ⌜ now (out .exit) ≡ listOf n (leaderList n (now (order .entry)) (now (holders .entry))) ⌝ }
