@@ -59,6 +59,9 @@ module _ (n : ℕ) (l : List ℕ) where
   pub counted-long : {counts : List ℕ} {i : ℕ} → Counted n l counts i → GATEWAYS ≡ length counts
   counted-long {i = i} c = sym (ap length (c .is) ∙ tally-length l i)
 
+  pub counted-same : {counts counts' : List ℕ} {i : ℕ} → counts ≡ replicate GATEWAYS 0 → Counted n l counts' i → length counts' ≡ length counts
+  counted-same e c = sym (counted-long c) ∙ counted-long (counted-start e)
+
   pub counted-turn : {counts counts' : List ℕ} {i x k : ℕ} → Counted n l counts i → i < n → x ≡ at l i → k ≡ at counts x → counts' ≡ set counts x (k + 1) → Counted n l counts' (i + 1)
   counted-turn {i = i} c h f g e = record { upto = omega arith; is = e ∙ rw (g, c .is, f) (tally-suc l i) }
 

@@ -7,9 +7,10 @@ use crate::tests::bit;
 use crate::tests::is_member;
 ghost use mathlib.Core.Path.{_≡_};
 ghost use lib.Dec.{eqb};
+ghost use lib.ListN.{replicate};
 ghost use Rattle.packing.specs.Count.{count};
 ghost use Rattle.packing.specs.Lists.{tallyOf};
-ghost use Rattle.packing.specs.Plant.{at};
+ghost use Rattle.packing.specs.Plant.{GATEWAYS, at};
 ghost use Rattle.packing.specs.Grouping.{memberCount};
 
 // How many entries are x: by holders, how many x holds.
@@ -25,18 +26,26 @@ pub fn count_of(n: u16, list: &[u16], x: u16) -> u16
     k
 }
 
-// How often each number below 1,024 stands among them.
+// How often each number below 1,024 stands among them, counted in a list of zeros.
+pub fn tally_into(n: u16, list: &[u16], counts: &mut [u16])
+    requires { ⌜ now counts ≡ replicate GATEWAYS 0 ⌝ }
+    ensures { λ _. ⌜ now (counts .exit) ≡ tallyOf n (now (list .entry)) ⌝ }
+{
+    let mut i: u16 = 0;
+    while i < n {
+        let x = entry(list, i);
+        let k = entry(counts, x);
+        put(counts, x, k + 1);
+        i += 1;
+    }
+}
+
+// .. in a list of its own.
 pub fn tally(n: u16, list: &[u16]) -> [u16; PLACES]
     ensures { λ r. ⌜ r ≡ tallyOf n (now (list .entry)) ⌝ }
 {
     let mut counts = zeros();
-    let mut i: u16 = 0;
-    while i < n {
-        let x = entry(list, i);
-        let k = entry(&counts, x);
-        put(&mut counts, x, k + 1);
-        i += 1;
-    }
+    tally_into(n, list, &mut counts);
     counts
 }
 

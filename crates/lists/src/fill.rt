@@ -18,16 +18,24 @@ pub fn with_places(n: usize, list: &mut [u16])
     }
 }
 
-// 65535 in each of the first n places
+// one number in each of the first n places
+pub fn with_number(n: usize, number: u16, list: &mut [u16])
+    requires { ⌜ n ≤ length (now list) ⌝ }
+    ensures { λ _. ⌜ now (list .exit) ≡ written n (replicate n number) (now (list .entry)) ⌝ }
+{
+    let mut i: usize = 0;
+    while i < n {
+        list[i] = number;
+        i += 1;
+    }
+}
+
+// .. and that 65535
 pub fn with_none(n: usize, list: &mut [u16])
     requires { ⌜ n ≤ length (now list) ⌝ }
     ensures { λ _. ⌜ now (list .exit) ≡ written n (replicate n NONE) (now (list .entry)) ⌝ }
 {
-    let mut i: usize = 0;
-    while i < n {
-        list[i] = crate::NONE;
-        i += 1;
-    }
+    with_number(n, crate::NONE, list);
 }
 
 // one byte in each of the first n places

@@ -1,4 +1,4 @@
-// Functions on lists of numbers by gateway. What is past a list's end counts as 0, and what has no place is not written; those of module fill alone ask for room.
+// Functions on lists of numbers by gateway. What is past a list's end counts as 0, and what has no place is not written; only those of module fill ask for room, and counts::tally_into for zeros.
 pub mod counts;
 pub mod fill;
 pub mod marks;

@@ -1,17 +1,17 @@
 -- The results of the passes, put together, are the clauses of soundness.
 use Prim.Native.Nat.{ℕ, _*_, _<_, _≤_}
 use mathlib.Core.Path.{_≡_, sym, ap, _∙_}
-use mathlib.Core.Bool.{Bool, true, false, not, _&&_, _||_, and-true}
+use mathlib.Core.Bool.{Bool, true, false, not, _&&_, _||_}
 use mathlib.Core.List.{List}
 use native.Mathlib.Omega.{arith}
-use lib.Dec.{eqb, ltb, leb}
+use lib.Dec.{eqb, leb}
 use lib.ListN.{length, replicate, getD-replicate}
-use borrow.Author.Tests.{lt-ltb, not-true, not-false}
+use borrow.Author.Tests.{not-true, not-false}
 use Rattle.packing.specs.Count.{count, all}
 use Rattle.packing.specs.Lists.{tallyOf}
 use Rattle.packing.specs.Plant.{GATEWAYS, NONE, at, common, firstLinks, linked}
 use Rattle.packing.specs.Holders.{holds}
-use Rattle.packing.proofs.Tests.{tests, all-ext, all-intro, or-l, iff-test}
+use Rattle.packing.proofs.Tests.{tests, all-ext, iff-test}
 use Rattle.lists.proofs.Tallies.{tally-at}
 use Rattle.sound.specs.Sound.{numbersSound, listsLong, limitsSound, endsSound, onceEach, holdersLinked, holdersWithin, onlyPlacedHeld, isSound}
 use Rattle.sound.proofs.Meaning.{numbers-mean, lists-mean}
@@ -24,12 +24,10 @@ loads-are n limit hs few e =
     rw e (all-ext n (λ v. leb (at (tallyOf n hs) v) (limit v)) (λ u. leb (count n (λ v. eqb (at hs v) u)) (limit u)) (λ v l. ap (λ (c : ℕ). leb c (limit v)) (tally-at hs n v (omega arith))))
 
 module _ (n : ℕ) (few : n ≤ GATEWAYS) where
-  pub order-results : (k : ℕ) (os hs : List ℕ) {counts : List ℕ} {placed once r : Bool} → placed ≡ onlyPlacedHeld n k os hs → counts ≡ tallyOf n os
-      → once ≡ all n (λ v. eqb (at counts v) 1) → r ≡ (once && placed) → r ≡ (onceEach n os && onlyPlacedHeld n k os hs)
+  pub once-results : (os : List ℕ) {counts : List ℕ} {r : Bool} → counts ≡ tallyOf n os → r ≡ all n (λ v. eqb (at counts v) 1) → r ≡ onceEach n os
   unfolding onceEach
-  order-results k os hs p c e f =
-      f ∙ rw (p, e, c) (ap (λ (b : Bool). b && onlyPlacedHeld n k os hs)
-      (all-ext n (λ v. eqb (at (tallyOf n os) v) 1) (λ v. eqb (count n (λ i. eqb (at os i) v)) 1) (λ v l. ap (λ (c : ℕ). eqb c 1) (tally-at os n v (omega arith)))))
+  once-results os c e =
+      e ∙ rw c (all-ext n (λ v. eqb (at (tallyOf n os) v) 1) (λ v. eqb (count n (λ i. eqb (at os i) v)) 1) (λ v l. ap (λ (c : ℕ). eqb c 1) (tally-at os n v (omega arith))))
 
   pub holders-results : (limits ls hs marks : List ℕ) {loads : List ℕ} {ends tied within r₁ r : Bool} → n ≤ length marks
       → LinksPassed n ls hs marks ends → tied ≡ all n (λ v. eqb (at hs v) NONE || eqb (at marks v) 1) → loads ≡ tallyOf n hs → within ≡ all n (λ v. leb (at loads v) (at limits v)) → r₁ ≡ (ends && tied) → r ≡ (r₁ && within)
@@ -85,9 +83,3 @@ module _ (n t m k : ℕ) (ls os hs ts : List ℕ) where
         where
           shuffle : (a b c d p : Bool) → ((b && p) && (a && c && d)) ≡ (a && b && c && d && p)
           shuffle a b c d p = iff-test ((b && p) && (a && c && d)) (a && b && c && d && p) (λ e. search tests depth 8) (λ e. search tests depth 8)
-
--- with all n placed, only the order itself is asked
-pub order-only : (n : ℕ) (os hs : List ℕ) {r : Bool} → r ≡ (onceEach n os && onlyPlacedHeld n n os hs) → r ≡ onceEach n os
-unfolding onlyPlacedHeld
-order-only n os hs e =
-    e ∙ rw (all-intro n (λ i. ltb i n || eqb (at hs (at os i)) NONE) (λ i l. or-l (ltb i n) (eqb (at hs (at os i)) NONE) (lt-ltb i n l))) (and-true (onceEach n os))

@@ -5,6 +5,7 @@ mod marks;
 mod passes;
 
 use lists::counts::tally;
+use lists::counts::tally_into;
 use lists::marks::zeros;
 use lists::tests::both;
 ghost use mathlib.Core.Path.{_≡_};
@@ -70,15 +71,23 @@ fn holders_sound(n: u16, limits: &[u8], links: &[u16], holders: &[u16]) -> bool
     both(both(ends, linked), within)
 }
 
+// Whether the first n of a list hold each gateway once.
+fn once_each(n: u16, order: &[u16]) -> bool
+    requires { ⌜ n ≤ GATEWAYS ⌝ }
+    ensures { λ r. ⌜ r ≡ onceEach n (now (order .entry)) ⌝ }
+{
+    let mut counts = zeros();
+    tally_into(n, order, &mut counts);
+    passes::counts_one(n, &counts)
+}
+
 // The order: each gateway once, and no holder from place k on.
 fn order_sound(n: u16, k: u16, order: &[u16], holders: &[u16]) -> bool
     requires { ⌜ n ≤ GATEWAYS ⌝ }
     ensures { λ r. ⌜ r ≡ (onceEach n (now (order .entry)) && onlyPlacedHeld n k (now (order .entry)) (now (holders .entry))) ⌝ }
 {
     let placed = passes::later_free(n, k, order, holders);
-    let counts = tally(n, order);
-    let once = passes::counts_one(n, &counts);
-    both(once, placed)
+    both(once_each(n, order), placed)
 }
 
 // Whether n is in range, and n entries are lent in a list that is read by gateway and in one that is written.
@@ -104,7 +113,7 @@ pub fn is_order(n: u16, numbers: &[u16]) -> bool
     if numbers.len() < n as usize {
         return false;
     }
-    order_sound(n, n, numbers, numbers)
+    once_each(n, numbers)
 }
 
 // 26's condition is that this is false. Any numbers, and lists of any lengths and contents.

@@ -7,39 +7,37 @@ use mathlib.Core.List.{List}
 use native.Mathlib.Numerals.{add-one}
 use native.Mathlib.Omega.{arith}
 use lib.Dec.{eqb, ltb}
-use lib.ListN.{set, replicate, length-set, length-replicate, getD-replicate}
+use lib.ListN.{set, length-set}
 use lib.Seq.{getD-set-same, getD-set-other}
 use borrow.Author.Tests.{eqb-true, eqb-false, ltb-true, ltb-false, not-true}
-use Rattle.packing.specs.Plant.{GATEWAYS, NONE, at}
+use Rattle.packing.specs.Plant.{NONE, at}
 use Rattle.packing.proofs.Tests.{by-bool, below-suc, clash, not-test}
 use Rattle.stars.specs.Stars.{back, onCycle, leadsInTrees, begins, cut, leads}
 use Rattle.stars.specs.Pre.{Treed, Unmet, Rounded, Broken, Led, Reading, Read, goesWith, marked}
 use Rattle.stars.specs.declared.rounds.Round.{Round}
+use Rattle.stars.proofs.Tables.{Refilled}
 use Rattle.stars.proofs.Cycles.{back-add, round-back, cycle-below, cycle-back, cycle-return}
 use Rattle.stars.proofs.Leads.{Begins, begins-means, begins-is, cut-leads, cut-begins, cut-cycle, leads-tree}
 use Rattle.stars.proofs.Groups.{cut-starts}
 
-pub reading-start : {n : ℕ} {hs ds ls xs : List ℕ} → Treed n hs ds ls → xs ≡ replicate GATEWAYS NONE → Reading n hs 0 ds ls xs
-reading-start {n} {hs} {ds} {ls} {xs} h e =
+pub reading-start : {n : ℕ} {hs ds ls xs : List ℕ} → Treed n hs ds ls → Refilled n NONE xs → Reading n hs 0 ds ls xs
+reading-start {n} {hs} {ds} {ls} h e =
     record {
       few = h .few;
       upto = omega arith;
-      read-long = h .trees .long;
-      leading-long = h .leading .long;
-      next-long = rw e (sym (length-replicate GATEWAYS NONE));
-      trees = λ x l off. h .trees .mark x l ∙ rw off;
+      read-long = h .trees-long;
+      leading-long = h .leading-long;
+      next-long = e .long;
+      trees = λ x l off. h .trees x l ∙ rw off;
       met = λ x l. absurd (omega arith);
-      whole = λ x l on t. clash _ t (h .trees .mark x l ∙ rw on);
-      leading = λ x l. h .leading .mark x l ∙ by-bool (onCycle n hs x) (λ on. rw (h .trees .mark x l, on)) (λ off. rw (h .trees .mark x l, off) (sym (leads-tree n hs (omega (arith, h .few)) x off)));
-      next = λ x l t quiet. none x l ∙ rw (cut-cycle n hs x (off-cycle x l t));
-      blank = λ x l t. none x l;
+      whole = λ x l on t. clash _ t (h .trees x l ∙ rw on);
+      leading = λ x l. h .leading x l ∙ by-bool (onCycle n hs x) (λ on. rw (h .trees x l, on)) (λ off. rw (h .trees x l, off) (sym (leads-tree n hs (omega (arith, h .few)) x off)));
+      next = λ x l t quiet. e .each x l ∙ rw (cut-cycle n hs x (off-cycle x l t));
+      blank = λ x l t. e .each x l;
     }
   where
-    none : (x : ℕ) → x < n → at xs x ≡ NONE
-    none x l = rw e (getD-replicate GATEWAYS x NONE 0 (omega (arith, h .few)))
-
     off-cycle : (x : ℕ) → x < n → marked ds x ≡ true → onCycle n hs x ≡ false
-    off-cycle x l t = not-true (onCycle n hs x) (sym (h .trees .mark x l) ∙ t)
+    off-cycle x l t = not-true (onCycle n hs x) (sym (h .trees x l) ∙ t)
 
 -- one that is marked is passed by
 pub reading-on : {n : ℕ} {hs : List ℕ} {v : ℕ} {ds ls xs : List ℕ} → Reading n hs v ds ls xs → v < n → marked ds v ≡ true → Reading n hs (v + 1) ds ls xs
@@ -62,7 +60,7 @@ pub reading-end : {n : ℕ} {hs : List ℕ} {v : ℕ} {ds ls xs : List ℕ} → 
 reading-end r h =
     record {
       few = r .few;
-      leading = record { long = r .leading-long; mark = λ x l. r .leading x l ∙ rw (r .met x (omega arith)) };
+      leading = λ x l. r .leading x l ∙ rw (r .met x (omega arith));
       next = λ x l. r .next x l (r .met x (omega arith));
     }
 

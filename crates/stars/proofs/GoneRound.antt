@@ -10,7 +10,7 @@ use lib.Dec.{eqb, ltb}
 use lib.ListN.{length, set, length-set}
 use borrow.Author.Tests.{eqb-true, eqb-false, ltb-true, ltb-false, not-true, not-false}
 use Rattle.packing.specs.Count.{count}
-use Rattle.packing.specs.Plant.{GATEWAYS, at}
+use Rattle.packing.specs.Plant.{at}
 use Rattle.packing.proofs.Tests.{by-bool, below-suc, clash}
 use Rattle.packing.proofs.Sums.{count-bound}
 use Rattle.stars.specs.Stars.{holder, back}
@@ -26,7 +26,7 @@ back-arc n hs i v {u} l e f = rw add-one (f ∙ sym (holder-at n hs u l) ∙ ap 
 
 -- The loop has gone i arcs back from v, and come to u. ds are the marks before it and es those by now.
 pub record Rounding (n : ℕ) (hs ls ds : List ℕ) (v : ℕ) (es : List ℕ) (start i u : ℕ) : Type 0 where
-  pub long : GATEWAYS ≡ length es
+  pub long : n ≡ length es
   pub here : u ≡ back n hs i v
   pub fresh : (k : ℕ) → 0 < k → k < i → back n hs k v ≡ v → ⊥
   pub keeps : (x : ℕ) → marked ds x ≡ true → marked es x ≡ true

@@ -2,18 +2,13 @@
 use Prim.Native.Nat.{ℕ, _<_, _≤_}
 use mathlib.Core.Path.{_≡_, sym, _∙_}
 use mathlib.Core.Bool.{Bool, true, false, not}
-use mathlib.Core.List.{List}
-use lib.Dec.{leb}
-use lib.ListN.{length}
+use mathlib.Core.List.{List, _++_}
+use lib.ListN.{length, drop}
 use borrow.Author.Tests.{leb-true, le-leb, lt-leb, not-true, not-false}
 use Rattle.packing.specs.Lists.{listOf, written, fits, Lent}
 use Rattle.packing.specs.Plant.{GATEWAYS}
-use Rattle.packing.proofs.Tests.{tests, and-r}
+use Rattle.packing.proofs.Tests.{tests}
 use Rattle.stars.specs.Stars.{leaderList, leadersFit, leadersWritten}
-
-fits-means : (n : ℕ) (hs out : List ℕ) → fits n (length hs) (length out) ≡ true → Lent n hs out
-unfolding fits
-fits-means n hs out e = record { few = search (tests, leb-true); entries = search (tests, leb-true); places = search (tests, leb-true) }
 
 -- the test, by the order's length and then the others
 pub short-order : (n order holders out : ℕ) → order < n → false ≡ leadersFit n order holders out
@@ -24,10 +19,10 @@ pub long-order : (n order holders out : ℕ) {b : Bool} → n ≤ order → b �
 unfolding leadersFit
 long-order n order holders out l e = rw (le-leb n order l) e
 
--- what it says of the lists that it is read from and written to
-pub lent : (n order : ℕ) (hs out : List ℕ) {b : Bool} → b ≡ leadersFit n order (length hs) (length out) → not b ≡ false → Lent n hs out
-unfolding leadersFit
-lent n order hs out {b} e t = fits-means n hs out (and-r (leb n order) _ (sym e ∙ not-false b t))
+-- what it says of n and of the list that is written
+pub lent : (n order holders out : ℕ) {b : Bool} → b ≡ leadersFit n order holders out → not b ≡ false → (n ≤ GATEWAYS) × (n ≤ out)
+unfolding leadersFit fits
+lent n order holders out {b} e t = let all = sym e ∙ not-false b t in (search (tests, leb-true), search (tests, leb-true))
 
 -- where all fit, the list is written
 pub leaders-written : (n : ℕ) (os hs out : List ℕ) → n ≤ length os → Lent n hs out → leadersWritten n os hs out ≡ written n (listOf n (leaderList n os hs)) out
@@ -39,6 +34,6 @@ module _ (n : ℕ) (os hs out : List ℕ) {b : Bool} (e : b ≡ leadersFit n (le
   unfolding leadersWritten
   lent-refuses t = (sym (not-true b t) ∙ e, rw (sym e ∙ not-true b t))
 
-  pub lent-writes : {new : List ℕ} → not b ≡ false → new ≡ written n (listOf n (leaderList n os hs)) out → (true ≡ leadersFit n (length os) (length hs) (length out)) × (new ≡ leadersWritten n os hs out)
-  unfolding leadersWritten
-  lent-writes t h = (sym (not-false b t) ∙ e, h ∙ rw (sym e ∙ not-false b t))
+  pub lent-writes : {front : List ℕ} → not b ≡ false → front ≡ listOf n (leaderList n os hs) → (true ≡ leadersFit n (length os) (length hs) (length out)) × (front ++ drop n out ≡ leadersWritten n os hs out)
+  unfolding leadersWritten written
+  lent-writes t h = (sym (not-false b t) ∙ e, rw (h, sym e ∙ not-false b t))

@@ -5,13 +5,14 @@ use mathlib.Core.Bool.{true, false}
 use mathlib.Core.List.{List}
 use native.Mathlib.Omega.{arith}
 use lib.Dec.{eqb}
-use lib.ListN.{length, set, replicate, length-set, length-replicate, getD-replicate}
+use lib.ListN.{length, set, length-set}
 use lib.Seq.{getD-set-same, getD-set-other}
 use borrow.Author.Tests.{eqb-true, eqb-false}
 use Rattle.packing.specs.Plant.{GATEWAYS, at}
 use Rattle.packing.proofs.Tests.{by-bool}
 use Rattle.stars.specs.Stars.{placeOf}
 use Rattle.stars.specs.Pre.{Table}
+use Rattle.stars.proofs.Tables.{Refilled}
 use Rattle.stars.proofs.OrderPlaces.{FirstFrom, place-is}
 
 -- passed down to place i: for each gateway its first place from i on is written
@@ -21,12 +22,12 @@ pub record Passed (n : ℕ) (os l : List ℕ) (i : ℕ) : Type 0 where
   pub place : (v : ℕ) → v < n → FirstFrom i n (at os) v (at l v)
 
 module _ (n : ℕ) (os : List ℕ) (few : n ≤ GATEWAYS) where
-  pub pass-start : {l : List ℕ} → l ≡ replicate GATEWAYS n → Passed n os l n
-  pass-start {l} e =
+  pub pass-start : {l : List ℕ} → Refilled n n l → Passed n os l n
+  pass-start r =
       record {
         upto = omega arith;
-        long = rw e (sym (length-replicate GATEWAYS n));
-        place = λ v h. rw (e, getD-replicate GATEWAYS v n 0 (omega arith)) record { most = omega arith; here = λ k. absurd (omega arith); before = λ j a k q. omega arith };
+        long = r .long;
+        place = λ v h. rw (r .each v h) record { most = omega arith; here = λ k. absurd (omega arith); before = λ j a k q. omega arith };
       }
 
   pub pass-turn : {l l' : List ℕ} {i x : ℕ} → Passed n os l i → 0 < i → x ≡ at os (i - 1) → l' ≡ set l x (i - 1) → Passed n os l' (i - 1)

@@ -6,19 +6,20 @@ use mathlib.Core.List.{List}
 use native.Mathlib.Nat.{le-antisymm}
 use native.Mathlib.Numerals.{add-one}
 use native.Mathlib.Omega.{arith}
-use lib.Dec.{eqb}
-use lib.ListN.{set, replicate, length-set, length-replicate, getD-replicate}
+use lib.Dec.{eqb, ltb}
+use lib.ListN.{set, length-set}
 use lib.Seq.{getD-set-same, getD-set-other}
-use borrow.Author.Tests.{eqb-true, eqb-false, eq-eqb, ne-eqb}
+use borrow.Author.Tests.{eqb-true, eqb-false, eq-eqb, ne-eqb, ltb-true, ltb-false, lt-ltb, le-ltb}
 use Rattle.packing.specs.Count.{pick, sum, count}
 use Rattle.packing.specs.Grouping.{follows, memberCount}
 use Rattle.packing.specs.Plant.{GATEWAYS, NONE, at}
 use Rattle.packing.proofs.Tests.{by-bool, not-test}
 use Rattle.packing.proofs.Sums.{count-suc}
 use Rattle.packing.proofs.Groupings.{follows-is, follows-means}
-use Rattle.stars.specs.Stars.{partner}
-use Rattle.stars.specs.Pre.{Partner, Partners}
-use Rattle.stars.proofs.RuleFive.{partner-only}
+use Rattle.stars.specs.Stars.{partner, pairLeader, ruleFive, notLater}
+use Rattle.stars.specs.Pre.{Partner, Partners, turned}
+use Rattle.stars.proofs.Tables.{Refilled}
+use Rattle.stars.proofs.RuleFive.{partner-only, five-none, five-more, five-two}
 
 by-count : {A : Type 0} (k : ℕ) → (k ≡ 0 → A) → (k ≡ 1 → A) → (2 ≤ k → A) → A
 by-count zero none one more = none refl
@@ -55,14 +56,14 @@ pub record Pairing (n : ℕ) (g : ℕ → ℕ) (l : List ℕ) (w : ℕ) : Type 0
   pub partners : Partners n w g l
 
 module _ (n : ℕ) (g : ℕ → ℕ) (few : n ≤ GATEWAYS) where
-  pub pairing-start : {l : List ℕ} → l ≡ replicate GATEWAYS NONE → Pairing n g l 0
+  pub pairing-start : {l : List ℕ} → Refilled n NONE l → Pairing n g l 0
   unfolding count sum
-  pairing-start e =
+  pairing-start r =
       record {
         upto = omega arith;
         partners = record {
-          long = rw e (sym (length-replicate GATEWAYS NONE));
-          partner = λ u l. record { nobody = λ q. rw e (getD-replicate GATEWAYS u NONE 0 (omega arith)); one = λ q. absurd (omega arith); more = λ q. absurd (omega arith) };
+          long = r .long;
+          partner = λ u l. record { nobody = λ q. r .each u l; one = λ q. absurd (omega arith); more = λ q. absurd (omega arith) };
         };
       }
 
@@ -102,7 +103,7 @@ module _ (n : ℕ) (g : ℕ → ℕ) (few : n ≤ GATEWAYS) where
 
 -- what the pass says of a leader u: it has one member, x, or some other number of them
 module _ {n : ℕ} (g : ℕ → ℕ) {l : List ℕ} {u x : ℕ} (few : n ≤ GATEWAYS) (p : Partners n n g l) (h : u < n) (e : x ≡ at l u) where
-  pub paired-one : x < n → (memberCount n g u ≡ 1) × (x ≡ partner n g u)
+  paired-one : x < n → (memberCount n g u ≡ 1) × (x ≡ partner n g u)
   unfolding memberCount
   paired-one k =
       let q = p .partner u h in
@@ -111,6 +112,34 @@ module _ {n : ℕ} (g : ℕ → ℕ) {l : List ℕ} {u x : ℕ} (few : n ≤ GAT
       let (f, other) = follows-means g u (at l u) t in
       (one, e ∙ sym (partner-only n g u one (at l u) a f other))
 
-  pub paired-other : n ≤ x → memberCount n g u ≡ 1 → ⊥
+  paired-other : n ≤ x → memberCount n g u ≡ 1 → ⊥
   unfolding memberCount
   paired-other k one = omega (arith, e, p .partner u h .one one .0)
+
+-- .. and the entry that was u, as the code finds it
+module _ (n : ℕ) (ps qs : List ℕ) {u : ℕ} where
+  pub turned-none : n ≤ u → u ≡ turned n ps qs u
+  unfolding turned
+  turned-none h = rw (le-ltb u n h)
+
+  module _ {w : ℕ} (l : u < n) (e : w ≡ at qs u) where
+    pub turned-more : n ≤ w → u ≡ turned n ps qs u
+    unfolding turned
+    turned-more h = rw (lt-ltb u n l, ← e, le-ltb w n h)
+
+    pub turned-two : {r : ℕ} → w < n → r ≡ pairLeader (notLater (at ps)) u w → r ≡ turned n ps qs u
+    unfolding turned
+    turned-two h q = rw (lt-ltb u n l, ← e, lt-ltb w n h) q
+
+-- .. so that v's entry once the pairs are turned is the one by rule 5
+pub turned-five : {n : ℕ} (g : ℕ → ℕ) (ps : List ℕ) {qs : List ℕ} {u x : ℕ} (v : ℕ) → n ≤ GATEWAYS → Partners n n g qs → u ≡ g v → x ≡ turned n ps qs u → x ≡ ruleFive (notLater (at ps)) n g v
+unfolding turned
+turned-five {n} g ps {qs} {u} v few p e f =
+    by-bool (ltb u n)
+    (λ t. let l = ltb-true u n t in
+    by-bool (ltb (at qs u) n) (λ s. five-two by n g v e l (paired-one g few p l refl (ltb-true (at qs u) n s)) (rw (t, s) at f))
+    (λ s. rw (t, s) at f ∙ five-more by n g v e (paired-other g few p l refl (ltb-false (at qs u) n s))))
+    (λ t. rw t at f ∙ five-none by n g v e (ltb-false u n t))
+  where
+    by : ℕ → ℕ → Bool
+    by = notLater (at ps)

@@ -26,7 +26,7 @@ awaited hs ts x w = eqb (at hs w) x && not (marked ts w)
 pub record Peeled (n : ℕ) (hs ws ts ls : List ℕ) : Type 0 where
   pub few : n ≤ GATEWAYS
   pub waits-long : GATEWAYS ≡ length ws
-  pub taken-long : GATEWAYS ≡ length ts
+  pub taken-long : n ≡ length ts
   pub leading-long : GATEWAYS ≡ length ls
   pub waits : (x : ℕ) → x < n → at ws x ≡ count n (awaited hs ts x)
   pub ready : (x : ℕ) → x < n → marked ts x ≡ true → at ws x ≡ 0

@@ -1,53 +1,52 @@
--- Arrays with a place for each gateway: filled one after the other, and read.
-use Prim.Native.Nat.{ℕ, _+_, _<_, _≤_}
-use mathlib.Core.Path.{_≡_, refl, sym, _∙_}
+-- Arrays with a place for each gateway: cleared, filled again, and marked.
+use Prim.Native.Nat.{ℕ, _<_, _≤_}
+use mathlib.Core.Path.{_≡_, sym, ap, _∙_}
 use mathlib.Core.Bool.{Bool, true, false, cond}
 use mathlib.Core.List.{List}
-use native.Mathlib.Nat.{not-suc-le-zero, le-antisymm}
-use native.Mathlib.Numerals.{add-one}
+use native.Mathlib.Nat.{add-zero}
 use native.Mathlib.Omega.{arith}
 use lib.Dec.{eqb}
-use lib.ListN.{length, set, replicate, length-set}
-use lib.Seq.{getD-set-same, getD-set-other}
+use lib.ListN.{length, set, drop, replicate, length-set, length-replicate}
+use lib.Seq.{getD-drop, getD-set-same, getD-set-other}
 use borrow.Author.Tests.{eqb-true, eqb-false}
+use Rattle.packing.specs.Lists.{listOf, written}
 use Rattle.packing.specs.Plant.{GATEWAYS, at}
-use Rattle.packing.proofs.Tests.{by-bool, below-suc}
-use Rattle.packing.proofs.Lists.{zero-at}
-use Rattle.stars.specs.Pre.{Table, marked}
+use Rattle.packing.proofs.Tests.{by-bool}
+use Rattle.packing.proofs.Lists.{Listed, listOf-length, zero-at, written-length, written-past, written-whole, repeated-at, list-end}
+use Rattle.stars.specs.Pre.{marked}
 
--- an array of 1,024 in which nothing is marked
-pub record Blank (l : List ℕ) : Type 0 where
-  pub long : GATEWAYS ≡ length l
+-- an array in which nothing is marked
+pub record Blank (m : ℕ) (l : List ℕ) : Type 0 where
+  pub long : m ≡ length l
   pub none : (v : ℕ) → marked l v ≡ false
 
 -- .. as an array of zeros is
-pub blank : {l : List ℕ} → l ≡ replicate GATEWAYS 0 → Blank l
-blank e = rw e record { long = refl; none = λ v. rw (zero-at GATEWAYS v) }
+pub blank : {m : ℕ} {l : List ℕ} → l ≡ replicate m 0 → Blank m l
+blank {m} e = rw e record { long = sym (length-replicate m 0); none = λ v. rw (zero-at m v) }
 
--- a loop that fills an array has filled it below v
-pub record Filled (n : ℕ) (f : ℕ → ℕ) (l : List ℕ) (v : ℕ) : Type 0 where
-  pub upto : v ≤ n
-  pub table : Table v f l
+-- an array of 1,024 whose first n entries are x
+pub record Refilled (n x : ℕ) (l : List ℕ) : Type 0 where
+  pub long : GATEWAYS ≡ length l
+  pub each : (v : ℕ) → v < n → at l v ≡ x
 
-module _ (n : ℕ) (f : ℕ → ℕ) where
-  pub fill-start : {l : List ℕ} → Blank l → Filled n f l 0
-  fill-start b = record { upto = omega arith; table = record { long = b .long; entry = λ v h. absurd (not-suc-le-zero h) } }
+-- .. as one that served before is, once they are written
+pub refilled : (n x : ℕ) (old : List ℕ) {l : List ℕ} → n ≤ GATEWAYS → GATEWAYS ≡ length old → l ≡ written n (replicate n x) old → Refilled n x l
+refilled n x old few long e =
+    rw e record { long = long ∙ sym (written-length n (replicate n x) old (length-replicate n x) (omega arith)); each = repeated-at n x old }
 
-  pub fill-turn : {l : List ℕ} {v x : ℕ} → n ≤ GATEWAYS → Filled n f l v → v < n → x ≡ f v → Filled n f (set l v x) (v + 1)
-  fill-turn {l} {v} {x} few t h e =
-      record {
-        upto = omega arith;
-        table = record {
-          long = t .table .long ∙ sym (length-set l v x);
-          entry = λ w k.
-              below-suc w v (rw add-one at k)
-              (λ q. rw q (getD-set-same l v x 0 (omega (arith, t .table .long)) ∙ e))
-              (λ q. getD-set-other l v w x 0 (λ r. omega arith) ∙ t .table .entry w q);
-        };
-      }
+-- a list of n entries that is written, or rewritten in place, from its front: what is not reached is as it was, and at the end all is written
+module _ (n : ℕ) (f : ℕ → ℕ) {old new : List ℕ} {v : ℕ} (t : Listed n f old new v) where
+  pub list-rest : at new v ≡ at old v
+  list-rest = front new ∙ ap (λ (l : List ℕ). at l 0) past ∙ sym (front old)
+    where
+      past : drop v new ≡ drop v old
+      past = rw (t .list) (written-past v (listOf v f) old (listOf-length v f))
 
-  pub fill-end : {l : List ℕ} {v : ℕ} → Filled n f l v → n ≤ v → Table n f l
-  fill-end t h = rw (le-antisymm (t .upto) h) at (t .table)
+      front : (l : List ℕ) → at l v ≡ at (drop v l) 0
+      front l = sym (rw add-zero at (getD-drop v l 0 0))
+
+  pub list-whole : n ≡ length old → n ≤ v → new ≡ listOf n f
+  list-whole long h = list-end n f old t h ∙ written-whole n (listOf n f) old (listOf-length n f) (omega arith)
 
 -- an array in which one more is marked
 module _ (l : List ℕ) (u : ℕ) where

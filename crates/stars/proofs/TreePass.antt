@@ -5,15 +5,17 @@ use mathlib.Core.Bool.{Bool, true, false, not, cond, _&&_, and-comm}
 use mathlib.Core.List.{List}
 use native.Mathlib.Omega.{arith}
 use lib.Dec.{eqb, ltb}
-use lib.ListN.{length, set}
+use lib.ListN.{length, set, replicate, length-replicate}
 use borrow.Author.Tests.{eqb-true, eqb-false, eq-eqb, ltb-true, lt-ltb, le-ltb, not-true}
 use Rattle.packing.specs.Count.{count}
+use Rattle.packing.specs.Lists.{tallyOf, written}
 use Rattle.packing.specs.Plant.{GATEWAYS, NONE, at}
 use Rattle.packing.proofs.Tests.{by-bool, clash, and-l, and-r, and-i, not-i, not-test}
 use Rattle.packing.proofs.Sums.{count-ext, count-some, count-none}
+use Rattle.packing.proofs.Lists.{written-whole}
 use Rattle.lists.proofs.Tallies.{tally-at, counted-long}
 use Rattle.stars.specs.Stars.{onCycle}
-use Rattle.stars.specs.Pre.{Taken, Waited, Waiting, Treed, isNext, marked}
+use Rattle.stars.specs.Pre.{Cleared, Taken, Waited, Waiting, Treed, isNext, marked}
 use Rattle.stars.proofs.Tables.{Blank, blank}
 use Rattle.stars.proofs.Cycles.{cycle-holder}
 use Rattle.stars.proofs.Upwards.{upwards}
@@ -48,6 +50,11 @@ pub record Passing (n : ℕ) (hs ws ts ls : List ℕ) (v u : ℕ) : Type 0 where
   pub end : n ≤ v → n ≤ u
   pub passed : (x : ℕ) → x < n → x ≤ v → (x ≡ u → ⊥) → at ws x ≡ 0 → marked ts x ≡ true
 
+-- the lists once the marks are cleared and those held are counted
+pub cleared-waiting : {n : ℕ} {hs ws ts ls ws' ts' : List ℕ} → Cleared n ws ts ls → ts' ≡ written n (replicate n 0) ts → ws' ≡ tallyOf n hs → Waiting n hs ws' ts' ls
+cleared-waiting {n} {ts = ts} s e f =
+    record { few = s .few; waits = f; taken = e ∙ written-whole n (replicate n 0) ts (length-replicate n 0) (omega (arith, s .long)); leading = s .leading }
+
 pub waiting-long : {n : ℕ} {hs ws ts ls : List ℕ} → Waiting n hs ws ts ls → GATEWAYS ≡ length ws
 waiting-long {n} {hs} s = counted-long n hs (record { upto = omega arith; is = s .waits })
 
@@ -56,11 +63,11 @@ module _ {n : ℕ} {hs : List ℕ} where
   passing-start {ws} {ts} {ls} s =
       record {
         peeled = record {
-          few = s .start .few;
+          few = s .few;
           waits-long = waiting-long s;
           taken-long = taken .long;
           leading-long = leading .long;
-          waits = λ x k. ap (λ (l : List ℕ). at l x) (s .waits) ∙ tally-at hs n x (omega (arith, s .start .few)) ∙ count-ext n (λ w. eqb (at hs w) x) (awaited hs ts x) (λ w m. rw (taken .none w) (sym (and-comm (eqb (at hs w) x) true)));
+          waits = λ x k. ap (λ (l : List ℕ). at l x) (s .waits) ∙ tally-at hs n x (omega (arith, s .few)) ∙ count-ext n (λ w. eqb (at hs w) x) (awaited hs ts x) (λ w m. rw (taken .none w) (sym (and-comm (eqb (at hs w) x) true)));
           ready = λ x k e. clash _ e (taken .none x);
           off = λ x k e. clash _ e (taken .none x);
           leads = λ x k e. clash _ e (leading .none x);
@@ -71,11 +78,11 @@ module _ {n : ℕ} {hs : List ℕ} where
         passed = λ x k m apart e. absurd (apart (omega arith));
       }
     where
-      taken : Blank ts
-      taken = blank (s .start .taken)
+      taken : Blank n ts
+      taken = blank (s .taken)
 
-      leading : Blank ls
-      leading = blank (s .start .leading)
+      leading : Blank GATEWAYS ls
+      leading = blank (s .leading)
 
   module _ {ws ts ls : List ℕ} {v u : ℕ} {b : Bool} (s : Passing n hs ws ts ls v u) (h : v < n) (e : b ≡ isNext n ws ts u) where
     -- u can be taken
@@ -147,8 +154,10 @@ module _ {n : ℕ} {hs : List ℕ} where
     passing-end =
         record {
           few = s .peeled .few;
-          trees = record { long = s .peeled .taken-long; mark = λ x k. trees x k };
-          leading = record { long = s .peeled .leading-long; mark = lead-only n hs few (marked ls) (λ x k. (leads x k, led x k)) };
+          trees-long = s .peeled .taken-long;
+          leading-long = s .peeled .leading-long;
+          trees = trees;
+          leading = lead-only n hs few (marked ls) (λ x k. (leads x k, led x k));
         }
       where
         trees : (x : ℕ) → x < n → marked ts x ≡ not (onCycle n hs x)

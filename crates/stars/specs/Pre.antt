@@ -11,7 +11,7 @@ use Rattle.packing.specs.Count.{count}
 use Rattle.packing.specs.Grouping.{follows}
 use Rattle.packing.specs.Lists.{tallyOf}
 use Rattle.packing.specs.Plant.{GATEWAYS, NONE, at}
-use Rattle.stars.specs.Stars.{back, onCycle, nextOnCycle, leadsInTrees, begins, cut, leads}
+use Rattle.stars.specs.Stars.{back, onCycle, nextOnCycle, leadsInTrees, begins, cut, leads, pairLeader, notLater}
 use Rattle.stars.specs.declared.rounds.Round.{Round}
 
 -- an array of 1,024 that holds f's value at each v below n
@@ -23,10 +23,9 @@ pub record Table (n : ℕ) (f : ℕ → ℕ) (l : List ℕ) : Type 0 where
 abbrev pub marked : List ℕ → ℕ → Bool
 marked l v = eqb (at l v) 1
 
--- an array of 1,024 in which of those below n just those with p are marked
-pub record Marks (n : ℕ) (p : ℕ → Bool) (l : List ℕ) : Type 0 where
-  pub long : GATEWAYS ≡ length l
-  pub mark : (v : ℕ) → v < n → marked l v ≡ p v
+-- of those below n just those with p are marked
+abbrev pub Marks : ℕ → (ℕ → Bool) → List ℕ → Type 0
+Marks n p l = (v : ℕ) → v < n → marked l v ≡ p v
 
 -- Trees. u may be taken: it is a gateway, waits for none that it holds, and is not taken yet
 unfoldable pub isNext : ℕ → List ℕ → List ℕ → ℕ → Bool
@@ -43,34 +42,39 @@ pub record Taken (n : ℕ) (hs : List ℕ) (u : ℕ) (ws ts ls ws' ts' ls' : Lis
   pub waits : ws' ≡ cond (ltb (at hs u) n) (set ws (at hs u) (at ws (at hs u) - 1)) ws
   pub leading : ls' ≡ cond (ltb (at hs u) n && not (marked ls u)) (set ls (at hs u) 1) ls
 
--- the arrays before any is taken: nothing is marked, ..
-pub record NoneTaken (n : ℕ) (ts ls : List ℕ) : Type 0 where
+-- the lists that are lent: two of 1,024 zeros, and one of n entries
+pub record Cleared (n : ℕ) (ws ts ls : List ℕ) : Type 0 where
   pub few : n ≤ GATEWAYS
-  pub taken : ts ≡ replicate GATEWAYS 0
+  pub waits : ws ≡ replicate GATEWAYS 0
+  pub long : n ≡ length ts
   pub leading : ls ≡ replicate GATEWAYS 0
 
--- .. and each waits for all that it holds
+-- .. before any is taken: nothing is marked, and each waits for all that it holds
 pub record Waiting (n : ℕ) (hs ws ts ls : List ℕ) : Type 0 where
+  pub few : n ≤ GATEWAYS
   pub waits : ws ≡ tallyOf n hs
-  pub start : NoneTaken n ts ls
+  pub taken : ts ≡ replicate n 0
+  pub leading : ls ≡ replicate GATEWAYS 0
 
 -- once all that can be are taken: they are those in trees, and who leads by rule 1 is known
 pub record Treed (n : ℕ) (hs ts ls : List ℕ) : Type 0 where
   pub few : n ≤ GATEWAYS
+  pub trees-long : n ≡ length ts
+  pub leading-long : GATEWAYS ≡ length ls
   pub trees : Marks n (λ v. not (onCycle n hs v)) ts
   pub leading : Marks n (leadsInTrees n hs) ls
 
 -- Cycles. v stands on one of which none is marked
 pub record Unmet (n : ℕ) (hs ds : List ℕ) (v : ℕ) : Type 0 where
   pub few : n ≤ GATEWAYS
-  pub long : GATEWAYS ≡ length ds
+  pub long : n ≡ length ds
   pub below : v < n
   pub on : onCycle n hs v ≡ true
   pub none : (j : ℕ) → marked ds (back n hs j v) ≡ false
 
 -- v's cycle was gone round: it is marked, the number of its arcs is known, and a start on it that leads or, where none leads, is v
 pub record Rounded (n : ℕ) (hs ls ds ds' : List ℕ) (v : ℕ) (r : Round) : Type 0 where
-  pub long : GATEWAYS ≡ length ds'
+  pub long : n ≡ length ds'
   pub keeps : (x : ℕ) → marked ds x ≡ true → marked ds' x ≡ true
   pub marks : (j : ℕ) → marked ds' (back n hs j v) ≡ true
   pub only : (x : ℕ) → marked ds' x ≡ true → marked ds x ≡ false → (j : ℕ) × (back n hs j v ≡ x)
@@ -106,7 +110,7 @@ goesWith n hs v = cond (cut n hs v) (nextOnCycle n hs v) NONE
 pub record Reading (n : ℕ) (hs : List ℕ) (v : ℕ) (ds ls xs : List ℕ) : Type 0 where
   pub few : n ≤ GATEWAYS
   pub upto : v ≤ n
-  pub read-long : GATEWAYS ≡ length ds
+  pub read-long : n ≡ length ds
   pub leading-long : GATEWAYS ≡ length ls
   pub next-long : GATEWAYS ≡ length xs
   pub trees : (x : ℕ) → x < n → onCycle n hs x ≡ false → marked ds x ≡ true
@@ -122,7 +126,11 @@ pub record Read (n : ℕ) (hs ls xs : List ℕ) : Type 0 where
   pub leading : Marks n (leads n hs) ls
   pub next : (v : ℕ) → v < n → leads n hs v ≡ false → at xs v ≡ goesWith n hs v
 
--- Groups of two. x says of the i first entries which one goes with u: 65535 for nobody, the one where there is one, 1,024 where there are more
+-- Groups of two. u, or the one that leads the pair where u leads a group of two, by the places ps and the partners qs
+unfoldable pub turned : ℕ → List ℕ → List ℕ → ℕ → ℕ
+turned n ps qs u = cond (ltb u n && ltb (at qs u) n) (pairLeader (notLater (at ps)) u (at qs u)) u
+
+-- x says of the i first entries which one goes with u: 65535 for nobody, the one where there is one, 1,024 where there are more
 pub record Partner (i : ℕ) (g : ℕ → ℕ) (u x : ℕ) : Type 0 where
   pub nobody : count i (follows g u) ≡ 0 → x ≡ NONE
   pub one : count i (follows g u) ≡ 1 → (x < i) × (follows g u x ≡ true)

@@ -6,35 +6,34 @@ mod reading;
 mod rounds;
 mod trees;
 
-use lists::PLACES;
 use lists::marks::zeros;
 ghost use mathlib.Core.Path.{_≡_};
 ghost use Prim.Native.Nat.{_≤_};
 ghost use lib.ListN.{length};
-ghost use Rattle.packing.specs.Lists.{listOf, written, Lent};
+ghost use Rattle.packing.specs.Lists.{listOf};
 ghost use Rattle.packing.specs.Plant.{GATEWAYS};
 ghost use Rattle.stars.specs.Stars.{leaderOf, leaderList, leadersFit, leadersWritten};
-ghost use Rattle.stars.specs.Pre.{Table};
+ghost use Rattle.stars.specs.Pre.{Cleared};
 
-// Each gateway's leader by rules 1 to 4: first in the trees, then on the cycles.
-fn groups_of(n: u16, holders: &[u16]) -> [u16; PLACES]
-    requires { ⌜ n ≤ GATEWAYS ⌝ }
-    ensures { λ r. ⌜ Table n (leaderOf n (now (holders .entry))) r ⌝ }
+// Each gateway's leader by rules 1 to 4: first in the trees, then on the cycles. Lists serve twice, so that few are cleared: groups first marks who hangs in a tree, and waits later says with whom the first of a cycle goes.
+fn write_groups(n: u16, holders: &[u16], waits: &mut [u16], leading: &mut [u16], groups: &mut [u16])
+    requires { ⌜ Cleared n (now waits) (now groups) (now leading) ⌝ }
+    ensures { λ _. ⌜ now (groups .exit) ≡ listOf n (leaderOf n (now (holders .entry))) ⌝ }
 {
-    let mut trees = zeros();
-    let mut leading = zeros();
-    trees::lead_trees(n, holders, &mut trees, &mut leading);
-    let nexts = rounds::read_cycles(n, holders, &mut trees, &mut leading);
-    reading::leaders_of(n, holders, &nexts, &leading)
+    trees::lead_trees(n, holders, waits, groups, leading);
+    rounds::read_cycles(n, holders, groups, leading, waits);
+    reading::leaders_of(n, holders, waits, leading, groups);
 }
 
-// The groups by rules 1 to 4, then rule 5 by the order.
+// The groups by rules 1 to 4, then rule 5 by the order. The two lists to work in serve both.
 fn write_leaders(n: u16, order: &[u16], holders: &[u16], out: &mut [u16])
-    requires { ⌜ Lent n (now holders) (now out) ⌝ }
-    ensures { λ _. ⌜ now (out .exit) ≡ written n (listOf n (leaderList n (now (order .entry)) (now (holders .entry)))) (now (out .entry)) ⌝ }
+    requires { ⌜ (n ≤ GATEWAYS) × (n ≡ length (now out)) ⌝ }
+    ensures { λ _. ⌜ now (out .exit) ≡ listOf n (leaderList n (now (order .entry)) (now (holders .entry))) ⌝ }
 {
-    let groups = groups_of(n, holders);
-    groups_of_two::write_list(n, order, &groups, out);
+    let mut first = zeros();
+    let mut second = zeros();
+    write_groups(n, holders, &mut first, &mut second, out);
+    groups_of_two::turn_pairs(n, order, &mut first, &mut second, out);
 }
 
 // Whether n is in range and each list, by its length, has n entries.
@@ -57,6 +56,7 @@ pub fn leaders(n: u16, order: &[u16], holders: &[u16], out: &mut [u16]) -> bool
     if !is_lent(n, order.len(), holders.len(), out.len()) {
         return false;
     }
-    write_leaders(n, order, holders, out);
+    let end = n as usize;
+    write_leaders(n, order, holders, &mut out[..end]);
     true
 }

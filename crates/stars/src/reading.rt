@@ -1,16 +1,16 @@
 // Each gateway's leader by rules 1 to 4.
 use lists::NONE;
-use lists::PLACES;
 use lists::entry;
 use lists::marks::is_marked;
-use lists::marks::zeros;
 ghost use mathlib.Core.Path.{_≡_};
 ghost use mathlib.Core.Bool.{cond};
 ghost use Prim.Native.Nat.{_<_};
 ghost use lib.Dec.{ltb};
+ghost use lib.ListN.{length};
+ghost use Rattle.packing.specs.Lists.{listOf};
 ghost use Rattle.packing.specs.Plant.{NONE};
 ghost use Rattle.stars.specs.Stars.{leaderOf};
-ghost use Rattle.stars.specs.Pre.{Read, Table};
+ghost use Rattle.stars.specs.Pre.{Read};
 
 // u, where it is a gateway.
 fn gateway_or_none(n: u16, u: u16) -> u16
@@ -38,16 +38,20 @@ fn leader_of(n: u16, holders: &[u16], nexts: &[u16], leading: &[u16], v: u16) ->
 }
 
 // The leader of each gateway.
-pub(crate) fn leaders_of(n: u16, holders: &[u16], nexts: &[u16], leading: &[u16]) -> [u16; PLACES]
-    requires { ⌜ Read n (now holders) (now leading) (now nexts) ⌝ }
-    ensures { λ r. ⌜ Table n (leaderOf n (now (holders .entry))) r ⌝ }
+pub(crate) fn leaders_of(
+    n: u16,
+    holders: &[u16],
+    nexts: &[u16],
+    leading: &[u16],
+    groups: &mut [u16],
+)
+    requires { ⌜ (Read n (now holders) (now leading) (now nexts)) × (n ≡ length (now groups)) ⌝ }
+    ensures { λ _. ⌜ now (groups .exit) ≡ listOf n (leaderOf n (now (holders .entry))) ⌝ }
 {
-    let mut groups = zeros();
     let mut v: u16 = 0;
     while v < n {
         let place = v as usize;
         groups[place] = leader_of(n, holders, nexts, leading, v);
         v += 1;
     }
-    groups
 }

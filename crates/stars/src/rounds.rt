@@ -1,14 +1,15 @@
 // Rules 3 and 4: who leads on the cycles, and with whom the first of an odd cycle goes. Each cycle is gone round twice: from the lowest number on it to find where its reading starts, and from there to find who leads.
-use lists::PLACES;
 use lists::entry;
+use lists::fill::with_none;
 use lists::marks::is_marked;
 use lists::marks::mark_if;
-use lists::marks::nones;
 use lists::put;
 use lists::tests::either;
 ghost use mathlib.Core.Path.{_≡_};
 ghost use mathlib.Core.Bool.{false, cond};
 ghost use Prim.Native.Nat.{_+_, _<_};
+ghost use lib.ListN.{length};
+ghost use Rattle.packing.specs.Plant.{GATEWAYS};
 ghost use Rattle.stars.specs.Pre.{Broken, Led, Read, Reading, Rounded, Treed, Unmet, marked};
 
 // A cycle: the gateway on it at which its reading starts, and how many arcs it has.
@@ -81,23 +82,23 @@ fn read_cycle(
     put(nexts, start, next);
 }
 
-// Reads the cycles in turn, by marks of those in trees and of those who lead by rule 1: marks who leads by rules 1 to 4. Returns with whom each goes that does not lead and whose arc is cut; 65535 for the others that do not lead.
+// Reads the cycles in turn, by marks of those in trees and of those who lead by rule 1: marks who leads by rules 1 to 4. Writes to nexts with whom each goes that does not lead and whose arc is cut; 65535 for the others that do not lead.
 pub(crate) fn read_cycles(
     n: u16,
     holders: &[u16],
     read: &mut [u16],
     leading: &mut [u16],
-) -> [u16; PLACES]
-    requires { ⌜ Treed n (now holders) (now read) (now leading) ⌝ }
-    ensures { λ r. ⌜ Read n (now (holders .entry)) (now (leading .exit)) r ⌝ }
+    nexts: &mut [u16],
+)
+    requires { ⌜ (Treed n (now holders) (now read) (now leading)) × (GATEWAYS ≡ length (now nexts)) ⌝ }
+    ensures { λ _. ⌜ Read n (now (holders .entry)) (now (leading .exit)) (now (nexts .exit)) ⌝ }
 {
-    let mut nexts = nones();
+    with_none(n as usize, nexts);
     let mut v: u16 = 0;
     while v < n {
         if !is_marked(read, v) {
-            read_cycle(n, holders, read, leading, &mut nexts, v);
+            read_cycle(n, holders, read, leading, nexts, v);
         }
         v += 1;
     }
-    nexts
 }

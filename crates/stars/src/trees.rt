@@ -1,12 +1,13 @@
 // Rule 1 from the deepest upwards, in one pass: a gateway is taken once all that it holds are taken. Who is never taken stands on a cycle.
-use lists::counts::tally;
+use lists::counts::tally_into;
 use lists::entry;
+use lists::fill::with_number;
 use lists::marks::is_marked;
 use lists::marks::mark_if;
 use lists::put;
 use lists::tests::both;
 ghost use mathlib.Core.Path.{_≡_};
-ghost use Rattle.stars.specs.Pre.{NoneTaken, Taken, Treed, Waited, Waiting, isNext};
+ghost use Rattle.stars.specs.Pre.{Cleared, Taken, Treed, Waited, Waiting, isNext};
 
 // Whether u may be taken: it is a gateway, waits for none that it holds, and is not taken yet.
 fn is_next(n: u16, waits: &[u16], taken: &[u16], u: u16) -> bool
@@ -58,10 +59,17 @@ fn peel(n: u16, holders: &[u16], waits: &mut [u16], taken: &mut [u16], leading: 
 }
 
 // Marks who hangs in a tree, and who leads by rule 1.
-pub(crate) fn lead_trees(n: u16, holders: &[u16], trees: &mut [u16], leading: &mut [u16])
-    requires { ⌜ NoneTaken n (now trees) (now leading) ⌝ }
+pub(crate) fn lead_trees(
+    n: u16,
+    holders: &[u16],
+    waits: &mut [u16],
+    trees: &mut [u16],
+    leading: &mut [u16],
+)
+    requires { ⌜ Cleared n (now waits) (now trees) (now leading) ⌝ }
     ensures { λ _. ⌜ Treed n (now (holders .entry)) (now (trees .exit)) (now (leading .exit)) ⌝ }
 {
-    let mut waits = tally(n, holders);
-    peel(n, holders, &mut waits, trees, leading);
+    with_number(n as usize, 0, trees);
+    tally_into(n, holders, waits);
+    peel(n, holders, waits, trees, leading);
 }

@@ -5,6 +5,7 @@ use mathlib.Core.Bool.{not}
 use borrow.Author.Needs.{needs}
 use Rattle.packing.specs.Count.{count}
 use Rattle.stars.specs.Pre.{marked}
+use Rattle.stars.proofs.Tables.{blank}
 use Rattle.stars.proofs.TreePass.{Passing, waiting-long, passing-start, passing-waited, passing-take, passing-less, passing-on, passing-end}
 use Rattle.stars.proofs.trees.peel.Statement.{statement}
 use Rattle.stars.proofs.trees.peel.Tie as tie
@@ -52,7 +53,7 @@ same-length : tie.Need-same-length Inv-loop μ-loop
 same-length c = let start = c .before in sym (start .loop .inv .peeled .waits-long) ∙ waiting-long (start .before .before .before .before .before .pre)
 
 same-length-2 : tie.Need-same-length-2 Inv-loop μ-loop
-same-length-2 c = search needs
+same-length-2 c = let start = c .before in sym (start .loop .inv .peeled .taken-long) ∙ blank (start .before .before .before .before .before .pre .taken) .long
 
 same-length-3 : tie.Need-same-length-3 Inv-loop μ-loop
 same-length-3 c = search needs

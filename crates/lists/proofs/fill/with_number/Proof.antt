@@ -2,16 +2,15 @@
 use borrow.Author.Needs.{needs}
 use Prim.Native.Nat.{_-_}
 use mathlib.Core.Path.{refl}
-use Rattle.packing.specs.Plant.{NONE}
 use Rattle.packing.proofs.Lists.{Listed, listOf-same, list-start, list-turn, list-end}
-use Rattle.lists.proofs.fill.with_none.Statement.{statement}
-use Rattle.lists.proofs.fill.with_none.Tie as tie
+use Rattle.lists.proofs.fill.with_number.Statement.{statement}
+use Rattle.lists.proofs.fill.with_number.Tie as tie
 
 abbrev Inv-loop : tie.InvT-loop
-Inv-loop n list₀ i₀ list i = Listed n (λ j. NONE) list₀ list i
+Inv-loop n number list₀ i₀ list i = Listed n (λ j. number) list₀ list i
 
 abbrev μ-loop : tie.MeasureT-loop
-μ-loop n list₀ i₀ list i = n - i
+μ-loop n number list₀ i₀ list i = n - i
 
 loop-holds : tie.Need-loop-holds Inv-loop μ-loop
 loop-holds c = list-start _ _ _
@@ -35,10 +34,10 @@ same-length : tie.Need-same-length Inv-loop μ-loop
 same-length c = search needs
 
 returns : tie.Need-returns Inv-loop μ-loop
-returns c = rw (← listOf-same _ NONE) (list-end _ _ _ (c .before .loop .inv) (c .loop-test .left))
+returns c = rw (← listOf-same _ _) (list-end _ _ _ (c .before .loop .inv) (c .loop-test .left))
 
-pub with-none-spec : {M : Type 1} → statement M
-with-none-spec =
+pub with-number-spec : {M : Type 1} → statement M
+with-number-spec =
     tie.close
     (tie.spec
     Inv-loop
