@@ -19,7 +19,7 @@ pub record Sought (ls : List ℕ) (x y e : ℕ) : Type 0 where
   pub stands : Standing ls x e
 
 module _ (ls next : List ℕ) (x y : ℕ) (d : Index ls next) (below : x < GATEWAYS) where
-  pub sought-start : {e : ℕ} → e ≡ at next (rootOf x) → Sought ls x y e
+  pub sought-start : {e : ℕ} → e ≡ at next (rootOf (length next) x) → Sought ls x y e
   sought-start q =
       let (rest, stands) = chain-first d below in
       rw q (record { rest = ap (λ (l : List ℕ). memberOf l y) (sym rest) ∙ neighbours-linked ls x y; stands = stands })

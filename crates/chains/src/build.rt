@@ -1,6 +1,5 @@
 // Building the index, link by link. last has the place of the index where each gateway's next end is to be written: its root at first, then the place of its last end, so that an empty chain is no case apart.
 use crate::SLOTS;
-use lists::ENDS;
 use lists::PLACES;
 ghost use mathlib.Core.Path.{_≡_};
 ghost use Prim.Native.Nat.{_+_, _*_, _<_, _≤_};
@@ -17,14 +16,15 @@ pub fn empty_index() -> [u16; SLOTS]
     [lists::NONE; SLOTS]
 }
 
-// The last places of empty chains: the roots.
-pub fn roots() -> [u16; PLACES]
-    ensures { λ r. ⌜ r ≡ listOf GATEWAYS rootOf ⌝ }
+// The last places of empty chains in an index of so many places: the roots.
+pub fn roots(slots: usize) -> [u16; PLACES]
+    requires { ⌜ (GATEWAYS ≤ slots) × (slots ≤ SLOTS) ⌝ }
+    ensures { λ r. ⌜ r ≡ listOf GATEWAYS (rootOf slots) ⌝ }
 {
     let mut last = lists::marks::zeros();
     let mut x: usize = 0;
     while x < PLACES {
-        last[x] = (ENDS + x) as u16;
+        last[x] = (slots - PLACES + x) as u16;
         x += 1;
     }
     last
@@ -71,7 +71,7 @@ pub fn index_of(links: &[u16]) -> [u16; SLOTS]
     ensures { λ r. ⌜ Index (now (links .entry)) r ⌝ }
 {
     let mut next = empty_index();
-    let mut last = roots();
+    let mut last = roots(SLOTS);
     let mut m: u16 = 0;
     while 2 * (m as usize) + 1 < links.len() {
         hang_link(links, m, &mut next, &mut last);

@@ -22,7 +22,7 @@ pub record Putting (ls : List ℕ) (x last : ℕ) (dead from₀ from : List ℕ)
   pub rest : putBack (upToFirst last (neighbours (drop (2 * (e / 2)) ls) x)) dead from ≡ putBack (upToFirst last (neighbours ls x)) dead from₀
 
 module _ (ls next : List ℕ) (x last : ℕ) (dead from₀ : List ℕ) (d : Index ls next) (below : x < GATEWAYS) where
-  pub put-start : {e : ℕ} → e ≡ at next (rootOf x) → Putting ls x last dead from₀ from₀ e
+  pub put-start : {e : ℕ} → e ≡ at next (rootOf (length next) x) → Putting ls x last dead from₀ from₀ e
   put-start q = rw q (record { standing = chain-first d below .1; same = refl; rest = ap (λ (us : List ℕ). putBack (upToFirst last us) dead from₀) (sym (chain-first d below .0)) })
 
   module _ {from : List ℕ} {e : ℕ} (p : Putting ls x last dead from₀ from e) (more : e ≡ NONE → ⊥) where
@@ -43,7 +43,7 @@ module _ (ls next : List ℕ) (x last : ℕ) (dead from₀ : List ℕ) (d : Inde
 
       pub put-turn : {e' : ℕ} → (u ≡ last → ⊥) → e' ≡ at next e → (Putting ls x last dead from₀ from' e') × (NONE - e' < NONE - e)
       put-turn other on =
-          (rw on (record { standing = after .1; same = rw (now, length-set) (p .same); rest = rw (ne-eqb u last other) at one }), omega (arith, on, after .2, put-places .1, d .places))
+          (rw on (record { standing = after .1; same = rw (now, length-set) (p .same); rest = rw (ne-eqb u last other) at one }), omega (arith, on, after .2, put-places .1, d .few))
 
   pub put-end : {from : List ℕ} {e : ℕ} → Putting ls x last dead from₀ from e → e ≡ NONE → from ≡ putBack (upToFirst last (neighbours ls x)) dead from₀
   unfolding putBack upToFirst

@@ -9,16 +9,19 @@ use Rattle.chains.proofs.build.roots.Statement.{statement}
 use Rattle.chains.proofs.build.roots.Tie as tie
 
 abbrev Inv-loop : tie.InvT-loop
-Inv-loop last₀ x₀ last x = Listed GATEWAYS rootOf last₀ last x
+Inv-loop slots last₀ x₀ last x = Listed GATEWAYS (rootOf slots) last₀ last x
 
 abbrev μ-loop : tie.MeasureT-loop
-μ-loop last₀ x₀ last x = GATEWAYS - x
+μ-loop slots last₀ x₀ last x = GATEWAYS - x
 
 zeros-requires : tie.Need-zeros-requires Inv-loop μ-loop
 zeros-requires c κs = search needs
 
 loop-holds : tie.Need-loop-holds Inv-loop μ-loop
 loop-holds c = list-start _ _ _
+
+sub-last : tie.Need-sub-last Inv-loop μ-loop
+sub-last c = search needs
 
 add-last : tie.Need-add-last Inv-loop μ-loop
 add-last c = search needs
@@ -52,6 +55,7 @@ roots-spec =
     μ-loop
     zeros-requires
     loop-holds
+    sub-last
     add-last
     cast-last
     mul-last
