@@ -7,9 +7,9 @@ use native.Mathlib.Omega.{arith}
 use lib.ListN.{length, set, take, replicate, length-replicate}
 use lib.Seq.{length-take-le}
 use Rattle.packing.specs.Lists.{listOf}
-use Rattle.packing.specs.Plant.{GATEWAYS}
+use Rattle.packing.specs.Plant.{NONE, GATEWAYS}
 use Rattle.packing.proofs.Lists.{list-start, written-front}
-use Rattle.chains.specs.Index.{rootOf, Index}
+use Rattle.chains.specs.Index.{SLOTS, rootOf, Index}
 use Rattle.chains.specs.Build.{Built, Adding}
 use Rattle.chains.proofs.BuiltIndex.{built-front}
 use Rattle.chains.proofs.LinkMore.{built-start}
@@ -31,7 +31,7 @@ isLink End = false
 -- one link
 module _ (n : ℕ) (file : List ℕ) (i : ℕ) {links next last : List ℕ} (t : Taking n file i links next last) where
   pub taking-long : 2 * i ≡ length (take (2 * i) links)
-  taking-long = sym (length-take-le (2 * i) links (t .built .room))
+  taking-long = sym (length-take-le (2 * i) links (t .built .within))
 
   pub taking-index : (n ≤ GATEWAYS) × Index (take (2 * i) links) next
   taking-index = (t .few, built-front links i (t .built))
@@ -64,14 +64,20 @@ pub record InTurn (n : ℕ) (file links₀ next₀ links next last degrees : Lis
 
 module _ (file links₀ next₀ : List ℕ) (u : Unindexed file links₀ next₀) where
   room : 2 * fileM file ≤ length links₀
-  room = omega (arith, u .links-few, u .ends)
+  room = u .unlinked .ends (u .links-few)
 
-  pub turn-start : {n : ℕ} {last degrees : List ℕ} → last ≡ listOf GATEWAYS rootOf → degrees ≡ replicate GATEWAYS 0 → InTurn n file links₀ next₀ links₀ next₀ last degrees 0
+  slots : length next₀ ≡ length links₀ + GATEWAYS
+  slots = ap length (u .unlinked .empty) ∙ length-replicate (length links₀ + GATEWAYS) NONE
+
+  pub turn-roots : (GATEWAYS ≤ length next₀) × (length next₀ ≤ SLOTS)
+  turn-roots = (omega (arith, slots), omega (arith, slots, u .unlinked .few))
+
+  pub turn-start : {n : ℕ} {last degrees : List ℕ} → last ≡ listOf GATEWAYS (rootOf (length next₀)) → degrees ≡ replicate GATEWAYS 0 → InTurn n file links₀ next₀ links₀ next₀ last degrees 0
   turn-start {n} e f =
       record {
         checked = checked-start n file;
         listed = list-start _ _ _;
-        built = built-start links₀ (omega (arith, u .ends)) (u .empty) e;
+        built = built-start links₀ (length links₀ + GATEWAYS) (omega arith) (omega (arith, u .unlinked .few)) (u .unlinked .empty) (rw slots at e);
         kept = refl;
         degreed = ap length f ∙ length-replicate {A = ℕ} GATEWAYS 0;
       }
@@ -87,14 +93,14 @@ module _ (file links₀ next₀ : List ℕ) (u : Unindexed file links₀ next₀
       pub turn-refused : {A : Type 0} → (r ≡ 0 → ⊥) → (r ≡ linksRefusal (fileN file) [] (fileLinks file)) × (r ≡ 0 → A)
       turn-refused z = (checked-refused n file is (t .checked) l step z, λ e. absurd (z e))
 
-      pub turn-on : {links' next' last' degrees' : List ℕ} {j : ℕ} → r ≡ 0 → (r ≡ 0 → Taken file i links links' next' last') → j ≡ nextIndex file i → length degrees' ≡ GATEWAYS
+      pub turn-on : {links' next' last' degrees' : List ℕ} {j : ℕ} → r ≡ 0 → (r ≡ 0 → Taken file i links links' next' last') → j ≡ nextIndex file i → length next' ≡ length next → length degrees' ≡ GATEWAYS
           → InTurn n file links₀ next₀ links' next' last' degrees' j
-      turn-on z taken on long =
+      turn-on z taken on same long =
           record {
             checked = checked-turn n file (t .checked) l step z on;
             listed = links-turn file links₀ room (t .listed) l (taken z .ends) on;
             built = rw (index-on file i on l) (taken z .built);
-            kept = omega (arith, taken z .built .places, t .built .places, t .kept);
+            kept = same ∙ t .kept;
             degreed = long;
           }
 

@@ -69,7 +69,7 @@ pub(crate) fn take_links(file: &[u8], links: &mut [u16], next: &mut [u16]) -> u3
 {
     let n = crate::gateways(file);
     let m = crate::link_count(file) as usize;
-    let mut last = chains::build::roots();
+    let mut last = chains::build::roots(next.len());
     let mut degrees = lists::marks::zeros();
     let mut i: usize = 0;
     while i < m {

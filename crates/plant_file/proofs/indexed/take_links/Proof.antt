@@ -1,7 +1,7 @@
 use Prim.Native.Nat.{_-_}
 use native.Mathlib.Omega.{arith}
 use Rattle.plant_file.proofs.LinksByIndex.{index-less}
-use Rattle.plant_file.proofs.LinksTaken.{InTurn, turn-start, turn-taking, turn-refused, turn-on, turn-end}
+use Rattle.plant_file.proofs.LinksTaken.{InTurn, turn-roots, turn-start, turn-taking, turn-refused, turn-on, turn-end}
 use borrow.Author.Needs.{needs}
 use Rattle.plant_file.proofs.indexed.take_links.Statement.{statement}
 use Rattle.plant_file.proofs.indexed.take_links.Tie as tie
@@ -22,7 +22,7 @@ cast-m : tie.Need-cast-m Inv-loop μ-loop
 cast-m c = search needs
 
 roots-requires : tie.Need-roots-requires Inv-loop μ-loop
-roots-requires c κs = search needs
+roots-requires c κs = turn-roots _ _ _ (c .before .before .before .before .before .pre)
 
 zeros-requires : tie.Need-zeros-requires Inv-loop μ-loop
 zeros-requires c κs = search needs
@@ -61,7 +61,7 @@ loop-less c = index-less _ _ (c .index-after .ensures) (omega arith) (omega arit
 loop-again : tie.Need-loop-again Inv-loop μ-loop
 loop-again c = let turn = c .before .before .before .before .before .before .before .before .before .before .before .before .before in
     let read = turn .before .before .before .before in
-    turn-on _ _ _ (read .before .before .before .before .before .pre) (read .before .gateways .ensures) (turn .before .loop .inv) (omega arith) (c .before .before .before .before .before .before .before .before .take-link .ensures .0) (c .before .if1 .left) (c .before .before .before .before .before .before .before .before .take-link .ensures .1) (c .index-after .ensures) (omega arith)
+    turn-on _ _ _ (read .before .before .before .before .before .pre) (read .before .gateways .ensures) (turn .before .loop .inv) (omega arith) (c .before .before .before .before .before .before .before .before .take-link .ensures .0) (c .before .if1 .left) (c .before .before .before .before .before .before .before .before .take-link .ensures .1) (c .index-after .ensures) (omega arith) (omega arith)
 
 same-length-3 : tie.Need-same-length-3 Inv-loop μ-loop
 same-length-3 c = search needs
