@@ -12,6 +12,10 @@ use Rattle.packing.specs.Plant.{NONE, GATEWAYS, at, neighbours}
 abbrev pub SLOTS : ℕ
 SLOTS = 17408
 
+-- .. and those of a small one
+abbrev pub SMALL : ℕ
+SMALL = 2048
+
 -- the root of x's chain, in an index of so many places
 abbrev pub rootOf : ℕ → ℕ → ℕ
 rootOf slots x = slots - GATEWAYS + x

@@ -1,12 +1,13 @@
 // Building the index, link by link. last has the place of the index where each gateway's next end is to be written: its root at first, then the place of its last end, so that an empty chain is no case apart.
 use crate::SLOTS;
+use crate::SMALL;
 use lists::PLACES;
 ghost use mathlib.Core.Path.{_≡_};
 ghost use Prim.Native.Nat.{_+_, _*_, _<_, _≤_};
 ghost use lib.ListN.{length, set, replicate};
 ghost use Rattle.packing.specs.Lists.{listOf};
 ghost use Rattle.packing.specs.Plant.{NONE, GATEWAYS, ENDS, at};
-ghost use Rattle.chains.specs.Index.{SLOTS, rootOf, Index};
+ghost use Rattle.chains.specs.Index.{SLOTS, SMALL, rootOf, Index};
 ghost use Rattle.chains.specs.Build.{Joining, Built, Ready, Adding};
 
 // The index of no links.
@@ -14,6 +15,13 @@ pub fn empty_index() -> [u16; SLOTS]
     ensures { λ r. ⌜ r ≡ replicate SLOTS NONE ⌝ }
 {
     [lists::NONE; SLOTS]
+}
+
+// .. with places for few.
+pub fn small_index() -> [u16; SMALL]
+    ensures { λ r. ⌜ r ≡ replicate SMALL NONE ⌝ }
+{
+    [lists::NONE; SMALL]
 }
 
 // The last places of empty chains in an index of so many places: the roots.

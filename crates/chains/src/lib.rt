@@ -11,6 +11,9 @@ ghost use Rattle.chains.specs.Index.{rootOf, mate};
 // The most places of an index: one for each end of a link, and one for each gateway.
 pub const SLOTS: usize = 17408;
 
+// Those of a small one: the ends of 512 links, and the gateways.
+pub const SMALL: usize = 2048;
+
 // The place of x's first end.
 pub fn first_end(next: &[u16], x: u16) -> u16
     requires { ⌜ (GATEWAYS ≤ length (now next)) × (x < GATEWAYS) ⌝ }
