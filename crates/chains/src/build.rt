@@ -25,17 +25,16 @@ pub fn small_index() -> [u16; SMALL]
 }
 
 // The last places of empty chains in an index of so many places: the roots.
-pub fn roots(slots: usize) -> [u16; PLACES]
-    requires { ⌜ (GATEWAYS ≤ slots) × (slots ≤ SLOTS) ⌝ }
-    ensures { λ r. ⌜ r ≡ listOf GATEWAYS (rootOf slots) ⌝ }
+pub fn with_roots(slots: usize, last: &mut [u16])
+    requires { ⌜ (GATEWAYS ≤ slots) × (slots ≤ SLOTS) × (length (now last) ≡ GATEWAYS) ⌝ }
+    ensures { λ _. ⌜ now (last .exit) ≡ listOf GATEWAYS (rootOf slots) ⌝ }
 {
-    let mut last = lists::marks::zeros();
-    let mut x: usize = 0;
-    while x < PLACES {
-        last[x] = (slots - PLACES + x) as u16;
+    let first = (slots - PLACES) as u16;
+    let mut x: u16 = 0;
+    while x < lists::GATEWAYS {
+        last[x as usize] = first + x;
         x += 1;
     }
-    last
 }
 
 // Hangs an end to the chain of x.
@@ -79,7 +78,8 @@ pub fn index_of(links: &[u16]) -> [u16; SLOTS]
     ensures { λ r. ⌜ Index (now (links .entry)) r ⌝ }
 {
     let mut next = empty_index();
-    let mut last = roots(SLOTS);
+    let mut last = lists::marks::zeros();
+    with_roots(SLOTS, &mut last);
     let mut m: u16 = 0;
     while 2 * (m as usize) + 1 < links.len() {
         hang_link(links, m, &mut next, &mut last);

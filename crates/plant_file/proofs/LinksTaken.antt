@@ -29,12 +29,12 @@ isLink (Link a b) = true
 isLink End = false
 
 -- one link
-module _ (n : ℕ) (file : List ℕ) (i : ℕ) {links next last : List ℕ} (t : Taking n file i links next last) where
+module _ (n : ℕ) (file : List ℕ) (i : ℕ) {links next last degrees : List ℕ} (t : Taking n file i links next last degrees) where
   pub taking-long : 2 * i ≡ length (take (2 * i) links)
   taking-long = sym (length-take-le (2 * i) links (t .built .within))
 
-  pub taking-index : (n ≤ GATEWAYS) × Index (take (2 * i) links) next
-  taking-index = (t .few, built-front links i (t .built))
+  pub taking-index : (n ≤ GATEWAYS) × Index (take (2 * i) links) next × (length degrees ≡ GATEWAYS)
+  taking-index = (t .few, built-front links i (t .built), t .degreed)
 
   -- there is one
   pub taking-none : {A : Type 0} → linkAt file i ≡ End → A
@@ -48,6 +48,9 @@ module _ (n : ℕ) (file : List ℕ) (i : ℕ) {links next last : List ℕ} (t :
     taking-fine z =
         let f = ends-allowed n (take (2 * i) links) a b (sym of ∙ z) in
         record { built = t .built; more = t .more; first = omega (arith, f .first, t .few); second = omega (arith, f .second, t .few); differ = f .differ }
+
+    pub taking-degrees : r ≡ 0 → (a < length degrees) × (b < length degrees)
+    taking-degrees z = (rw (t .degreed) (taking-fine z .first), rw (t .degreed) (taking-fine z .second))
 
     pub taking-done : {Z : Type 0} {links' next' last' : List ℕ} → r ≡ 0 → links' ≡ set (set links (2 * i) a) (2 * i + 1) b → Built links' (i + 1) next' last'
         → (0 ≡ stepRefusal n (take (2 * i) links) (linkAt file i)) × (Z → Taken file i links links' next' last')
@@ -69,8 +72,8 @@ module _ (file links₀ next₀ : List ℕ) (u : Unindexed file links₀ next₀
   slots : length next₀ ≡ length links₀ + GATEWAYS
   slots = ap length (u .unlinked .empty) ∙ length-replicate (length links₀ + GATEWAYS) NONE
 
-  pub turn-roots : (GATEWAYS ≤ length next₀) × (length next₀ ≤ SLOTS)
-  turn-roots = (omega (arith, slots), omega (arith, slots, u .unlinked .few))
+  pub turn-roots : {last : List ℕ} → last ≡ replicate GATEWAYS 0 → (GATEWAYS ≤ length next₀) × (length next₀ ≤ SLOTS) × (length last ≡ GATEWAYS)
+  turn-roots e = (omega (arith, slots), omega (arith, slots, u .unlinked .few), ap length e ∙ length-replicate {A = ℕ} GATEWAYS 0)
 
   pub turn-start : {n : ℕ} {last degrees : List ℕ} → last ≡ listOf GATEWAYS (rootOf (length next₀)) → degrees ≡ replicate GATEWAYS 0 → InTurn n file links₀ next₀ links₀ next₀ last degrees 0
   turn-start {n} e f =
@@ -83,8 +86,8 @@ module _ (file links₀ next₀ : List ℕ) (u : Unindexed file links₀ next₀
       }
 
   module _ {n : ℕ} (is : n ≡ fileN file) {links next last degrees : List ℕ} {i : ℕ} (t : InTurn n file links₀ next₀ links next last degrees i) where
-    pub turn-taking : i < fileM file → Taking n file i links next last
-    turn-taking l = record { few = omega (arith, u .few, is); below = l; more = omega (arith, t .listed .same, room); built = t .built }
+    pub turn-taking : i < fileM file → Taking n file i links next last degrees
+    turn-taking l = record { few = omega (arith, u .few, is); below = l; more = omega (arith, t .listed .same, room); built = t .built; degreed = t .degreed }
 
     module _ {r : ℕ} (l : i < fileM file) (answer : r ≡ stepRefusal n (take (2 * i) links) (linkAt file i)) where
       step : r ≡ stepRefusal n (take (2 * i) (fileLinks file)) (linkAt file i)

@@ -44,11 +44,12 @@ unfoldable pub pairLimits : List ℕ → List ℕ
 pairLimits file = listOf (fileN file) (λ v. effectiveLimit (fileT file) (kindByte file v) (limitByte file v))
 
 -- link i is the next to be checked and put into the lists, which the first i links of a list are in
-pub record Taking (n : ℕ) (file : List ℕ) (i : ℕ) (links next last : List ℕ) : Type 0 where
+pub record Taking (n : ℕ) (file : List ℕ) (i : ℕ) (links next last degrees : List ℕ) : Type 0 where
   pub few : n ≤ GATEWAYS
   pub below : i < fileM file
   pub more : 2 * i + 1 < length links
   pub built : Built links i next last
+  pub degreed : length degrees ≡ GATEWAYS
 
 -- .. and is in them
 pub record Taken (file : List ℕ) (i : ℕ) (links₀ links next last : List ℕ) : Type 0 where

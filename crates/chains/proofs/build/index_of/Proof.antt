@@ -20,11 +20,18 @@ abbrev μ-loop : tie.MeasureT-loop
 empty-index-requires : tie.Need-empty-index-requires Inv-loop μ-loop
 empty-index-requires c κs = search needs
 
-roots-requires : tie.Need-roots-requires Inv-loop μ-loop
-roots-requires c κs = search needs
+zeros-requires : tie.Need-zeros-requires Inv-loop μ-loop
+zeros-requires c κs = search needs
+
+slice-aggregate-with-roots : tie.Need-slice-aggregate-with-roots Inv-loop μ-loop
+slice-aggregate-with-roots c = search needs
+
+with-roots-requires : tie.Need-with-roots-requires Inv-loop μ-loop
+with-roots-requires c κs = search needs
 
 loop-holds : tie.Need-loop-holds Inv-loop μ-loop
-loop-holds c = (built-start _ SLOTS (omega (arith, c .before .before .before .pre .0)) (omega arith) (c .before .empty-index .ensures) (c .roots .ensures), ap length (c .before .empty-index .ensures) ∙ length-replicate SLOTS NONE)
+loop-holds c = let empty = c .before .before .before .before in
+    (built-start _ SLOTS (omega (arith, empty .before .before .pre .0)) (omega arith) (empty .empty-index .ensures) (c .before .with-roots .ensures), ap length (empty .empty-index .ensures) ∙ length-replicate SLOTS NONE)
 
 cast-loop : tie.Need-cast-loop Inv-loop μ-loop
 cast-loop c = search needs
@@ -43,7 +50,7 @@ slice-aggregate-hang-link-2 c = search needs
 
 hang-link-requires : tie.Need-hang-link-requires Inv-loop μ-loop
 hang-link-requires c κs = let turn = c .before .before in
-    next-ready _ _ (turn .before .before .before .before .before .pre .1) (turn .before .loop .inv .0) (turn .loop-test .taken)
+    next-ready _ _ (turn .before .before .before .before .before .before .before .before .pre .1) (turn .before .loop .inv .0) (turn .loop-test .taken)
 
 add-m : tie.Need-add-m Inv-loop μ-loop
 add-m c = search needs
@@ -64,7 +71,9 @@ index-of-spec =
     Inv-loop
     μ-loop
     empty-index-requires
-    roots-requires
+    zeros-requires
+    slice-aggregate-with-roots
+    with-roots-requires
     loop-holds
     cast-loop
     mul-loop
