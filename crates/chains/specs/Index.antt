@@ -22,7 +22,7 @@ rootOf slots x = slots - GATEWAYS + x
 
 -- the place of a link's other end
 abbrev pub mate : ℕ → ℕ
-mate e = e + 1 - 2 * (e % 2)
+mate e = 2 * (e / 2) + (1 - e % 2)
 
 -- x is the end at place e of a whole link
 pub record EndOf (ls : List ℕ) (x e : ℕ) : Type 0 where

@@ -29,10 +29,11 @@ pub fn with_roots(slots: usize, last: &mut [u16])
     requires { ⌜ (GATEWAYS ≤ slots) × (slots ≤ SLOTS) × (length (now last) ≡ GATEWAYS) ⌝ }
     ensures { λ _. ⌜ now (last .exit) ≡ listOf GATEWAYS (rootOf slots) ⌝ }
 {
-    let first = (slots - PLACES) as u16;
-    let mut x: u16 = 0;
-    while x < lists::GATEWAYS {
-        last[x as usize] = first + x;
+    let mut root = (slots - PLACES) as u16;
+    let mut x: usize = 0;
+    while x < PLACES {
+        last[x] = root;
+        root += 1;
         x += 1;
     }
 }

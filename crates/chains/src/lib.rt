@@ -28,7 +28,7 @@ pub fn across(links: &[u16], e: u16) -> u16
     ensures { λ r. ⌜ r ≡ at (now (links .entry)) (mate e) ⌝ }
 {
     let place = e as usize;
-    links[place + 1 - 2 * (place % 2)]
+    links[2 * (place / 2) + (1 - place % 2)]
 }
 
 // The place of the next end of the gateway at place e.
