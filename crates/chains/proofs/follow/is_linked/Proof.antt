@@ -1,4 +1,5 @@
 use mathlib.Core.Path.{_∙_}
+use native.Mathlib.Omega.{arith}
 use Rattle.chains.proofs.Finding.{one-within, one-below, either-end}
 use borrow.Author.Needs.{needs}
 use Rattle.chains.proofs.follow.is_linked.Statement.{statement}
@@ -11,7 +12,7 @@ add-is-there : tie.Need-add-is-there
 add-is-there c = search needs
 
 sub-is-there : tie.Need-sub-is-there
-sub-is-there c = one-within (c .shorter .ensures)
+sub-is-there c = omega (arith, one-within (c .shorter .ensures))
 
 is-there-requires : tie.Need-is-there-requires
 is-there-requires c κs = let asked = c .before .before .before .before .pre in (asked .0, one-below (c .shorter .ensures) (asked .2) (asked .3))
