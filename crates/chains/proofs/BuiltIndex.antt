@@ -15,8 +15,8 @@ use Rattle.chains.specs.Build.{JoinsTwo, Absent, FirstOrNone, Hung, Buil
 use Rattle.chains.proofs.Following.{past, mates}
 
 -- only the first e ends count
-pub hung-same : (ls ls' : List ℕ) {e : ℕ} {next last : List ℕ} → ((i : ℕ) → i < e → at ls i ≡ at ls' i) → Hung ls e next last → Hung ls' e next last
-hung-same ls ls' {e} same d =
+pub hung-same : (ls ls' : List ℕ) {slots e : ℕ} {next last : List ℕ} → ((i : ℕ) → i < e → at ls i ≡ at ls' i) → Hung slots ls e next last → Hung slots ls' e next last
+hung-same ls ls' {e = e} same d =
     record {
       chain = λ x s k h st. follows (d .chain x s k h (⊎-elim inl (λ a. inr (a .0, same s (a .0) ∙ a .1, a .2)) st));
       tail = λ x h. let (k, st, none) = d .tail x h in (k, ⊎-elim inl (λ a. inr (a .0, sym (same _ (a .0)) ∙ a .1, a .2)) st, absent (λ i l. l) none);
@@ -70,16 +70,20 @@ module _ (ls : List ℕ) (x : ℕ) where
 pub built-whole : (ls : List ℕ) (m : ℕ) {next last : List ℕ} → Built ls m next last → length ls ≤ 2 * m + 1 → Index ls next
 built-whole ls m {next} b q =
     record {
-      long = b .long;
-      places = b .places;
-      first = λ x h. next-is ls x m 0 _ (b .room) q (b .long) (omega arith) (b .hung .chain x (rootOf x) 0 h (inl (refl, refl)));
+      places = omega (arith, b .room);
+      room = b .room;
+      few = b .few;
+      first = λ x h. next-is ls x m 0 _ (b .within) q long (omega arith) (b .hung .chain x (rootOf (length next) x) 0 h (inl (refl, refl)));
       later = later;
     }
   where
+    long : length ls ≤ ENDS
+    long = omega (arith, b .room, b .few)
+
     later : (x e : ℕ) → x < GATEWAYS → EndOf ls x e → NextEnd ls x (e / 2 + 1) (at next e)
     later x e h c =
         let less : e / 2 < m = omega (arith, c .inside) in
-        next-is ls x m (e / 2 + 1) _ (b .room) q (b .long) (omega (arith, less))
+        next-is ls x m (e / 2 + 1) _ (b .within) q long (omega (arith, less))
         (⊎-elim
         (λ k.
         let here : at ls (2 * (e / 2)) ≡ x = rw (← k .0) (c .here) in
@@ -90,12 +94,12 @@ two-same : (ls ls' : List ℕ) (i : ℕ) → at ls (2 * i) ≡ at ls' (2 * i) �
 two-same ls ls' i e f j = record { first = rw e at (j .first); second = rw f at (j .second); differ = rw (e, f) at (j .differ) }
 
 -- what is built of a list says nothing of its later links
-pub built-same : (ls ls' : List ℕ) (m : ℕ) {next last : List ℕ} → length ls' ≤ ENDS → 2 * m ≤ length ls' → ((i : ℕ) → i < 2 * m → at ls i ≡ at ls' i) → Built ls m next last → Built ls' m next last
-built-same ls ls' m few room same b =
+pub built-same : (ls ls' : List ℕ) (m : ℕ) {next last : List ℕ} → 2 * m ≤ length ls' → length ls' + GATEWAYS ≤ length next → ((i : ℕ) → i < 2 * m → at ls i ≡ at ls' i) → Built ls m next last → Built ls' m next last
+built-same ls ls' m within room same b =
     record {
-      long = few;
+      within = within;
       room = room;
-      places = b .places;
+      few = b .few;
       gateways = b .gateways;
       joining = λ i l. two-same ls ls' i (same (2 * i) (omega (arith, l))) (same (2 * i + 1) (omega (arith, l))) (b .joining i l);
       hung = hung-same ls ls' same (b .hung);
@@ -104,6 +108,6 @@ built-same ls ls' m few room same b =
 -- the index of the first m links of a list
 pub built-front : (ls : List ℕ) (m : ℕ) {next last : List ℕ} → Built ls m next last → Index (take (2 * m) ls) next
 built-front ls m b =
-    let long : length (take (2 * m) ls) ≡ 2 * m = length-take-le (2 * m) ls (b .room) in
+    let long : length (take (2 * m) ls) ≡ 2 * m = length-take-le (2 * m) ls (b .within) in
     built-whole (take (2 * m) ls) m
-    (built-same ls (take (2 * m) ls) m (omega (arith, b .long, b .room)) (omega (arith, long)) (λ i l. sym (getD-take (2 * m) ls i 0 l)) b) (omega (arith, long))
+    (built-same ls (take (2 * m) ls) m (omega (arith, long)) (omega (arith, long, b .within, b .room)) (λ i l. sym (getD-take (2 * m) ls i 0 l)) b) (omega (arith, long))

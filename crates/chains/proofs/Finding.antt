@@ -1,6 +1,7 @@
 -- Looking for y along the chain of x.
-use Prim.Native.Nat.{ℕ, _-_, _*_, _/_, _<_, _≤_}
+use Prim.Native.Nat.{ℕ, _+_, _-_, _*_, _/_, _<_, _≤_}
 use mathlib.Core.Path.{_≡_, sym, ap, _∙_}
+use mathlib.Core.Logic.{_⊎_, ⊎-elim}
 use mathlib.Core.Bool.{true, false, _||_}
 use mathlib.Core.List.{List, _∷_}
 use native.Mathlib.Omega.{arith}
@@ -9,7 +10,7 @@ use lib.ListN.{length, drop}
 use borrow.Author.Tests.{eq-eqb, ne-eqb}
 use Rattle.packing.specs.Plant.{NONE, GATEWAYS, at, linked, neighbours}
 use Rattle.packing.specs.Lists.{memberOf}
-use Rattle.packing.proofs.Links.{neighbours-linked}
+use Rattle.packing.proofs.Links.{neighbours-linked, linked-sym}
 use Rattle.chains.specs.Index.{rootOf, mate, Index}
 use Rattle.chains.proofs.Following.{Standing, chain-first, chain-next, chain-end, chain-there, chain-places}
 
@@ -19,7 +20,7 @@ pub record Sought (ls : List ℕ) (x y e : ℕ) : Type 0 where
   pub stands : Standing ls x e
 
 module _ (ls next : List ℕ) (x y : ℕ) (d : Index ls next) (below : x < GATEWAYS) where
-  pub sought-start : {e : ℕ} → e ≡ at next (rootOf x) → Sought ls x y e
+  pub sought-start : {e : ℕ} → e ≡ at next (rootOf (length next) x) → Sought ls x y e
   sought-start q =
       let (rest, stands) = chain-first d below in
       rw q (record { rest = ap (λ (l : List ℕ). memberOf l y) (sym rest) ∙ neighbours-linked ls x y; stands = stands })
@@ -49,3 +50,13 @@ module _ (ls next : List ℕ) (x y : ℕ) (d : Index ls next) (below : x < GATEW
   pub sought-end : {e : ℕ} → Sought ls x y e → e ≡ NONE → false ≡ linked ls x y
   unfolding memberOf
   sought-end s e = (rw (chain-end d below e) at (s .rest))
+
+-- one of the two ends of a link, and then the other
+pub one-within : {a b x : ℕ} → (x ≡ a) ⊎ (x ≡ b) → x ≤ a + b
+one-within = ⊎-elim (λ e. omega (arith, e)) (λ e. omega (arith, e))
+
+pub one-below : {a b x k : ℕ} → (x ≡ a) ⊎ (x ≡ b) → a < k → b < k → x < k
+one-below = ⊎-elim (λ e p q. rw e p) (λ e p q. rw e q)
+
+pub either-end : (ls : List ℕ) {a b x : ℕ} → (x ≡ a) ⊎ (x ≡ b) → linked ls x (a + b - x) ≡ linked ls a b
+either-end ls {a} {b} {x} = ⊎-elim (λ e. let y : a + b - x ≡ b = omega (arith, e) in rw (y, e)) (λ e. let y : a + b - x ≡ a = omega (arith, e) in rw (y, e) (linked-sym ls b a))

@@ -45,7 +45,7 @@ link-across ls x e h =
 
 module _ {ls next : List ℕ} (d : Index ls next) {x : ℕ} (below : x < GATEWAYS) where
   -- the first end
-  pub chain-first : (neighbours ls x ≡ neighbours (drop (2 * (at next (rootOf x) / 2)) ls) x) × Standing ls x (at next (rootOf x))
+  pub chain-first : (neighbours ls x ≡ neighbours (drop (2 * (at next (rootOf (length next) x) / 2)) ls) x) × Standing ls x (at next (rootOf (length next) x))
   chain-first = let n = d .first x below in (n .rest, ⊎-elim inl (λ k. inr (k .1)) (n .end))
 
   -- from one end to the next
@@ -53,11 +53,11 @@ module _ {ls next : List ℕ} (d : Index ls next) {x : ℕ} (below : x < GATEWAY
       → (neighbours (drop (2 * (e / 2)) ls) x ≡ at ls (mate e) ∷ neighbours (drop (2 * (at next e / 2)) ls) x) × Standing ls x (at next e) × (e < at next e)
   chain-next {e} h =
       let n = d .later x e below h in
-      (link-across ls x e h ∙ ap (λ (l : List ℕ). at ls (mate e) ∷ l) (n .rest), ⊎-elim inl (λ k. inr (k .1)) (n .end), ⊎-elim (λ q. rw q (omega (arith, h .inside, d .long))) (λ k. omega (arith, k .0)) (n .end))
+      (link-across ls x e h ∙ ap (λ (l : List ℕ). at ls (mate e) ∷ l) (n .rest), ⊎-elim inl (λ k. inr (k .1)) (n .end), ⊎-elim (λ q. rw q (omega (arith, h .inside, d .room, d .few))) (λ k. omega (arith, k .0)) (n .end))
 
   -- the end of the chain
   pub chain-end : {e : ℕ} → e ≡ NONE → neighbours (drop (2 * (e / 2)) ls) x ≡ []
-  chain-end {e} q = past ls (2 * (e / 2)) x (omega (arith, d .long))
+  chain-end {e} q = past ls (2 * (e / 2)) x (omega (arith, d .room, d .few))
 
   module _ {e : ℕ} (s : Standing ls x e) (more : e ≡ NONE → ⊥) where
     -- a chain that is not at its end
@@ -66,4 +66,4 @@ module _ {ls next : List ℕ} (d : Index ls next) {x : ℕ} (below : x < GATEWAY
 
     -- .. stands at a place of the index, whose other end is a place of the links
     pub chain-places : (mate e < length ls) × (e < length next)
-    chain-places = (⊎-elim (λ k. omega (arith, k .1, chain-there .inside)) (λ k. omega (arith, k .1, chain-there .inside)) (mates e), omega (arith, chain-there .inside, d .long, d .places))
+    chain-places = (⊎-elim (λ k. omega (arith, k .1, chain-there .inside)) (λ k. omega (arith, k .1, chain-there .inside)) (mates e), omega (arith, chain-there .inside, d .room))

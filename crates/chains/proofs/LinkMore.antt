@@ -9,7 +9,7 @@ use lib.Dec.{eqb}
 use lib.ListN.{length, set, replicate, length-set, length-replicate}
 use lib.Seq.{getD-set-same, getD-set-other}
 use borrow.Author.Tests.{eq-eqb}
-use Rattle.packing.specs.Plant.{NONE, GATEWAYS, ENDS, at, joins, linked}
+use Rattle.packing.specs.Plant.{NONE, GATEWAYS, at, joins, linked}
 use Rattle.packing.specs.Lists.{listOf}
 use Rattle.packing.proofs.Tests.{below-suc, and-i, or-l, or-r}
 use Rattle.packing.proofs.Lists.{listOf-length}
@@ -19,55 +19,61 @@ use Rattle.chains.proofs.Hanging.{hung-start, last-inside, hung-more}
 use Rattle.chains.proofs.BuiltIndex.{built-same}
 
 -- no links
-pub built-start : (ls : List ℕ) {next last : List ℕ} → length ls ≤ ENDS → next ≡ replicate SLOTS NONE → last ≡ listOf GATEWAYS rootOf → Built ls 0 next last
-built-start ls few e f =
+pub built-start : (ls : List ℕ) {next last : List ℕ} (slots : ℕ) → length ls + GATEWAYS ≤ slots → slots ≤ SLOTS → next ≡ replicate slots NONE → last ≡ listOf GATEWAYS (rootOf slots) → Built ls 0 next last
+built-start ls {next} slots room few e f =
     record {
-      long = few;
-      room = omega arith;
-      places = ap length e ∙ length-replicate SLOTS NONE;
-      gateways = ap length f ∙ listOf-length GATEWAYS rootOf;
+      within = omega arith;
+      room = omega (arith, long, room);
+      few = omega (arith, long, few);
+      gateways = ap length f ∙ listOf-length GATEWAYS (rootOf slots);
       joining = λ i l. absurd (omega (arith, l));
-      hung = hung-start ls e f;
+      hung = rw long (hung-start ls slots (omega (arith, room)) e f);
     }
+  where
+    long : length next ≡ slots
+    long = ap length e ∙ length-replicate slots NONE
 
 -- .. and link m more: its first end, then its second
 module _ (ls : List ℕ) (m : ℕ) {next last : List ℕ} (r : Ready ls m next last) where
-  few : 2 * m + 1 < ENDS
-  few = omega (arith, r .more, r .built .long)
+  few : 2 * m + 1 + GATEWAYS < length next
+  few = omega (arith, r .more, r .built .room)
 
-  first-hung : Hung ls (2 * m + 1) (set next (at last (at ls (2 * m))) (2 * m)) (set last (at ls (2 * m)) (2 * m))
+  first-hung : Hung (length next) ls (2 * m + 1) (set next (at last (at ls (2 * m))) (2 * m)) (set last (at ls (2 * m)) (2 * m))
   first-hung =
-      hung-more ls (2 * m) (at ls (2 * m)) (at last (at ls (2 * m))) (r .built .hung) (omega (arith, few)) (r .built .places) (r .built .gateways) refl (r .two .first) refl
+      hung-more (length next) ls (2 * m) (at ls (2 * m)) (at last (at ls (2 * m))) (r .built .hung) (omega (arith, few)) refl (r .built .gateways) refl (r .two .first) refl
 
   pub first-places : (at ls (2 * m) < length last) × (at last (at ls (2 * m)) < length next)
   first-places =
-      (rw (r .built .gateways) (r .two .first), rw (r .built .places) (last-inside ls (2 * m) (at ls (2 * m)) (at last (at ls (2 * m))) (r .built .hung) (omega (arith, few)) (r .built .places) (r .built .gateways) refl (r .two .first) refl))
+      (rw (r .built .gateways) (r .two .first), last-inside (length next) ls (2 * m) (at ls (2 * m)) (at last (at ls (2 * m))) (r .built .hung) (omega (arith, few)) refl (r .built .gateways) refl (r .two .first) refl)
 
   module _ {next' last' : List ℕ} (e : next' ≡ set next (at last (at ls (2 * m))) (2 * m)) (f : last' ≡ set last (at ls (2 * m)) (2 * m)) where
-    hung' : Hung ls (2 * m + 1) next' last'
+    hung' : Hung (length next) ls (2 * m + 1) next' last'
     hung' = rw (e, f) first-hung
 
-    places' : length next' ≡ SLOTS
-    places' = ap length e ∙ length-set next _ (2 * m) ∙ r .built .places
+    places' : length next' ≡ length next
+    places' = ap length e ∙ length-set next _ (2 * m)
 
     gateways' : length last' ≡ GATEWAYS
     gateways' = ap length f ∙ length-set last _ (2 * m) ∙ r .built .gateways
 
     pub second-places : (at ls (2 * m + 1) < length last') × (at last' (at ls (2 * m + 1)) < length next')
     second-places =
-        (rw gateways' (r .two .second), rw places' (last-inside ls (2 * m + 1) (at ls (2 * m + 1)) (at last' (at ls (2 * m + 1))) hung' few places' gateways' refl (r .two .second) refl))
+        (rw gateways' (r .two .second), rw places' (last-inside (length next) ls (2 * m + 1) (at ls (2 * m + 1)) (at last' (at ls (2 * m + 1))) hung' few places' gateways' refl (r .two .second) refl))
 
     pub both-hung : {next'' last'' : List ℕ} → next'' ≡ set next' (at last' (at ls (2 * m + 1))) (2 * m + 1) → last'' ≡ set last' (at ls (2 * m + 1)) (2 * m + 1) → Built ls (m + 1) next'' last''
-    both-hung g h =
+    both-hung {next''} g h =
         record {
-          long = r .built .long;
-          room = omega (arith, r .more);
-          places = ap length g ∙ length-set next' _ (2 * m + 1) ∙ places';
+          within = omega (arith, r .more);
+          room = rw kept (r .built .room);
+          few = rw kept (r .built .few);
           gateways = ap length h ∙ length-set last' _ (2 * m + 1) ∙ gateways';
           joining = λ i l. below-suc i m (rw (add-one m) at l) (λ q. rw q (r .two)) (r .built .joining i);
-          hung = rw (two, g, h) (hung-more ls (2 * m + 1) (at ls (2 * m + 1)) (at last' (at ls (2 * m + 1))) hung' few places' gateways' refl (r .two .second) refl);
+          hung = rw (kept, two, g, h) (hung-more (length next) ls (2 * m + 1) (at ls (2 * m + 1)) (at last' (at ls (2 * m + 1))) hung' few places' gateways' refl (r .two .second) refl);
         }
       where
+        kept : length next'' ≡ length next
+        kept = ap length g ∙ length-set next' _ (2 * m + 1) ∙ places'
+
         two : 2 * (m + 1) ≡ 2 * m + 1 + 1
         two = omega arith
 
@@ -75,7 +81,7 @@ module _ (ls : List ℕ) (m : ℕ) {next last : List ℕ} (r : Ready ls m next l
 pub add-ready : (ls : List ℕ) (m a b : ℕ) {next last : List ℕ} → Adding ls m a b next last → Ready (set (set ls (2 * m) a) (2 * m + 1) b) m next last
 add-ready ls m a b d =
     record {
-      built = built-same ls new m (omega (arith, long, d .built .long)) (omega (arith, long, d .built .room)) (λ i l. sym (before i l)) (d .built);
+      built = built-same ls new m (omega (arith, long, d .built .within)) (omega (arith, long, d .built .room)) (λ i l. sym (before i l)) (d .built);
       more = omega (arith, long, d .more);
       two = record { first = rw first (d .first); second = rw second (d .second); differ = rw (first, second) (d .differ) };
     }

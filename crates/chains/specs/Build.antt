@@ -4,7 +4,7 @@ use mathlib.Core.Path.{_≡_}
 use mathlib.Core.Logic.{_⊎_}
 use mathlib.Core.List.{List}
 use lib.ListN.{length}
-use Rattle.packing.specs.Plant.{NONE, GATEWAYS, ENDS, at}
+use Rattle.packing.specs.Plant.{NONE, GATEWAYS, at}
 use Rattle.chains.specs.Index.{SLOTS, rootOf}
 
 -- link i joins two gateways that differ
@@ -18,8 +18,8 @@ unfoldable pub Joining : List ℕ → Type 0
 Joining ls = (i : ℕ) → 2 * i + 1 < length ls → JoinsTwo ls i
 
 -- s is a place of x's chain, and from end k on lie the ends that come after it: its root, or one of the first e ends
-abbrev pub Stands : List ℕ → ℕ → ℕ → ℕ → ℕ → Type 0
-Stands ls e x s k = ((s ≡ rootOf x) × (k ≡ 0)) ⊎ ((s < e) × (at ls s ≡ x) × (k ≡ s + 1))
+abbrev pub Stands : ℕ → List ℕ → ℕ → ℕ → ℕ → ℕ → Type 0
+Stands slots ls e x s k = ((s ≡ rootOf slots x) × (k ≡ 0)) ⊎ ((s < e) × (at ls s ≡ x) × (k ≡ s + 1))
 
 -- none of the ends from k up to e is x's
 abbrev pub Absent : List ℕ → ℕ → ℕ → ℕ → Type 0
@@ -37,23 +37,23 @@ abbrev pub FirstOrNone : List ℕ → ℕ → ℕ → ℕ → ℕ → Type 0
 FirstOrNone ls e x k i = ((i ≡ NONE) × Absent ls x k e) ⊎ FirstEnd ls e x k i
 
 -- s is the last place of x's chain
-abbrev pub LastPlace : List ℕ → ℕ → ℕ → ℕ → Type 0
-LastPlace ls e x s = (k : ℕ) × Stands ls e x s k × Absent ls x k e
+abbrev pub LastPlace : ℕ → List ℕ → ℕ → ℕ → ℕ → Type 0
+LastPlace slots ls e x s = (k : ℕ) × Stands slots ls e x s k × Absent ls x k e
 
--- the first e ends of ls are in the chains: each place of a chain has the end that comes next, last has each gateway's last place, and the places of later ends are unused
-pub record Hung (ls : List ℕ) (e : ℕ) (next last : List ℕ) : Type 0 where
-  pub chain : (x s k : ℕ) → x < GATEWAYS → Stands ls e x s k → FirstOrNone ls e x k (at next s)
-  pub tail : (x : ℕ) → x < GATEWAYS → LastPlace ls e x (at last x)
-  pub unused : (s : ℕ) → e ≤ s → s < ENDS → at next s ≡ NONE
+-- the first e ends of ls are in the chains of an index of so many places: each place of a chain has the end that comes next, last has each gateway's last place, and the places of later ends are unused
+pub record Hung (slots : ℕ) (ls : List ℕ) (e : ℕ) (next last : List ℕ) : Type 0 where
+  pub chain : (x s k : ℕ) → x < GATEWAYS → Stands slots ls e x s k → FirstOrNone ls e x k (at next s)
+  pub tail : (x : ℕ) → x < GATEWAYS → LastPlace slots ls e x (at last x)
+  pub unused : (s : ℕ) → e ≤ s → s + GATEWAYS < slots → at next s ≡ NONE
 
 -- the lists that the first m links of ls are in
 pub record Built (ls : List ℕ) (m : ℕ) (next last : List ℕ) : Type 0 where
-  pub long : length ls ≤ ENDS
-  pub room : 2 * m ≤ length ls
-  pub places : length next ≡ SLOTS
+  pub within : 2 * m ≤ length ls
+  pub room : length ls + GATEWAYS ≤ length next
+  pub few : length next ≤ SLOTS
   pub gateways : length last ≡ GATEWAYS
   pub joining : (i : ℕ) → i < m → JoinsTwo ls i
-  pub hung : Hung ls (2 * m) next last
+  pub hung : Hung (length next) ls (2 * m) next last
 
 -- .. where there is a link m, the next to go in
 pub record Ready (ls : List ℕ) (m : ℕ) (next last : List ℕ) : Type 0 where

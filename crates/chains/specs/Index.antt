@@ -1,24 +1,28 @@
 -- The index of links, by which a gateway's links are found without a pass over all links. It says nothing new: all of it is about `neighbours`.
--- Link i has its two ends at places 2i and 2i + 1 of the list of links, ls. The index next has a place for each end, and behind those a place for each gateway, the root of its chain.
+-- Link i has its two ends at places 2i and 2i + 1 of the list of links, ls. The index next has a place for each end, and its last 1,024 places are the roots of the gateways' chains.
 -- A root has the place of the gateway's first end, and the place of an end has that of the next end of the gateway that stands there; 65535 for none.
 use Prim.Native.Nat.{ℕ, _+_, _-_, _*_, _/_, _%_, _<_, _≤_}
 use mathlib.Core.Path.{_≡_}
 use mathlib.Core.Logic.{_⊎_}
 use mathlib.Core.List.{List}
 use lib.ListN.{length, drop}
-use Rattle.packing.specs.Plant.{NONE, GATEWAYS, ENDS, at, neighbours}
+use Rattle.packing.specs.Plant.{NONE, GATEWAYS, at, neighbours}
 
--- the places of an index
+-- the most places of an index
 abbrev pub SLOTS : ℕ
 SLOTS = 17408
 
--- the root of x's chain
-abbrev pub rootOf : ℕ → ℕ
-rootOf x = ENDS + x
+-- .. and those of a small one
+abbrev pub SMALL : ℕ
+SMALL = 2048
+
+-- the root of x's chain, in an index of so many places
+abbrev pub rootOf : ℕ → ℕ → ℕ
+rootOf slots x = slots - GATEWAYS + x
 
 -- the place of a link's other end
 abbrev pub mate : ℕ → ℕ
-mate e = e + 1 - 2 * (e % 2)
+mate e = 2 * (e / 2) + (1 - e % 2)
 
 -- x is the end at place e of a whole link
 pub record EndOf (ls : List ℕ) (x e : ℕ) : Type 0 where
@@ -32,7 +36,8 @@ pub record NextEnd (ls : List ℕ) (x i e : ℕ) : Type 0 where
 
 -- next is the index of the links ls
 pub record Index (ls next : List ℕ) : Type 0 where
-  pub long : length ls ≤ ENDS
-  pub places : length next ≡ SLOTS
-  pub first : (x : ℕ) → x < GATEWAYS → NextEnd ls x 0 (at next (rootOf x))
+  pub places : GATEWAYS ≤ length next
+  pub room : length ls + GATEWAYS ≤ length next
+  pub few : length next ≤ SLOTS
+  pub first : (x : ℕ) → x < GATEWAYS → NextEnd ls x 0 (at next (rootOf (length next) x))
   pub later : (x e : ℕ) → x < GATEWAYS → EndOf ls x e → NextEnd ls x (e / 2 + 1) (at next e)

@@ -1,13 +1,13 @@
 // Building the index, link by link. last has the place of the index where each gateway's next end is to be written: its root at first, then the place of its last end, so that an empty chain is no case apart.
 use crate::SLOTS;
-use lists::ENDS;
+use crate::SMALL;
 use lists::PLACES;
 ghost use mathlib.Core.Path.{_≡_};
 ghost use Prim.Native.Nat.{_+_, _*_, _<_, _≤_};
 ghost use lib.ListN.{length, set, replicate};
 ghost use Rattle.packing.specs.Lists.{listOf};
 ghost use Rattle.packing.specs.Plant.{NONE, GATEWAYS, ENDS, at};
-ghost use Rattle.chains.specs.Index.{SLOTS, rootOf, Index};
+ghost use Rattle.chains.specs.Index.{SLOTS, SMALL, rootOf, Index};
 ghost use Rattle.chains.specs.Build.{Joining, Built, Ready, Adding};
 
 // The index of no links.
@@ -17,17 +17,25 @@ pub fn empty_index() -> [u16; SLOTS]
     [lists::NONE; SLOTS]
 }
 
-// The last places of empty chains: the roots.
-pub fn roots() -> [u16; PLACES]
-    ensures { λ r. ⌜ r ≡ listOf GATEWAYS rootOf ⌝ }
+// .. with places for few.
+pub fn small_index() -> [u16; SMALL]
+    ensures { λ r. ⌜ r ≡ replicate SMALL NONE ⌝ }
 {
-    let mut last = lists::marks::zeros();
+    [lists::NONE; SMALL]
+}
+
+// The last places of empty chains in an index of so many places: the roots.
+pub fn with_roots(slots: usize, last: &mut [u16])
+    requires { ⌜ (GATEWAYS ≤ slots) × (slots ≤ SLOTS) × (length (now last) ≡ GATEWAYS) ⌝ }
+    ensures { λ _. ⌜ now (last .exit) ≡ listOf GATEWAYS (rootOf slots) ⌝ }
+{
+    let mut root = (slots - PLACES) as u16;
     let mut x: usize = 0;
     while x < PLACES {
-        last[x] = (ENDS + x) as u16;
+        last[x] = root;
+        root += 1;
         x += 1;
     }
-    last
 }
 
 // Hangs an end to the chain of x.
@@ -71,7 +79,8 @@ pub fn index_of(links: &[u16]) -> [u16; SLOTS]
     ensures { λ r. ⌜ Index (now (links .entry)) r ⌝ }
 {
     let mut next = empty_index();
-    let mut last = roots();
+    let mut last = lists::marks::zeros();
+    with_roots(SLOTS, &mut last);
     let mut m: u16 = 0;
     while 2 * (m as usize) + 1 < links.len() {
         hang_link(links, m, &mut next, &mut last);

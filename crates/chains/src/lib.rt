@@ -3,20 +3,23 @@ pub mod build;
 pub mod follow;
 
 ghost use mathlib.Core.Path.{_≡_};
-ghost use Prim.Native.Nat.{_<_};
+ghost use Prim.Native.Nat.{_<_, _≤_};
 ghost use lib.ListN.{length};
 ghost use Rattle.packing.specs.Plant.{GATEWAYS, at};
-ghost use Rattle.chains.specs.Index.{SLOTS, rootOf, mate};
+ghost use Rattle.chains.specs.Index.{rootOf, mate};
 
-// The places of an index: one for each end of a link, and one for each gateway.
+// The most places of an index: one for each end of a link, and one for each gateway.
 pub const SLOTS: usize = 17408;
+
+// Those of a small one: the ends of 512 links, and the gateways.
+pub const SMALL: usize = 2048;
 
 // The place of x's first end.
 pub fn first_end(next: &[u16], x: u16) -> u16
-    requires { ⌜ (length (now next) ≡ SLOTS) × (x < GATEWAYS) ⌝ }
-    ensures { λ r. ⌜ r ≡ at (now (next .entry)) (rootOf x) ⌝ }
+    requires { ⌜ (GATEWAYS ≤ length (now next)) × (x < GATEWAYS) ⌝ }
+    ensures { λ r. ⌜ r ≡ at (now (next .entry)) (rootOf (length (now (next .entry))) x) ⌝ }
 {
-    next[lists::ENDS + (x as usize)]
+    next[next.len() - lists::PLACES + (x as usize)]
 }
 
 // The gateway at the other end of the link that has an end at place e.
@@ -25,7 +28,7 @@ pub fn across(links: &[u16], e: u16) -> u16
     ensures { λ r. ⌜ r ≡ at (now (links .entry)) (mate e) ⌝ }
 {
     let place = e as usize;
-    links[place + 1 - 2 * (place % 2)]
+    links[2 * (place / 2) + (1 - place % 2)]
 }
 
 // The place of the next end of the gateway at place e.

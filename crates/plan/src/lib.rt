@@ -8,6 +8,7 @@ use planner::Way;
 ghost use mathlib.Core.Path.{_≡_};
 ghost use lib.ListN.{length};
 ghost use Rattle.plant_file.specs.PlantFile.{fileRefusal};
+ghost use Rattle.plant_file.specs.Indexed.{Unlinked};
 ghost use Rattle.plan.specs.Plan.{planRefusal, planLeaders, planChoke};
 ghost use Rattle.plan.specs.After.{afterRefusal, planAfterRefusal, plannedBy, planLeadersBy, planChokeBy, plannedAfter, planLeadersAfter, planChokeAfter};
 
@@ -51,24 +52,28 @@ pub struct Planned {
     pub moved: u32,
 }
 
-// The leader list and the choke bytes after so many placings in one way, and how many gateways these move. Nothing is written on refusal.
+// So many links have a place for each end in 1,024 places, which are quicker to clear than places for any plant's.
+const FEW_LINKS: u16 = 512;
+
+// plan_lists_by, with lists for the file's links and the index of them.
 // The file is gone through once, and leaves its lists and the index of its links; nothing of the record that its calls make is checked again.
-pub fn plan_lists_by(
+fn plan_with(
     file: &[u8],
     way: Way,
     placings: u32,
+    links: &mut [u16],
+    next: &mut [u16],
     leaders: &mut [u16],
     choke: &mut [u8],
 ) -> Planned
+    requires { ⌜ Unlinked (now file) (now links) (now next) ⌝ }
     ensures answer { λ r. ⌜ r ≡ plannedBy way (now (file .entry)) placings (length (now (leaders .entry))) (length (now (choke .entry))) ⌝ }
     ensures leaders { λ _. ⌜ now (leaders .exit) ≡ planLeadersBy way (now (file .entry)) placings (now (leaders .entry)) (now (choke .entry)) ⌝ }
     ensures choke { λ _. ⌜ now (choke .exit) ≡ planChokeBy way (now (file .entry)) placings (now (leaders .entry)) (now (choke .entry)) ⌝ }
 {
-    let mut links = lists::marks::ends();
-    let mut next = chains::build::empty_index();
     let mut order = lists::marks::zeros();
     let mut limits = lists::marks::bytes(0);
-    let number = plant_file::load_indexed(file, &mut links, &mut next, &mut order, &mut limits);
+    let number = plant_file::load_indexed(file, links, next, &mut order, &mut limits);
     let refused = number_of(number, file, placings, leaders, choke);
     if refused != 0 {
         return Planned {
@@ -83,12 +88,34 @@ pub fn plan_lists_by(
         placings,
         &limits,
         &links[..end],
-        &next,
+        next,
         &order,
         leaders,
         choke,
     );
     Planned { refusal: 0, moved }
+}
+
+// The leader list and the choke bytes after so many placings in one way, and how many gateways these move. Nothing is written on refusal.
+pub fn plan_lists_by(
+    file: &[u8],
+    way: Way,
+    placings: u32,
+    leaders: &mut [u16],
+    choke: &mut [u8],
+) -> Planned
+    ensures answer { λ r. ⌜ r ≡ plannedBy way (now (file .entry)) placings (length (now (leaders .entry))) (length (now (choke .entry))) ⌝ }
+    ensures leaders { λ _. ⌜ now (leaders .exit) ≡ planLeadersBy way (now (file .entry)) placings (now (leaders .entry)) (now (choke .entry)) ⌝ }
+    ensures choke { λ _. ⌜ now (choke .exit) ≡ planChokeBy way (now (file .entry)) placings (now (leaders .entry)) (now (choke .entry)) ⌝ }
+{
+    if plant_file::link_count(file) <= FEW_LINKS {
+        let mut links = lists::marks::zeros();
+        let mut next = chains::build::small_index();
+        return plan_with(file, way, placings, &mut links, &mut next, leaders, choke);
+    }
+    let mut links = lists::marks::ends();
+    let mut next = chains::build::empty_index();
+    plan_with(file, way, placings, &mut links, &mut next, leaders, choke)
 }
 
 // .. by 01's search.

@@ -45,6 +45,11 @@ module _ (file lent : List ℕ) where
 pub order-entry : (file : List ℕ) (i : ℕ) {m x : ℕ} → m ≡ fileM file → x ≡ number file (10 + 4 * m + 2 * i) → x ≡ orderNumber file i
 order-entry file i e f = rw e at f
 
+-- .. and all of them
+pub order-numbers : (file lent : List ℕ) {m n : ℕ} {l : List ℕ} → m ≡ fileM file → n ≡ fileN file → l ≡ written n (listOf n (λ i. number file (10 + 4 * m + 2 * i))) lent → l ≡ written (fileN file) (fileOrder file) lent
+unfolding fileOrder
+order-numbers file lent is-m is-n e = rw (is-m, is-n) at e
+
 -- the order once it is written: its n numbers, and the test of them
 module _ (file lent : List ℕ) {n : ℕ} {l : List ℕ} (is : n ≡ fileN file) (e : l ≡ written (fileN file) (fileOrder file) lent) where
   order-front : take n l ≡ fileOrder file

@@ -7,9 +7,9 @@ use native.Mathlib.Omega.{arith}
 use lib.ListN.{length, set, take, replicate, length-replicate}
 use lib.Seq.{length-take-le}
 use Rattle.packing.specs.Lists.{listOf}
-use Rattle.packing.specs.Plant.{GATEWAYS}
+use Rattle.packing.specs.Plant.{NONE, GATEWAYS}
 use Rattle.packing.proofs.Lists.{list-start, written-front}
-use Rattle.chains.specs.Index.{rootOf, Index}
+use Rattle.chains.specs.Index.{SLOTS, rootOf, Index}
 use Rattle.chains.specs.Build.{Built, Adding}
 use Rattle.chains.proofs.BuiltIndex.{built-front}
 use Rattle.chains.proofs.LinkMore.{built-start}
@@ -29,12 +29,12 @@ isLink (Link a b) = true
 isLink End = false
 
 -- one link
-module _ (n : ℕ) (file : List ℕ) (i : ℕ) {links next last : List ℕ} (t : Taking n file i links next last) where
+module _ (n : ℕ) (file : List ℕ) (i : ℕ) {links next last degrees : List ℕ} (t : Taking n file i links next last degrees) where
   pub taking-long : 2 * i ≡ length (take (2 * i) links)
-  taking-long = sym (length-take-le (2 * i) links (t .built .room))
+  taking-long = sym (length-take-le (2 * i) links (t .built .within))
 
-  pub taking-index : (n ≤ GATEWAYS) × Index (take (2 * i) links) next
-  taking-index = (t .few, built-front links i (t .built))
+  pub taking-index : (n ≤ GATEWAYS) × Index (take (2 * i) links) next × (length degrees ≡ GATEWAYS)
+  taking-index = (t .few, built-front links i (t .built), t .degreed)
 
   -- there is one
   pub taking-none : {A : Type 0} → linkAt file i ≡ End → A
@@ -48,6 +48,9 @@ module _ (n : ℕ) (file : List ℕ) (i : ℕ) {links next last : List ℕ} (t :
     taking-fine z =
         let f = ends-allowed n (take (2 * i) links) a b (sym of ∙ z) in
         record { built = t .built; more = t .more; first = omega (arith, f .first, t .few); second = omega (arith, f .second, t .few); differ = f .differ }
+
+    pub taking-degrees : r ≡ 0 → (a < length degrees) × (b < length degrees)
+    taking-degrees z = (rw (t .degreed) (taking-fine z .first), rw (t .degreed) (taking-fine z .second))
 
     pub taking-done : {Z : Type 0} {links' next' last' : List ℕ} → r ≡ 0 → links' ≡ set (set links (2 * i) a) (2 * i + 1) b → Built links' (i + 1) next' last'
         → (0 ≡ stepRefusal n (take (2 * i) links) (linkAt file i)) × (Z → Taken file i links links' next' last')
@@ -64,21 +67,27 @@ pub record InTurn (n : ℕ) (file links₀ next₀ links next last degrees : Lis
 
 module _ (file links₀ next₀ : List ℕ) (u : Unindexed file links₀ next₀) where
   room : 2 * fileM file ≤ length links₀
-  room = omega (arith, u .links-few, u .ends)
+  room = u .unlinked .ends (u .links-few)
 
-  pub turn-start : {n : ℕ} {last degrees : List ℕ} → last ≡ listOf GATEWAYS rootOf → degrees ≡ replicate GATEWAYS 0 → InTurn n file links₀ next₀ links₀ next₀ last degrees 0
+  slots : length next₀ ≡ length links₀ + GATEWAYS
+  slots = ap length (u .unlinked .empty) ∙ length-replicate (length links₀ + GATEWAYS) NONE
+
+  pub turn-roots : {last : List ℕ} → last ≡ replicate GATEWAYS 0 → (GATEWAYS ≤ length next₀) × (length next₀ ≤ SLOTS) × (length last ≡ GATEWAYS)
+  turn-roots e = (omega (arith, slots), omega (arith, slots, u .unlinked .few), ap length e ∙ length-replicate {A = ℕ} GATEWAYS 0)
+
+  pub turn-start : {n : ℕ} {last degrees : List ℕ} → last ≡ listOf GATEWAYS (rootOf (length next₀)) → degrees ≡ replicate GATEWAYS 0 → InTurn n file links₀ next₀ links₀ next₀ last degrees 0
   turn-start {n} e f =
       record {
         checked = checked-start n file;
         listed = list-start _ _ _;
-        built = built-start links₀ (omega (arith, u .ends)) (u .empty) e;
+        built = built-start links₀ (length links₀ + GATEWAYS) (omega arith) (omega (arith, u .unlinked .few)) (u .unlinked .empty) (rw slots at e);
         kept = refl;
         degreed = ap length f ∙ length-replicate {A = ℕ} GATEWAYS 0;
       }
 
   module _ {n : ℕ} (is : n ≡ fileN file) {links next last degrees : List ℕ} {i : ℕ} (t : InTurn n file links₀ next₀ links next last degrees i) where
-    pub turn-taking : i < fileM file → Taking n file i links next last
-    turn-taking l = record { few = omega (arith, u .few, is); below = l; more = omega (arith, t .listed .same, room); built = t .built }
+    pub turn-taking : i < fileM file → Taking n file i links next last degrees
+    turn-taking l = record { few = omega (arith, u .few, is); below = l; more = omega (arith, t .listed .same, room); built = t .built; degreed = t .degreed }
 
     module _ {r : ℕ} (l : i < fileM file) (answer : r ≡ stepRefusal n (take (2 * i) links) (linkAt file i)) where
       step : r ≡ stepRefusal n (take (2 * i) (fileLinks file)) (linkAt file i)
@@ -87,14 +96,14 @@ module _ (file links₀ next₀ : List ℕ) (u : Unindexed file links₀ next₀
       pub turn-refused : {A : Type 0} → (r ≡ 0 → ⊥) → (r ≡ linksRefusal (fileN file) [] (fileLinks file)) × (r ≡ 0 → A)
       turn-refused z = (checked-refused n file is (t .checked) l step z, λ e. absurd (z e))
 
-      pub turn-on : {links' next' last' degrees' : List ℕ} {j : ℕ} → r ≡ 0 → (r ≡ 0 → Taken file i links links' next' last') → j ≡ nextIndex file i → length degrees' ≡ GATEWAYS
+      pub turn-on : {links' next' last' degrees' : List ℕ} {j : ℕ} → r ≡ 0 → (r ≡ 0 → Taken file i links links' next' last') → j ≡ nextIndex file i → length next' ≡ length next → length degrees' ≡ GATEWAYS
           → InTurn n file links₀ next₀ links' next' last' degrees' j
-      turn-on z taken on long =
+      turn-on z taken on same long =
           record {
             checked = checked-turn n file (t .checked) l step z on;
             listed = links-turn file links₀ room (t .listed) l (taken z .ends) on;
             built = rw (index-on file i on l) (taken z .built);
-            kept = omega (arith, taken z .built .places, t .built .places, t .kept);
+            kept = same ∙ t .kept;
             degreed = long;
           }
 

@@ -1,18 +1,19 @@
 -- What load and load_indexed give, and what order writes.
-use Prim.Native.Nat.{ℕ, _*_, _<_, _≤_}
-use mathlib.Core.Path.{_≡_, sym, _∙_}
+use Prim.Native.Nat.{ℕ, _+_, _*_, _<_, _≤_}
+use mathlib.Core.Path.{_≡_, sym, ap, _∙_}
 use mathlib.Core.Bool.{Bool, true, false, _||_}
 use mathlib.Core.List.{List}
 use native.Mathlib.Omega.{arith}
 use lib.Dec.{ltb, leb}
-use lib.ListN.{length}
+use lib.ListN.{length, replicate, length-replicate}
 use borrow.Author.Tests.{ltb-false, lt-leb, le-leb}
+use Rattle.packing.specs.Plant.{NONE, GATEWAYS, LINKS, ENDS}
 use Rattle.packing.specs.Lists.{written}
 use Rattle.packing.proofs.Tests.{or-false-l, or-false-r}
 use Rattle.packing.proofs.Refusals.{refused, accepted}
 use Rattle.plant_file.specs.PlantFile.{fileN, fileM, fileLinks, fileOrder, fileLimits, fileRefusal, fileThenShort}
 use Rattle.plant_file.specs.Load.{loadRefusal, loadLinks, loadOrder, loadLimits, orderWritten}
-use Rattle.plant_file.specs.Indexed.{Blank, LinksIndexed, Indexed}
+use Rattle.plant_file.specs.Indexed.{Unlinked, Blank, LinksIndexed, Indexed}
 use Rattle.plant_file.specs.Pre.{headerRefusal, Unindexed, Orderly}
 use Rattle.plant_file.proofs.Refusing.{header-sizes, then-none}
 
@@ -45,10 +46,16 @@ module _ (file links order limits : List ℕ) {e : ℕ} (of : e ≡ loadRefusal 
   unfolding loadLinks loadOrder loadLimits
   load-accepted z p q r = (sym z ∙ of, (accepted _ _ of z p, (accepted _ _ of z q, accepted _ _ of z r)))
 
+-- lists of zeros and an index of no links are lent, with places for so many ends
+pub lent-unlinked : (file : List ℕ) (ends : ℕ) {links next : List ℕ} → (fileM file ≤ LINKS → 2 * fileM file ≤ ends) → ends ≤ ENDS → links ≡ replicate ends 0 → next ≡ replicate (ends + GATEWAYS) NONE → Unlinked file links next
+lent-unlinked file ends {links} room few e f =
+    let long : length links ≡ ends = ap length e ∙ length-replicate {A = ℕ} ends 0 in
+    record { ends = λ l. omega (arith, long, room l); few = omega (arith, long, few); empty = rw long f }
+
 -- A file checked once: what each part of the check asks for, and what it leaves.
-module _ (file : List ℕ) {links₀ next₀ order₀ limits₀ : List ℕ} (blank : Blank links₀ next₀ order₀ limits₀) {h : ℕ} (header : h ≡ headerRefusal file) (fine : h ≡ 0) where
+module _ (file : List ℕ) {links₀ next₀ order₀ limits₀ : List ℕ} (blank : Blank file links₀ next₀ order₀ limits₀) {h : ℕ} (header : h ≡ headerRefusal file) (fine : h ≡ 0) where
   pub load-unindexed : Unindexed file links₀ next₀
-  load-unindexed = let (few, links-few) = header-sizes file header fine in record { few = few; links-few = links-few; ends = blank .ends; empty = blank .empty }
+  load-unindexed = let (few, links-few) = header-sizes file header fine in record { few = few; links-few = links-few; unlinked = blank .unlinked }
 
   pub load-orderly : Orderly file order₀
   load-orderly = let few = header-sizes file header fine .0 in record { few = few; places = omega (arith, few, blank .gateways) }

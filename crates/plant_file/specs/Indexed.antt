@@ -1,17 +1,22 @@
 -- A file checked once, with its links, the index of them, its order and its limits left in lists.
-use Prim.Native.Nat.{ℕ, _*_}
+use Prim.Native.Nat.{ℕ, _+_, _*_, _≤_}
 use mathlib.Core.Path.{_≡_}
 use mathlib.Core.List.{List}
 use lib.ListN.{length, replicate}
 use Rattle.packing.specs.Lists.{written}
-use Rattle.packing.specs.Plant.{NONE, GATEWAYS, ENDS}
-use Rattle.chains.specs.Index.{SLOTS, Index}
+use Rattle.packing.specs.Plant.{NONE, GATEWAYS, LINKS, ENDS}
+use Rattle.chains.specs.Index.{Index}
 use Rattle.plant_file.specs.PlantFile.{fileN, fileM, fileLinks, fileOrder, fileLimits}
 
--- lists with the most places that a file needs, and an index of no links
-pub record Blank (links next order limits : List ℕ) : Type 0 where
-  pub ends : length links ≡ ENDS
-  pub empty : next ≡ replicate SLOTS NONE
+-- places for the links of a file, where it has no more than a plant may have, and an index of no links
+pub record Unlinked (file links next : List ℕ) : Type 0 where
+  pub ends : fileM file ≤ LINKS → 2 * fileM file ≤ length links
+  pub few : length links ≤ ENDS
+  pub empty : next ≡ replicate (length links + GATEWAYS) NONE
+
+-- .. and places for the longest order and as many limits
+pub record Blank (file links next order limits : List ℕ) : Type 0 where
+  pub unlinked : Unlinked file links next
   pub gateways : length order ≡ GATEWAYS
   pub limited : length limits ≡ GATEWAYS
 

@@ -4,16 +4,16 @@ use mathlib.Core.Path.{_≡_}
 use mathlib.Core.Bool.{not, _||_}
 use mathlib.Core.List.{List}
 use lib.Dec.{eqb, ltb}
-use lib.ListN.{length, set, replicate}
-use Rattle.packing.specs.Plant.{NONE, GATEWAYS, LINKS, ENDS, LOWEST, HIGHEST}
+use lib.ListN.{length, set}
+use Rattle.packing.specs.Plant.{GATEWAYS, LINKS, LOWEST, HIGHEST}
 use Rattle.packing.specs.Lists.{listOf}
 use Rattle.packing.specs.Refusals.{refuse}
-use Rattle.chains.specs.Index.{SLOTS}
 use Rattle.chains.specs.Build.{Built}
 use Rattle.plant_file.specs.declared.reader.Step.{Step}
 use Rattle.plant_file.specs.declared.reader.Step.the-variants.{Link, End}
 use Rattle.plant_file.specs.PlantFile.{fileVersion, fileN, fileT, fileM, kindByte, limitByte, effectiveLimit, fileLength, beginsPLT, endsRefusal}
 use Rattle.plant_file.specs.Reader.{linkAt}
+use Rattle.plant_file.specs.Indexed.{Unlinked}
 
 -- 3, 4, 20 for a link after the links before it
 abbrev pub stepRefusal : ℕ → List ℕ → Step → ℕ
@@ -44,11 +44,12 @@ unfoldable pub pairLimits : List ℕ → List ℕ
 pairLimits file = listOf (fileN file) (λ v. effectiveLimit (fileT file) (kindByte file v) (limitByte file v))
 
 -- link i is the next to be checked and put into the lists, which the first i links of a list are in
-pub record Taking (n : ℕ) (file : List ℕ) (i : ℕ) (links next last : List ℕ) : Type 0 where
+pub record Taking (n : ℕ) (file : List ℕ) (i : ℕ) (links next last degrees : List ℕ) : Type 0 where
   pub few : n ≤ GATEWAYS
   pub below : i < fileM file
   pub more : 2 * i + 1 < length links
   pub built : Built links i next last
+  pub degreed : length degrees ≡ GATEWAYS
 
 -- .. and is in them
 pub record Taken (file : List ℕ) (i : ℕ) (links₀ links next last : List ℕ) : Type 0 where
@@ -59,8 +60,7 @@ pub record Taken (file : List ℕ) (i : ℕ) (links₀ links next last : List �
 pub record Unindexed (file links next : List ℕ) : Type 0 where
   pub few : fileN file ≤ GATEWAYS
   pub links-few : fileM file ≤ LINKS
-  pub ends : length links ≡ ENDS
-  pub empty : next ≡ replicate SLOTS NONE
+  pub unlinked : Unlinked file links next
 
 -- places for an order of no more than 1,024
 pub record Orderly (file order : List ℕ) : Type 0 where

@@ -1,4 +1,6 @@
 // Writes what a file says into the front of a lent list, and nothing past it.
+use crate::bytes::number_at;
+use crate::bytes::number_in;
 use crate::limits::effective;
 use crate::limits::is_allowed;
 use crate::reader::Step;
@@ -9,7 +11,7 @@ ghost use Prim.Native.Nat.{_+_, _*_, _<_, _≤_};
 ghost use lib.ListN.{length};
 ghost use Rattle.packing.specs.Count.{all};
 ghost use Rattle.packing.specs.Lists.{listOf, written};
-ghost use Rattle.plant_file.specs.PlantFile.{fileN, fileM, fileLinks, fileOrder, fileLimits, limitByte, limitAllowed, limitsAllowed};
+ghost use Rattle.plant_file.specs.PlantFile.{number, fileN, fileM, fileLinks, fileOrder, fileLimits, limitByte, limitAllowed, limitsAllowed};
 ghost use Rattle.plant_file.specs.Reader.{linkAt};
 ghost use Rattle.plant_file.specs.Pre.{withEnds, pairLimits};
 
@@ -39,16 +41,32 @@ pub(crate) fn with_links(file: &[u8], links: &mut [u16])
     }
 }
 
-// The file's order.
+// The n numbers of the file from a place on.
+fn with_numbers(file: &[u8], start: usize, n: usize, out: &mut [u16])
+    requires { ⌜ (start + 2 * n ≤ length (now file)) × (n ≤ length (now out)) ⌝ }
+    ensures { λ _. ⌜ now (out .exit) ≡ written n (listOf n (λ i. number (now (file .entry)) (start + 2 * i))) (now (out .entry)) ⌝ }
+{
+    let mut i: usize = 0;
+    while i < n {
+        out[i] = number_in(file, start + 2 * i);
+        i += 1;
+    }
+}
+
+// The file's order. One test for all its bytes where they are there.
 pub(crate) fn with_order(file: &[u8], order: &mut [u16])
     requires { ⌜ fileN (now file) ≤ length (now order) ⌝ }
     ensures { λ _. ⌜ now (order .exit) ≡ written (fileN (now (file .entry))) (fileOrder (now (file .entry))) (now (order .entry)) ⌝ }
 {
     let n = crate::gateways(file) as usize;
     let start = 10 + 4 * (crate::link_count(file) as usize);
+    if start + 2 * n <= file.len() {
+        with_numbers(file, start, n, order);
+        return;
+    }
     let mut i: usize = 0;
     while i < n {
-        order[i] = crate::bytes::number_at(file, start + 2 * i);
+        order[i] = number_at(file, start + 2 * i);
         i += 1;
     }
 }

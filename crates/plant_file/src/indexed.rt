@@ -3,7 +3,7 @@ use crate::reader::Step;
 ghost use mathlib.Core.Path.{_≡_};
 ghost use mathlib.Core.List.{[]};
 ghost use Prim.Native.Nat.{_*_, _≤_};
-ghost use lib.ListN.{take};
+ghost use lib.ListN.{length, take};
 ghost use Rattle.packing.specs.Lists.{written};
 ghost use Rattle.packing.specs.Plant.{GATEWAYS};
 ghost use Rattle.chains.specs.Index.{Index};
@@ -15,7 +15,7 @@ ghost use Rattle.plant_file.specs.Pre.{stepRefusal, Taking, Taken, Unind
 
 // One link after those before it: 3, 4, 20.
 fn of_link(n: u16, a: u16, b: u16, links: &[u16], next: &[u16], degrees: &[u16]) -> u32
-    requires { ⌜ (n ≤ GATEWAYS) × Index (now links) (now next) ⌝ }
+    requires { ⌜ (n ≤ GATEWAYS) × Index (now links) (now next) × (length (now degrees) ≡ GATEWAYS) ⌝ }
     ensures { λ r. ⌜ r ≡ endsRefusal n (now (links .entry)) a b ⌝ }
 {
     if n <= a {
@@ -43,7 +43,7 @@ fn take_link(
     last: &mut [u16],
     degrees: &mut [u16],
 ) -> u32
-    requires { ⌜ Taking n (now file) i (now links) (now next) (now last) ⌝ }
+    requires { ⌜ Taking n (now file) i (now links) (now next) (now last) (now degrees) ⌝ }
     ensures answer { λ r. ⌜ r ≡ stepRefusal n (take (2 * i) (now (links .entry))) (linkAt (now (file .entry)) i) ⌝ }
     ensures taken { λ r. ⌜ (r ≡ 0 → Taken (now (file .entry)) i (now (links .entry)) (now (links .exit)) (now (next .exit)) (now (last .exit))) ⌝ }
 {
@@ -69,7 +69,8 @@ pub(crate) fn take_links(file: &[u8], links: &mut [u16], next: &mut [u16]) -> u3
 {
     let n = crate::gateways(file);
     let m = crate::link_count(file) as usize;
-    let mut last = chains::build::roots();
+    let mut last = lists::marks::zeros();
+    chains::build::with_roots(next.len(), &mut last);
     let mut degrees = lists::marks::zeros();
     let mut i: usize = 0;
     while i < m {

@@ -46,7 +46,7 @@ pub fn load_indexed(
     order: &mut [u16],
     limits: &mut [u8],
 ) -> u32
-    requires { ⌜ Blank (now links) (now next) (now order) (now limits) ⌝ }
+    requires { ⌜ Blank (now file) (now links) (now next) (now order) (now limits) ⌝ }
     ensures answer { λ r. ⌜ r ≡ fileRefusal (now (file .entry)) ⌝ }
     ensures lists { λ r. ⌜ (r ≡ 0 → Indexed (now (file .entry)) (now (links .entry)) (now (order .entry)) (now (limits .entry)) (now (links .exit)) (now (next .exit)) (now (order .exit)) (now (limits .exit))) ⌝ }
 {

@@ -1,5 +1,6 @@
 // 01, "The plant file and the listing": "a reader that keeps the file together with the index of its next link".
 use crate::bytes::number_at;
+use crate::bytes::number_in;
 ghost use mathlib.Core.Path.{_≡_};
 ghost use Rattle.plant_file.specs.Reader.{linkAt, nextIndex};
 
@@ -15,11 +16,14 @@ pub enum Step {
     End,
 }
 
-// The work: the link at an index.
+// The work: the link at an index. One test for all four bytes where they are there.
 pub fn link_at(file: &[u8], i: usize) -> Step
     ensures { λ r. ⌜ r ≡ linkAt (now (file .entry)) i ⌝ }
 {
     if i < crate::link_count(file) as usize {
+        if 13 + 4 * i < file.len() {
+            return Step::Link(number_in(file, 10 + 4 * i), number_in(file, 12 + 4 * i));
+        }
         return Step::Link(number_at(file, 10 + 4 * i), number_at(file, 12 + 4 * i));
     }
     Step::End

@@ -51,7 +51,7 @@ module _
     below : v < GATEWAYS
     below = working-below w .1
 
-    pub finding-start : {e : ℕ} → e ≡ at next (rootOf v) → Finding n limit ls v rows₀ hs₀ marks₀ rows₀ hs₀ marks₀ e
+    pub finding-start : {e : ℕ} → e ≡ at next (rootOf (length next) v) → Finding n limit ls v rows₀ hs₀ marks₀ rows₀ hs₀ marks₀ e
     unfolding findHolder
     finding-start q =
         let (same, standing) = chain-first (w .index) below in
@@ -88,7 +88,7 @@ module _
         module _ {e' : ℕ} (later : e' ≡ at next e) where
           -- fewer links are left
           pub finding-on : NONE - e' < NONE - e
-          finding-on = let on : e < e' = rw later (chain-next (w .index) below finding-there .2) in omega (arith, finding-there .inside, w .index .long)
+          finding-on = let on : e < e' = rw later (chain-next (w .index) below finding-there .2) in omega (arith, finding-there .inside, w .index .room, w .index .few)
 
           -- what is known with the marks then, before the next link
           turn : {rows' : List (List ℕ)} {hs' marks' : List ℕ} → Front n marks₀ marks' → hs' ≡ hs₀ → rows' ≡ rows₀ → tried (take n marks') (at hs₀ v) ≡ true → untried (take n marks') ≤ untried (take n marks₀)

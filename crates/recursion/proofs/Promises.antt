@@ -7,7 +7,6 @@ use native.Mathlib.Omega.{arith}
 use lib.ListN.{length}
 use Rattle.packing.specs.Plant.{GATEWAYS, at}
 use Rattle.packing.specs.Moved.{moved}
-use Rattle.chains.specs.Index.{SLOTS}
 use Rattle.recursion.specs.Recursion.{Try, tried, findHolder, freePlace}
 use Rattle.recursion.specs.Pre.{untried, Working, Ends, RowsEnd, SmallLimits, Fits}
 use Rattle.recursion.proofs.Marks.{Grown}
@@ -29,7 +28,7 @@ abbrev pub FreedRows : (n : ℕ) (limit : ℕ → ℕ) (k : ℕ) (hs : List ℕ)
 FreedRows n limit k hs rows₀ rows = RowsEnd k n hs rows₀ rows (SmallLimits n limit)
 
 -- what either is lent has room for x
-pub working-below : {n x h : ℕ} {ls next : List ℕ} {rows : List (List ℕ)} {hs marks : List ℕ} → Working n x h ls next rows hs marks → (length next ≡ SLOTS) × (x < GATEWAYS)
+pub working-below : {n x h : ℕ} {ls next : List ℕ} {rows : List (List ℕ)} {hs marks : List ℕ} → Working n x h ls next rows hs marks → (GATEWAYS ≤ length next) × (x < GATEWAYS)
 working-below w = (w .index .places, omega (arith, w .few, w .inside))
 
 -- .. and x has a row

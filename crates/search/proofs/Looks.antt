@@ -88,7 +88,7 @@ module _
     below : x < GATEWAYS
     below = ready-below some
 
-    pub visit-start : {e : ℕ} → e ≡ at next (rootOf x) → Visiting limit x ls rows queue₀ tail from₀ queue₀ from₀ tail e
+    pub visit-start : {e : ℕ} → e ≡ at next (rootOf (length next) x) → Visiting limit x ls rows queue₀ tail from₀ queue₀ from₀ tail e
     visit-start {e} q =
         rw q
         (record {
@@ -145,7 +145,7 @@ module _
                       rest = rw same at (step t r);
                     };
               }),
-          omega (arith, f, after .2, visit-places v l .1, d .places),
+          omega (arith, f, after .2, visit-places v l .1, d .few),
         )
 
         pub visit-ends : {y z : ℕ} → w ≡ Found y z

@@ -1,39 +1,29 @@
-use mathlib.Core.Path.{_∙_}
-use Rattle.plan.proofs.Refusing.{plan-places, plan-refused, plan-accepted}
-use Rattle.plan.proofs.ReadingLists.{loaded-ends, loaded-long, loaded-lists, loaded-readable}
+use native.Mathlib.Omega.{arith}
+use Rattle.packing.specs.Plant.{GATEWAYS, ENDS}
+use Rattle.plant_file.proofs.Loading.{lent-unlinked}
 use borrow.Author.Needs.{needs}
 use Rattle.plan.proofs.plan_lists_by.Statement.{statement}
 use Rattle.plan.proofs.plan_lists_by.Tie as tie
 
-ends-requires : tie.Need-ends-requires
-ends-requires c κs = search needs
-
-empty-index-requires : tie.Need-empty-index-requires
-empty-index-requires c κs = search needs
+link-count-requires : tie.Need-link-count-requires
+link-count-requires c κs = search needs
 
 zeros-requires : tie.Need-zeros-requires
 zeros-requires c κs = search needs
 
-bytes-requires : tie.Need-bytes-requires
-bytes-requires c κs = search needs
+small-index-requires : tie.Need-small-index-requires
+small-index-requires c κs = search needs
 
-slice-aggregate-load-indexed : tie.Need-slice-aggregate-load-indexed
-slice-aggregate-load-indexed c = search needs
+slice-aggregate-plan-with : tie.Need-slice-aggregate-plan-with
+slice-aggregate-plan-with c = search needs
 
-slice-aggregate-load-indexed-2 : tie.Need-slice-aggregate-load-indexed-2
-slice-aggregate-load-indexed-2 c = search needs
+slice-aggregate-plan-with-2 : tie.Need-slice-aggregate-plan-with-2
+slice-aggregate-plan-with-2 c = search needs
 
-slice-aggregate-load-indexed-3 : tie.Need-slice-aggregate-load-indexed-3
-slice-aggregate-load-indexed-3 c = search needs
-
-slice-aggregate-load-indexed-4 : tie.Need-slice-aggregate-load-indexed-4
-slice-aggregate-load-indexed-4 c = search needs
-
-load-indexed-requires : tie.Need-load-indexed-requires
-load-indexed-requires c κs = search needs
-
-number-of-requires : tie.Need-number-of-requires
-number-of-requires c κs = search needs
+plan-with-requires : tie.Need-plan-with-requires
+plan-with-requires c κs = let index = c .before .before .before .before in
+    let few = index .before .before in
+    lent-unlinked _ GATEWAYS (λ l. omega (arith, few .before .link-count .ensures, few .if1 .taken)) (omega arith) (index .before .zeros .ensures) (index .small-index .ensures)
 
 same-length : tie.Need-same-length
 same-length c = search needs
@@ -42,46 +32,23 @@ same-length-2 : tie.Need-same-length-2
 same-length-2 c = search needs
 
 returns : tie.Need-returns
-returns c = plan-refused _ _ _ _ _ (c .before .number-of .ensures) (c .if1 .taken)
+returns c = search needs
 
-link-count-requires : tie.Need-link-count-requires
-link-count-requires c κs = search needs
+ends-requires : tie.Need-ends-requires
+ends-requires c κs = search needs
 
-cast-end : tie.Need-cast-end
-cast-end c = search needs
+empty-index-requires : tie.Need-empty-index-requires
+empty-index-requires c κs = search needs
 
-mul-end : tie.Need-mul-end
-mul-end c = search needs
+slice-aggregate-plan-with-3 : tie.Need-slice-aggregate-plan-with-3
+slice-aggregate-plan-with-3 c = search needs
 
-slice-aggregate-read-lists : tie.Need-slice-aggregate-read-lists
-slice-aggregate-read-lists c = search needs
+slice-aggregate-plan-with-4 : tie.Need-slice-aggregate-plan-with-4
+slice-aggregate-plan-with-4 c = search needs
 
-array-share-prefix-links : tie.Need-array-share-prefix-links
-array-share-prefix-links c = let count = c .before in
-    let test = count .before in
-    let number = test .before in
-    let loaded = number .before .before .before .before .before .before .before in
-    loaded-ends _ (loaded .load-indexed .ensures .0) (loaded .load-indexed .ensures .0 ∙ plan-places _ _ _ _ (number .number-of .ensures) (test .if1 .left) .0) (loaded .load-indexed .ensures .1) (count .link-count .ensures)
-
-slice-aggregate-read-lists-2 : tie.Need-slice-aggregate-read-lists-2
-slice-aggregate-read-lists-2 c = let count = c .before .before in
-    let test = count .before in
-    let number = test .before in
-    let loaded = number .before .before .before .before .before .before .before in
-    loaded-long _ (loaded .load-indexed .ensures .0) (loaded .load-indexed .ensures .0 ∙ plan-places _ _ _ _ (number .number-of .ensures) (test .if1 .left) .0) (loaded .load-indexed .ensures .1) (count .link-count .ensures)
-
-slice-aggregate-read-lists-3 : tie.Need-slice-aggregate-read-lists-3
-slice-aggregate-read-lists-3 c = search needs
-
-slice-aggregate-read-lists-4 : tie.Need-slice-aggregate-read-lists-4
-slice-aggregate-read-lists-4 c = search needs
-
-read-lists-requires : tie.Need-read-lists-requires
-read-lists-requires c κs = let count = c .before .before .before .before .before .before in
-    let test = count .before in
-    let number = test .before in
-    let loaded = number .before .before .before .before .before .before .before in
-    loaded-readable _ _ (loaded-lists _ (loaded .load-indexed .ensures .0) (loaded .load-indexed .ensures .0 ∙ plan-places _ _ _ _ (number .number-of .ensures) (test .if1 .left) .0) (loaded .load-indexed .ensures .1) (count .link-count .ensures)) (number .number-of .ensures) (test .if1 .left)
+plan-with-requires-2 : tie.Need-plan-with-requires-2
+plan-with-requires-2 c κs = let index = c .before .before .before .before in
+    lent-unlinked _ ENDS (λ l. omega (arith, l)) (omega arith) (index .before .ends .ensures) (index .empty-index .ensures)
 
 same-length-3 : tie.Need-same-length-3
 same-length-3 c = search needs
@@ -90,36 +57,26 @@ same-length-4 : tie.Need-same-length-4
 same-length-4 c = search needs
 
 returns-2 : tie.Need-returns-2
-returns-2 c = let read = c .before .before .before .before in
-    let test = read .before .before .before .before .before .before .before .before in
-    plan-accepted _ _ _ _ _ (test .before .number-of .ensures) (test .if1 .left) (read .read-lists .ensures .0) (read .read-lists .ensures .1 .0) (read .read-lists .ensures .1 .1)
+returns-2 c = search needs
 
 pub plan-lists-by-spec : {M : Type 1} → statement M
 plan-lists-by-spec =
     tie.close
     (tie.spec
-    ends-requires
-    empty-index-requires
+    link-count-requires
     zeros-requires
-    bytes-requires
-    slice-aggregate-load-indexed
-    slice-aggregate-load-indexed-2
-    slice-aggregate-load-indexed-3
-    slice-aggregate-load-indexed-4
-    load-indexed-requires
-    number-of-requires
+    small-index-requires
+    slice-aggregate-plan-with
+    slice-aggregate-plan-with-2
+    plan-with-requires
     same-length
     same-length-2
     returns
-    link-count-requires
-    cast-end
-    mul-end
-    slice-aggregate-read-lists
-    array-share-prefix-links
-    slice-aggregate-read-lists-2
-    slice-aggregate-read-lists-3
-    slice-aggregate-read-lists-4
-    read-lists-requires
+    ends-requires
+    empty-index-requires
+    slice-aggregate-plan-with-3
+    slice-aggregate-plan-with-4
+    plan-with-requires-2
     same-length-3
     same-length-4
     returns-2)

@@ -1,6 +1,10 @@
 use Prim.Native.Nat.{_-_}
+use mathlib.Core.Path.{_≡_, ap, _∙_}
+use native.Mathlib.Omega.{arith}
 use borrow.Author.Needs.{needs}
-use lib.ListN.{length}
+use lib.ListN.{length, length-replicate}
+use Rattle.packing.specs.Plant.{NONE}
+use Rattle.chains.specs.Index.{SLOTS}
 use Rattle.chains.specs.Build.{Built}
 use Rattle.chains.proofs.BuiltIndex.{built-whole}
 use Rattle.chains.proofs.LinkMore.{built-start, next-ready}
@@ -8,7 +12,7 @@ use Rattle.chains.proofs.build.index_of.Statement.{statement}
 use Rattle.chains.proofs.build.index_of.Tie as tie
 
 abbrev Inv-loop : tie.InvT-loop
-Inv-loop links next₀ last₀ m₀ next last m = Built links m next last
+Inv-loop links next₀ last₀ m₀ next last m = Built links m next last × (length next ≡ SLOTS)
 
 abbrev μ-loop : tie.MeasureT-loop
 μ-loop links next₀ last₀ m₀ next last m = length links - m
@@ -16,11 +20,18 @@ abbrev μ-loop : tie.MeasureT-loop
 empty-index-requires : tie.Need-empty-index-requires Inv-loop μ-loop
 empty-index-requires c κs = search needs
 
-roots-requires : tie.Need-roots-requires Inv-loop μ-loop
-roots-requires c κs = search needs
+zeros-requires : tie.Need-zeros-requires Inv-loop μ-loop
+zeros-requires c κs = search needs
+
+slice-aggregate-with-roots : tie.Need-slice-aggregate-with-roots Inv-loop μ-loop
+slice-aggregate-with-roots c = search needs
+
+with-roots-requires : tie.Need-with-roots-requires Inv-loop μ-loop
+with-roots-requires c κs = search needs
 
 loop-holds : tie.Need-loop-holds Inv-loop μ-loop
-loop-holds c = built-start _ (c .before .before .before .pre .0) (c .before .empty-index .ensures) (c .roots .ensures)
+loop-holds c = let empty = c .before .before .before .before in
+    (built-start _ SLOTS (omega (arith, empty .before .before .pre .0)) (omega arith) (empty .empty-index .ensures) (c .before .with-roots .ensures), ap length (empty .empty-index .ensures) ∙ length-replicate SLOTS NONE)
 
 cast-loop : tie.Need-cast-loop Inv-loop μ-loop
 cast-loop c = search needs
@@ -39,7 +50,7 @@ slice-aggregate-hang-link-2 c = search needs
 
 hang-link-requires : tie.Need-hang-link-requires Inv-loop μ-loop
 hang-link-requires c κs = let turn = c .before .before in
-    next-ready _ _ (turn .before .before .before .before .before .pre .1) (turn .before .loop .inv) (turn .loop-test .taken)
+    next-ready _ _ (turn .before .before .before .before .before .before .before .before .pre .1) (turn .before .loop .inv .0) (turn .loop-test .taken)
 
 add-m : tie.Need-add-m Inv-loop μ-loop
 add-m c = search needs
@@ -48,10 +59,10 @@ loop-less : tie.Need-loop-less Inv-loop μ-loop
 loop-less c = search needs
 
 loop-again : tie.Need-loop-again Inv-loop μ-loop
-loop-again c = c .before .before .hang-link .ensures
+loop-again c = (c .before .before .hang-link .ensures, omega arith)
 
 returns : tie.Need-returns Inv-loop μ-loop
-returns c = built-whole _ _ (c .before .loop .inv) (c .loop-test .left)
+returns c = built-whole _ _ (c .before .loop .inv .0) (c .loop-test .left)
 
 pub index-of-spec : {M : Type 1} → statement M
 index-of-spec =
@@ -60,7 +71,9 @@ index-of-spec =
     Inv-loop
     μ-loop
     empty-index-requires
-    roots-requires
+    zeros-requires
+    slice-aggregate-with-roots
+    with-roots-requires
     loop-holds
     cast-loop
     mul-loop

@@ -1,5 +1,7 @@
 use mathlib.Core.Path.{sym, _∙_}
 use native.Mathlib.Omega.{arith}
+use Rattle.packing.specs.Plant.{ENDS}
+use Rattle.plant_file.proofs.Loading.{lent-unlinked}
 use Rattle.plan.proofs.Asking.{asked-file, asked-beyond, asked-refused, asked-answered}
 use Rattle.plan.proofs.ReadingLists.{loaded-ends, loaded-long, loaded-lists}
 use borrow.Author.Needs.{needs}
@@ -31,7 +33,8 @@ slice-aggregate-load-indexed-4 : tie.Need-slice-aggregate-load-indexed-4
 slice-aggregate-load-indexed-4 c = search needs
 
 load-indexed-requires : tie.Need-load-indexed-requires
-load-indexed-requires c κs = search needs
+load-indexed-requires c κs = let index = c .before .before .before .before .before .before in
+    record { unlinked = lent-unlinked _ ENDS (λ l. omega (arith, l)) (omega arith) (index .before .ends .ensures) (index .empty-index .ensures); gateways = search needs; limited = search needs }
 
 returns : tie.Need-returns
 returns c = let loaded = c .before .before .before .before .before in asked-refused _ _ _ _ (asked-file _ _ _ _ (loaded .load-indexed .ensures .0) (c .if1 .taken)) (c .if1 .taken)

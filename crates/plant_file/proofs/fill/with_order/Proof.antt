@@ -4,7 +4,7 @@ use Prim.Native.Nat.{_-_}
 use Rattle.packing.proofs.Lists.{Listed, list-start, list-turn, list-end}
 use Rattle.plant_file.specs.PlantFile.{fileN, fileOrder}
 use Rattle.plant_file.proofs.LinksByIndex.{orderNumber}
-use Rattle.plant_file.proofs.Filled.{order-entry}
+use Rattle.plant_file.proofs.Filled.{order-entry, order-numbers}
 use Rattle.plant_file.proofs.fill.with_order.Statement.{statement}
 use Rattle.plant_file.proofs.fill.with_order.Tie as tie
 
@@ -32,6 +32,22 @@ mul-start c = search needs
 add-start : tie.Need-add-start Inv-loop μ-loop
 add-start c = search needs
 
+mul-if1 : tie.Need-mul-if1 Inv-loop μ-loop
+mul-if1 c = search needs
+
+add-if1 : tie.Need-add-if1 Inv-loop μ-loop
+add-if1 c = search needs
+
+with-numbers-requires : tie.Need-with-numbers-requires Inv-loop μ-loop
+with-numbers-requires c κs = search needs
+
+same-length : tie.Need-same-length Inv-loop μ-loop
+same-length c = search needs
+
+returns : tie.Need-returns Inv-loop μ-loop
+returns c = let count = c .before .before .before .before .before in
+    order-numbers _ _ (count .link-count .ensures) (count .before .gateways .ensures) (c .before .before .with-numbers .ensures)
+
 loop-holds : tie.Need-loop-holds Inv-loop μ-loop
 loop-holds c = list-start _ _ _
 
@@ -58,14 +74,14 @@ loop-less c = search needs
 
 loop-again : tie.Need-loop-again Inv-loop μ-loop
 loop-again c = let at = c .before .before in
-    list-turn _ _ _ (at .before .before .before .before .before .pre) (at .loop .inv) (omega arith) (order-entry _ _ (at .before .link-count .ensures) (c .number-at .ensures))
+    list-turn _ _ _ (at .before .before .before .before .before .before .pre) (at .loop .inv) (omega arith) (order-entry _ _ (at .before .before .link-count .ensures) (c .number-at .ensures))
 
-same-length : tie.Need-same-length Inv-loop μ-loop
-same-length c = search needs
+same-length-2 : tie.Need-same-length-2 Inv-loop μ-loop
+same-length-2 c = search needs
 
-returns : tie.Need-returns Inv-loop μ-loop
+returns-2 : tie.Need-returns-2 Inv-loop μ-loop
 unfolding fileOrder
-returns c = list-end _ _ _ (c .before .loop .inv) (omega arith)
+returns-2 c = list-end _ _ _ (c .before .loop .inv) (omega arith)
 
 pub with-order-spec : {M : Type 1} → statement M
 with-order-spec =
@@ -79,6 +95,11 @@ with-order-spec =
     cast-start
     mul-start
     add-start
+    mul-if1
+    add-if1
+    with-numbers-requires
+    same-length
+    returns
     loop-holds
     mul-number-at
     add-number-at
@@ -88,5 +109,5 @@ with-order-spec =
     add-i
     loop-less
     loop-again
-    same-length
-    returns)
+    same-length-2
+    returns-2)

@@ -1,5 +1,6 @@
+use native.Mathlib.Omega.{arith}
 use mathlib.Core.Path.{sym, _∙_}
-use Rattle.plant_file.proofs.LinksTaken.{taking-long, taking-index, taking-none, taking-refused, taking-fine, taking-done}
+use Rattle.plant_file.proofs.LinksTaken.{taking-long, taking-index, taking-none, taking-refused, taking-fine, taking-degrees, taking-done}
 use borrow.Author.Needs.{needs}
 use Rattle.plant_file.proofs.indexed.take_link.Statement.{statement}
 use Rattle.plant_file.proofs.indexed.take_link.Tie as tie
@@ -49,10 +50,16 @@ add-link-requires c κs = let fine = c .before .before .before in
     taking-fine _ _ _ (one .before .before .before .before .before .before .before .before .pre) _ _ (sym (one .a .given .1) ∙ one .before .before .link-of .ensures) (fine .before .of-link .ensures) (fine .if1 .left)
 
 lengthen-requires : tie.Need-lengthen-requires
-lengthen-requires c κs = search needs
+lengthen-requires c κs = let added = c .before .before .before .before .before .before .before in
+    let fine = added .before .before .before .before in
+    let one = fine .before .before .before .before .before .before in
+    taking-degrees _ _ _ (one .before .before .before .before .before .before .before .before .pre) _ _ (sym (one .a .given .1) ∙ one .before .before .link-of .ensures) (fine .before .of-link .ensures) (fine .if1 .left) .0
 
 lengthen-requires-2 : tie.Need-lengthen-requires-2
-lengthen-requires-2 c κs = search needs
+lengthen-requires-2 c κs = let added = c .before .before .before .before .before .before .before .before .before .before .before in
+    let fine = added .before .before .before .before in
+    let one = fine .before .before .before .before .before .before in
+    omega (arith, taking-degrees _ _ _ (one .before .before .before .before .before .before .before .before .pre) _ _ (sym (one .a .given .1) ∙ one .before .before .link-of .ensures) (fine .before .of-link .ensures) (fine .if1 .left) .1)
 
 same-length-4 : tie.Need-same-length-4
 same-length-4 c = search needs

@@ -1,7 +1,7 @@
 use Prim.Native.Nat.{_-_}
 use native.Mathlib.Omega.{arith}
 use Rattle.plant_file.proofs.LinksByIndex.{index-less}
-use Rattle.plant_file.proofs.LinksTaken.{InTurn, turn-start, turn-taking, turn-refused, turn-on, turn-end}
+use Rattle.plant_file.proofs.LinksTaken.{InTurn, turn-roots, turn-start, turn-taking, turn-refused, turn-on, turn-end}
 use borrow.Author.Needs.{needs}
 use Rattle.plant_file.proofs.indexed.take_links.Statement.{statement}
 use Rattle.plant_file.proofs.indexed.take_links.Tie as tie
@@ -21,14 +21,20 @@ link-count-requires c κs = search needs
 cast-m : tie.Need-cast-m Inv-loop μ-loop
 cast-m c = search needs
 
-roots-requires : tie.Need-roots-requires Inv-loop μ-loop
-roots-requires c κs = search needs
-
 zeros-requires : tie.Need-zeros-requires Inv-loop μ-loop
 zeros-requires c κs = search needs
 
+slice-aggregate-with-roots : tie.Need-slice-aggregate-with-roots Inv-loop μ-loop
+slice-aggregate-with-roots c = search needs
+
+with-roots-requires : tie.Need-with-roots-requires Inv-loop μ-loop
+with-roots-requires c κs = turn-roots _ _ _ (c .before .before .before .before .before .before .before .pre) (c .before .zeros .ensures)
+
+zeros-requires-2 : tie.Need-zeros-requires-2 Inv-loop μ-loop
+zeros-requires-2 c κs = search needs
+
 loop-holds : tie.Need-loop-holds Inv-loop μ-loop
-loop-holds c = turn-start _ _ _ (c .before .before .before .before .before .before .before .pre) (c .before .roots .ensures) (c .zeros .ensures)
+loop-holds c = turn-start _ _ _ (c .before .before .before .before .before .before .before .before .before .before .pre) (c .before .before .with-roots .ensures) (c .zeros2 .ensures)
 
 slice-aggregate-take-link : tie.Need-slice-aggregate-take-link Inv-loop μ-loop
 slice-aggregate-take-link c = search needs
@@ -38,7 +44,7 @@ slice-aggregate-take-link-2 c = omega arith
 
 take-link-requires : tie.Need-take-link-requires Inv-loop μ-loop
 take-link-requires c κs = let turn = c .before .before .before .before in
-    let read = turn .before .before .before .before in
+    let read = turn .before .before .before .before .before .before .before in
     turn-taking _ _ _ (read .before .before .before .before .before .pre) (read .before .gateways .ensures) (turn .before .loop .inv) (omega arith)
 
 same-length : tie.Need-same-length Inv-loop μ-loop
@@ -49,7 +55,7 @@ same-length-2 c = search needs
 
 returns : tie.Need-returns Inv-loop μ-loop
 returns c = let turn = c .before .before .before .before .before .before .before .before .before .before .before .before in
-    let read = turn .before .before .before .before in
+    let read = turn .before .before .before .before .before .before .before in
     turn-refused _ _ _ (read .before .before .before .before .before .pre) (read .before .gateways .ensures) (turn .before .loop .inv) (omega arith) (c .before .before .before .before .before .before .before .take-link .ensures .0) (c .if1 .taken)
 
 index-after-requires : tie.Need-index-after-requires Inv-loop μ-loop
@@ -60,8 +66,8 @@ loop-less c = index-less _ _ (c .index-after .ensures) (omega arith) (omega arit
 
 loop-again : tie.Need-loop-again Inv-loop μ-loop
 loop-again c = let turn = c .before .before .before .before .before .before .before .before .before .before .before .before .before in
-    let read = turn .before .before .before .before in
-    turn-on _ _ _ (read .before .before .before .before .before .pre) (read .before .gateways .ensures) (turn .before .loop .inv) (omega arith) (c .before .before .before .before .before .before .before .before .take-link .ensures .0) (c .before .if1 .left) (c .before .before .before .before .before .before .before .before .take-link .ensures .1) (c .index-after .ensures) (omega arith)
+    let read = turn .before .before .before .before .before .before .before in
+    turn-on _ _ _ (read .before .before .before .before .before .pre) (read .before .gateways .ensures) (turn .before .loop .inv) (omega arith) (c .before .before .before .before .before .before .before .before .take-link .ensures .0) (c .before .if1 .left) (c .before .before .before .before .before .before .before .before .take-link .ensures .1) (c .index-after .ensures) (omega arith) (omega arith)
 
 same-length-3 : tie.Need-same-length-3 Inv-loop μ-loop
 same-length-3 c = search needs
@@ -70,7 +76,7 @@ same-length-4 : tie.Need-same-length-4 Inv-loop μ-loop
 same-length-4 c = search needs
 
 returns-2 : tie.Need-returns-2 Inv-loop μ-loop
-returns-2 c = let read = c .before .before .before .before in
+returns-2 c = let read = c .before .before .before .before .before .before .before in
     turn-end _ _ _ (read .before .before .before .before .before .pre) (read .before .gateways .ensures) (c .before .loop .inv) (omega arith)
 
 pub take-links-spec : {M : Type 1} → statement M
@@ -82,8 +88,10 @@ take-links-spec =
     gateways-requires
     link-count-requires
     cast-m
-    roots-requires
     zeros-requires
+    slice-aggregate-with-roots
+    with-roots-requires
+    zeros-requires-2
     loop-holds
     slice-aggregate-take-link
     slice-aggregate-take-link-2
