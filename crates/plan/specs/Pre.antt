@@ -4,7 +4,7 @@ use mathlib.Core.Path.{_≡_}
 use mathlib.Core.Bool.{Bool, true, false}
 use mathlib.Core.List.{List}
 use lib.ListN.{length, replicate}
-use Rattle.packing.specs.Plant.{GATEWAYS, NONE, at}
+use Rattle.packing.specs.Plant.{GATEWAYS, HIGHEST, NONE, at}
 use Rattle.chains.specs.Index.{Index}
 use Rattle.search.specs.Search.{seen}
 use Rattle.search.specs.RowPre.{RowsOf}
@@ -48,20 +48,32 @@ pub record Placings (w : Way) (file : List ℕ) (k : ℕ) (ls next os ts hs : Li
 abbrev pub DeadChoke : Way → List ℕ → ℕ → List ℕ → Type 0
 DeadChoke w file k dead = isQueued w ≡ true → k ≡ fileN file → (length dead ≡ fileN file) × ((u : ℕ) → u < fileN file → seen dead u ≡ inChoke (fileN file) (fileLinks file) (stateBy w file k .holders) u)
 
--- what k placings start from: lists of zeros for the holders, and marks of nobody
-pub record Making (file : List ℕ) (k : ℕ) (ls next os ts hs dead : List ℕ) : Type 0 where
+-- rows for n gateways, with nobody in them
+pub record NobodyIn (n : ℕ) (rows : List (List ℕ)) : Type 0 where
+  pub wide : n ≤ length rows
+  pub most : length rows ≤ GATEWAYS
+  pub empty : rows ≡ replicate (length rows) (replicate HIGHEST NONE)
+
+-- what k placings start from: rows with nobody in them, lists of zeros for the holders, a queue, marks of nobody, and room to note whom a search marks
+pub record Making (file : List ℕ) (k : ℕ) (ls next os ts : List ℕ) (rows : List (List ℕ)) (hs queue dead looked : List ℕ) : Type 0 where
   pub loaded : Loaded file ls next os ts
   pub within : k ≤ fileN file
+  pub nobody : NobodyIn (fileN file) rows
   pub zeros : hs ≡ replicate GATEWAYS 0
+  pub places : fileN file ≤ length queue
   pub none : dead ≡ replicate (fileN file) NONE
+  pub room : fileN file ≤ length looked
 
 -- what the choke bytes are written from
-pub record Choking (w : Way) (file : List ℕ) (k : ℕ) (ls next hs dead choke : List ℕ) : Type 0 where
+pub record Choking (w : Way) (file : List ℕ) (k : ℕ) (ls next : List ℕ) (rows : List (List ℕ)) (hs queue dead choke : List ℕ) : Type 0 where
   pub accepted : fileRefusal file ≡ 0
   pub links : ls ≡ fileLinks file
   pub index : Index ls next
   pub within : k ≤ fileN file
   pub made : hs ≡ stateBy w file k .holders
+  pub table : RowsOf (fileN file) hs rows
+  pub places : fileN file ≤ length queue
+  pub marks : length dead ≡ fileN file
   pub dead-choke : DeadChoke w file k dead
   pub room : fileN file ≤ length choke
 

@@ -8,6 +8,7 @@ ghost use Rattle.chains.specs.Index.{Index};
 ghost use Rattle.search.specs.RowPre.{RowsOf};
 ghost use Rattle.search.specs.Dead.{Past};
 ghost use Rattle.planner.specs.Ways.{placedBy};
+ghost use Rattle.plant_file.specs.PlantFile.{fileN};
 ghost use Rattle.plan.specs.Plan.{stateBy, fileMovesBy};
 ghost use Rattle.plan.specs.Pre.{DeadBy, Placings, DeadChoke};
 
@@ -65,6 +66,7 @@ pub(crate) fn place_all(
 ) -> u32
     requires { ⌜ Placings way (now file) placings (now links) (now next) (now order) (now limits) (now holders) (now rows) (now queue) (now dead) (now looked) ⌝ }
     ensures holders { λ _. ⌜ now (holders .exit) ≡ stateBy way (now (file .entry)) placings .holders ⌝ }
+    ensures rows { λ _. ⌜ RowsOf (fileN (now (file .entry))) (stateBy way (now (file .entry)) placings .holders) (now (rows .exit)) ⌝ }
     ensures moved { λ r. ⌜ r ≡ fileMovesBy way (now (file .entry)) placings ⌝ }
     ensures dead { λ _. ⌜ DeadChoke way (now (file .entry)) placings (now (dead .exit)) ⌝ }
 {

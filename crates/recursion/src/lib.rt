@@ -118,7 +118,8 @@ pub fn place(
             moved: 0,
         };
     }
-    let mut rows = search::held::gather(n, holders);
+    let mut rows = search::held::empty_rows();
+    search::held::gather(n, holders, &mut rows);
     let moved = place_kept(n, v, limits, links, next, &mut rows, holders);
     Placed { done: true, moved }
 }

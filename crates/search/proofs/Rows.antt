@@ -82,6 +82,10 @@ row-all k a l h =
 pub row-length : (k a : ℕ) (l : List ℕ) → length (take k (l ++ replicate k a)) ≡ k
 row-length k a l = length-take-le k (l ++ replicate k a) (omega (arith, length-append l (replicate k a), length-replicate k a))
 
+-- .. and so known to have 1,024
+pub table-count : (n : ℕ) (hs : List ℕ) {rows : List (List ℕ)} → rows ≡ heldTable n hs → GATEWAYS ≡ length rows
+table-count n hs is = sym (ap length is ∙ table-length n hs)
+
 -- the whole table is rows from its front on
 pub rows-whole : {n : ℕ} {hs : List ℕ} {rows : List (List ℕ)} → n ≤ GATEWAYS → rows ≡ heldTable n hs → RowsOf n hs rows
 rows-whole {n} {hs} few is = rw is (record { wide = rw table-length few; is = sym (take-all (length (heldTable n hs)) (heldTable n hs) (omega arith)) })

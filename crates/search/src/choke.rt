@@ -1,6 +1,7 @@
 // The choke set (01, "Reading"), on plain lists and numbers.
 use crate::bytes::write_seen;
 use crate::held::Row;
+use crate::held::empty_rows;
 use crate::held::gather;
 use crate::start::queue_unheld;
 use crate::walk::walk;
@@ -11,8 +12,8 @@ ghost use Rattle.chains.specs.Index.{Index};
 ghost use Rattle.search.specs.ChokeSet.{chokeByte, chokeable, chokeWritten};
 ghost use Rattle.search.specs.ChokePre.{Workable};
 
-// Writes the choke bytes with the table of the holders, and a queue and marks to work in.
-fn write_set(
+// Writes the choke bytes with the rows of the holders, and a queue and marks of nobody to work in.
+pub fn write_set(
     n: u16,
     links: &[u16],
     next: &[u16],
@@ -63,7 +64,8 @@ pub fn choke_set(n: u16, links: &[u16], next: &[u16], holders: &[u16], out: &mut
     if !is_chokeable(n, holders, out.len()) {
         return false;
     }
-    let rows = gather(n, holders);
+    let mut rows = empty_rows();
+    gather(n, holders, &mut rows);
     let mut queue = lists::marks::zeros();
     let mut from = lists::marks::nones();
     let end = n as usize;

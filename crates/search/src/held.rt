@@ -31,11 +31,11 @@ pub fn few_rows() -> [Row; FEW]
     [[lists::NONE; ROW]; FEW]
 }
 
-// One pass over the holders: v takes the next place in the row of its holder.
-pub fn gather(n: u16, holders: &[u16]) -> Rows
-    ensures { λ r. ⌜ r ≡ heldTable n (now (holders .entry)) ⌝ }
+// One pass over the holders, into rows with nobody in them: v takes the next place in the row of its holder.
+pub fn gather(n: u16, holders: &[u16], rows: &mut Rows)
+    requires { ⌜ now rows ≡ replicate GATEWAYS (replicate HIGHEST NONE) ⌝ }
+    ensures { λ _. ⌜ now (rows .exit) ≡ heldTable n (now (holders .entry)) ⌝ }
 {
-    let mut rows = empty_rows();
     let mut loads = lists::marks::zeros();
     let mut v: u16 = 0;
     while v < n {
@@ -47,7 +47,6 @@ pub fn gather(n: u16, holders: &[u16]) -> Rows
         }
         v += 1;
     }
-    rows
 }
 
 // Whether fewer stand in the row than the limit: nobody is in the last place that the limit allows.

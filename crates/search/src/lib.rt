@@ -10,6 +10,7 @@ mod start;
 pub mod walk;
 
 use crate::held::Row;
+use crate::held::empty_rows;
 use crate::held::gather;
 use crate::shift::shift_back;
 ghost use mathlib.Core.Path.{_≡_};
@@ -74,7 +75,8 @@ fn place_unheld(
     ensures holders { λ _. ⌜ now (holders .exit) ≡ placedHolders n (at (now (limits .entry))) (now (links .entry)) (now (holders .entry)) v ⌝ }
     ensures moved { λ r. ⌜ r ≡ moved n (at (now (holders .entry))) (at (placedHolders n (at (now (limits .entry))) (now (links .entry)) (now (holders .entry)) v)) ⌝ }
 {
-    let mut rows = gather(n, holders);
+    let mut rows = empty_rows();
+    gather(n, holders, &mut rows);
     let mut queue = lists::marks::zeros();
     let mut from = lists::marks::nones();
     let mut looked = [0u16; 0];

@@ -1,4 +1,5 @@
 // Who the choke set's walk reaches when it starts from one gateway only (02, change 5), on plain lists and numbers.
+use crate::held::empty_rows;
 use crate::held::gather;
 use crate::walk::walk;
 ghost use mathlib.Core.Path.{_≡_};
@@ -21,7 +22,8 @@ fn walk_from(n: u16, v: u16, links: &[u16], next: &[u16], holders: &[u16], from:
     requires { ⌜ Index (now links) (now next) × Unmarked n (now holders) v (now from) ⌝ }
     ensures { λ _. ⌜ Marked n (now (links .entry)) (now (holders .entry)) v (now (from .exit)) ⌝ }
 {
-    let rows = gather(n, holders);
+    let mut rows = empty_rows();
+    gather(n, holders, &mut rows);
     let mut queue = lists::marks::zeros();
     queue[0] = v;
     let limits = lists::marks::bytes(0);

@@ -15,8 +15,11 @@ returns : tie.Need-returns
 unfolding recursiveAfter recursiveMoved
 returns c = place-refuses _ _ _ (c .before .is-placeable .ensures) _ (c .if1 .taken)
 
+empty-rows-requires : tie.Need-empty-rows-requires
+empty-rows-requires c κs = search needs
+
 gather-requires : tie.Need-gather-requires
-gather-requires c κs = search needs
+gather-requires c κs = c .before .before .empty-rows .ensures
 
 slice-aggregate-place-kept : tie.Need-slice-aggregate-place-kept
 slice-aggregate-place-kept c = search needs
@@ -43,6 +46,7 @@ place-spec =
     is-placeable-requires
     same-length
     returns
+    empty-rows-requires
     gather-requires
     slice-aggregate-place-kept
     place-kept-requires

@@ -1,10 +1,14 @@
+use Rattle.search.proofs.Rows.{table-count}
 use Rattle.search.proofs.Settling.{unmarked-outcome, workspace, place-marks, place-settles}
 use borrow.Author.Needs.{needs}
 use Rattle.search.proofs.place_unheld.Statement.{statement}
 use Rattle.search.proofs.place_unheld.Tie as tie
 
+empty-rows-requires : tie.Need-empty-rows-requires
+empty-rows-requires c κs = search needs
+
 gather-requires : tie.Need-gather-requires
-gather-requires c κs = search needs
+gather-requires c κs = c .before .before .empty-rows .ensures
 
 zeros-requires : tie.Need-zeros-requires
 zeros-requires c κs = search needs
@@ -13,7 +17,7 @@ nones-requires : tie.Need-nones-requires
 nones-requires c κs = search needs
 
 slice-aggregate-settle : tie.Need-slice-aggregate-settle
-slice-aggregate-settle c = search needs
+slice-aggregate-settle c = table-count _ _ (c .before .before .before .gather .ensures)
 
 slice-aggregate-settle-2 : tie.Need-slice-aggregate-settle-2
 slice-aggregate-settle-2 c = search needs
@@ -23,7 +27,7 @@ array-borrow-prefix-from c = search needs
 
 slice-aggregate-settle-3 : tie.Need-slice-aggregate-settle-3
 slice-aggregate-settle-3 c = let marks = c .before .before .before .before in
-    place-marks (marks .nones .ensures) (marks .before .before .before .before .before .before .before .before .pre .1 .few)
+    place-marks (marks .nones .ensures) (marks .before .before .before .before .before .before .before .before .before .before .pre .1 .few)
 
 slice-aggregate-settle-4 : tie.Need-slice-aggregate-settle-4
 slice-aggregate-settle-4 c = search needs
@@ -32,7 +36,7 @@ settle-requires : tie.Need-settle-requires
 settle-requires c κs = let marks = c .before .before .before .before .before .before in
     let zeros = marks .before in
     let gathered = zeros .before in
-    let start = gathered .before .before .before .before .before .before in
+    let start = gathered .before .before .before .before .before .before .before .before in
     (start .pre .0, place-settles {n = start .args .n} (marks .nones .ensures) (zeros .zeros .ensures) (gathered .gather .ensures) (start .pre .1))
 
 same-length : tie.Need-same-length
@@ -41,13 +45,14 @@ same-length c = search needs
 returns : tie.Need-returns
 returns c = let called = c .before .before .before .before .before .before in
     let marks = called .before .before .before .before .before .before .before in
-    let start = marks .before .before .before .before .before .before .before .before in
+    let start = marks .before .before .before .before .before .before .before .before .before .before in
     unmarked-outcome _ _ _ _ _ _ _ (start .pre .1) (workspace (marks .nones .ensures) (marks .before .zeros .ensures) (start .pre .1 .few) .unseen) (called .settle .ensures .0)
 
 pub place-unheld-spec : {M : Type 1} → statement M
 place-unheld-spec =
     tie.close
     (tie.spec
+    empty-rows-requires
     gather-requires
     zeros-requires
     nones-requires

@@ -12,14 +12,11 @@ Inv-loop n holders rows₀ loads₀ v₀ rows loads v = Gathering n holders rows
 abbrev μ-loop : tie.MeasureT-loop
 μ-loop n holders rows₀ loads₀ v₀ rows loads v = n - v
 
-empty-rows-requires : tie.Need-empty-rows-requires Inv-loop μ-loop
-empty-rows-requires c κs = search needs
-
 zeros-requires : tie.Need-zeros-requires Inv-loop μ-loop
 zeros-requires c κs = search needs
 
 loop-holds : tie.Need-loop-holds Inv-loop μ-loop
-loop-holds c = gathering-start _ _ (c .before .empty-rows .ensures) (c .zeros .ensures)
+loop-holds c = gathering-start _ _ (c .before .before .pre) (c .zeros .ensures)
 
 entry-requires : tie.Need-entry-requires Inv-loop μ-loop
 entry-requires c κs = search needs
@@ -48,7 +45,7 @@ put-requires c κs = search needs
 add-loads : tie.Need-add-loads Inv-loop μ-loop
 add-loads c = let entry = c .before .before .before in
     let turn = entry .before in
-    omega (arith, gathering-few _ _ (turn .before .loop .inv) (turn .loop-test .taken) (entry .entry .ensures), turn .loop-test .taken, turn .before .before .before .before .before .fits .n)
+    omega (arith, gathering-few _ _ (turn .before .loop .inv) (turn .loop-test .taken) (entry .entry .ensures), turn .loop-test .taken, turn .before .before .before .before .fits .n)
 
 cast-loads : tie.Need-cast-loads Inv-loop μ-loop
 cast-loads c = search needs
@@ -80,7 +77,6 @@ gather-spec =
     (tie.spec
     Inv-loop
     μ-loop
-    empty-rows-requires
     zeros-requires
     loop-holds
     entry-requires

@@ -1,11 +1,15 @@
+use Rattle.search.proofs.Rows.{table-count}
 use Rattle.search.proofs.Settling.{settle-some}
 use Rattle.search.proofs.ReachedTests.{from-settles, from-marks}
 use borrow.Author.Needs.{needs}
 use Rattle.search.proofs.reached.walk_from.Statement.{statement}
 use Rattle.search.proofs.reached.walk_from.Tie as tie
 
+empty-rows-requires : tie.Need-empty-rows-requires
+empty-rows-requires c κs = search needs
+
 gather-requires : tie.Need-gather-requires
-gather-requires c κs = search needs
+gather-requires c κs = c .before .empty-rows .ensures
 
 zeros-requires : tie.Need-zeros-requires
 zeros-requires c κs = search needs
@@ -20,7 +24,7 @@ slice-aggregate-walk : tie.Need-slice-aggregate-walk
 slice-aggregate-walk c = search needs
 
 slice-aggregate-walk-2 : tie.Need-slice-aggregate-walk-2
-slice-aggregate-walk-2 c = search needs
+slice-aggregate-walk-2 c = table-count _ _ (c .before .before .before .before .gather .ensures)
 
 slice-aggregate-walk-3 : tie.Need-slice-aggregate-walk-3
 slice-aggregate-walk-3 c = search needs
@@ -30,7 +34,7 @@ slice-aggregate-walk-4 c = search needs
 
 walk-requires : tie.Need-walk-requires
 walk-requires c κs = let zeros = c .before .before .before .before .before .before .before in
-    let start = zeros .before .before .before .before .before .before in
+    let start = zeros .before .before .before .before .before .before .before .before in
     (start .pre .0, settle-some (from-settles (start .pre .1) (zeros .zeros .ensures) (zeros .before .gather .ensures)))
 
 same-length : tie.Need-same-length
@@ -40,12 +44,13 @@ returns : tie.Need-returns
 returns c = let walked = c .before .before .before .before in
     let made = walked .before .before .before .before .before .before .before in
     let zeros = made .before in
-    from-marks (zeros .before .before .before .before .before .before .pre .1) (zeros .zeros .ensures) (zeros .before .gather .ensures) _ _ (walked .walk .ensures .0) (made .bytes .ensures) (walked .walk .kept .1 .1 .1 .1 .1 .1 .0)
+    from-marks (zeros .before .before .before .before .before .before .before .before .pre .1) (zeros .zeros .ensures) (zeros .before .gather .ensures) _ _ (walked .walk .ensures .0) (made .bytes .ensures) (walked .walk .kept .1 .1 .1 .1 .1 .1 .0)
 
 pub walk-from-spec : {M : Type 1} → statement M
 walk-from-spec =
     tie.close
     (tie.spec
+    empty-rows-requires
     gather-requires
     zeros-requires
     array-write-queue
