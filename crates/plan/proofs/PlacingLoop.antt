@@ -228,8 +228,11 @@ module _
                 }
 
     pub placed-end : {hs : List ℕ} {rows : List (List ℕ)} {queue dead looked : List ℕ} {total j : ℕ} → Placed w file k ls ts hs₀ rows₀ queue₀ dead₀ looked₀ hs rows queue dead looked total j → k ≤ j
-        → (hs ≡ stateBy w file k .holders) × ((total ≡ fileMovesBy w file k) × DeadChoke w file k dead)
-    placed-end {hs} {dead = dead} {j = j} now l = let end : j ≡ k = le-antisymm (now .upto) l in (now .holders ∙ ap (λ (i : ℕ). stateBy w file i .holders) end, (now .moves ∙ ap (fileMovesBy w file) end, chosen end))
+        → (hs ≡ stateBy w file k .holders) × (RowsOf (fileN file) (stateBy w file k .holders) rows × ((total ≡ fileMovesBy w file k) × DeadChoke w file k dead))
+    placed-end {hs} {rows} {dead = dead} {j = j} now l =
+        let end : j ≡ k = le-antisymm (now .upto) l in
+        let made : hs ≡ stateBy w file k .holders = now .holders ∙ ap (λ (i : ℕ). stateBy w file i .holders) end in
+        (made, (subst (λ (l : List ℕ). RowsOf (fileN file) l rows) made (now .table), (now .moves ∙ ap (fileMovesBy w file) end, chosen end)))
       where
         every : j ≡ k → k ≡ fileN file → isQueued w ≡ true → (x : ℕ) → x < fileN file → held (fileN file) (at hs) x ≡ false → now .so-far .left x ≡ true
         every end all q x b e =

@@ -1,6 +1,6 @@
 -- From the lists of an accepted file to its plan: what the placings start from, and what is written once they are made.
 use Prim.Native.Nat.{ℕ, _*_, _<_, _≤_}
-use mathlib.Core.Path.{_≡_, sym, ap, _∙_}
+use mathlib.Core.Path.{_≡_, refl, sym, ap, _∙_}
 use mathlib.Core.Bool.{Bool, true, _&&_}
 use mathlib.Core.List.{List}
 use native.Mathlib.Omega.{arith}
@@ -11,13 +11,13 @@ use Rattle.packing.specs.Count.{pick}
 use Rattle.packing.specs.Lists.{listOf, written}
 use Rattle.packing.specs.Plant.{GATEWAYS, HIGHEST, NONE, at, firstLinks}
 use Rattle.packing.proofs.Tests.{and-l, and-r}
-use Rattle.packing.proofs.Lists.{listOf-ext, written-room, written-at, written-front, repeated-at}
+use Rattle.packing.proofs.Lists.{listOf-ext, written-room, written-at, written-front, written-whole, repeated-at}
 use Rattle.sound.specs.Searchable.{searchable}
 use Rattle.sound.proofs.Searchable.{Searchable, searchable-holds, sound-searchable}
 use Rattle.search.specs.Search.{seen}
-use Rattle.search.specs.ChokeSet.{inChoke, chokeByte, chokeWritten}
-use Rattle.search.specs.ChokePre.{seenByte}
-use Rattle.search.proofs.Tested.{chokeable-holds, choke-written}
+use Rattle.search.specs.ChokeSet.{inChoke, chokeByte}
+use Rattle.search.specs.ChokePre.{seenByte, Workable}
+use Rattle.search.specs.RowPre.{RowsOf}
 use Rattle.search.proofs.Rows.{take-replicate, rows-none}
 use Rattle.search.proofs.Settling.{marks-room, place-marks}
 use Rattle.stars.specs.Stars.{leaderList, leadersWritten}
@@ -38,7 +38,7 @@ use Rattle.plant_file.proofs.GatewayLimits.{limits-long, limits-at}
 use Rattle.plant_file.proofs.Accepted.{file-allowed}
 use Rattle.plan.specs.Plan.{stateBy, fileState}
 use Rattle.plan.specs.After.{planAfterRefusal}
-use Rattle.plan.specs.Pre.{isQueued, Loaded, Placings, DeadChoke, Making, Choking, Readable}
+use Rattle.plan.specs.Pre.{isQueued, Loaded, Placings, DeadChoke, NobodyIn, Making, Choking, Readable}
 use Rattle.plan.proofs.Refusing.{plan-places}
 use Rattle.plan.proofs.After.{reads, file-agrees}
 use Rattle.plan.proofs.Asking.{state-sound}
@@ -52,29 +52,49 @@ module _ (file : List ℕ) {ls next os ts : List ℕ} (l : Loaded file ls next o
   pub lent-marks : {n : ℕ} {all : List ℕ} → n ≡ fileN file → all ≡ replicate GATEWAYS NONE → (n ≤ length all) × (n ≡ length (take n all))
   lent-marks e none = rw e (marks-room none few, place-marks none few)
 
-  pub lent-making : {k n : ℕ} {hs all : List ℕ} → k ≤ fileN file → n ≡ fileN file → hs ≡ replicate GATEWAYS 0 → all ≡ replicate GATEWAYS NONE → Making file k ls next os ts hs (take n all)
-  lent-making within e zeros none = record { loaded = l; within = within; zeros = zeros; none = rw (e, none) (take-replicate (fileN file) GATEWAYS NONE few) }
+  -- the rows of a plant of no more than c gateways, and of any
+  pub lent-rows : {n : ℕ} (c : ℕ) {rows : List (List ℕ)} → n ≡ fileN file → n ≤ c → c ≤ GATEWAYS → rows ≡ replicate c (replicate HIGHEST NONE) → NobodyIn (fileN file) rows
+  lent-rows c e wide most is = rw is (record { wide = rw (length-replicate, ← e) wide; most = rw length-replicate most; empty = ap (λ (k : ℕ). replicate k (replicate HIGHEST NONE)) (sym (length-replicate c (replicate HIGHEST NONE))) })
+
+  pub lent-all-rows : {rows : List (List ℕ)} → rows ≡ replicate GATEWAYS (replicate HIGHEST NONE) → NobodyIn (fileN file) rows
+  lent-all-rows is = lent-rows GATEWAYS refl few (omega arith) is
+
+  pub lent-making : {k n : ℕ} {rows : List (List ℕ)} {hs queue all looked : List ℕ} → k ≤ fileN file → n ≡ fileN file → NobodyIn (fileN file) rows → hs ≡ replicate GATEWAYS 0 → queue ≡ replicate GATEWAYS 0
+      → all ≡ replicate GATEWAYS NONE → looked ≡ replicate GATEWAYS 0 → Making file k ls next os ts rows hs queue (take n all) looked
+  lent-making within e nobody zeros zeros₂ none zeros₃ =
+      record {
+        loaded = l;
+        within = within;
+        nobody = nobody;
+        zeros = zeros;
+        places = rw (zeros₂, length-replicate) few;
+        none = rw (e, none) (take-replicate (fileN file) GATEWAYS NONE few);
+        room = rw (zeros₃, length-replicate) few;
+      }
 
 -- nobody is held yet
-module _ (w : Way) (file : List ℕ) (k : ℕ) {ls next os ts hs dead : List ℕ} (m : Making file k ls next os ts hs dead) where
+module _ (w : Way) (file : List ℕ) (k : ℕ) {ls next os ts : List ℕ} {rows : List (List ℕ)} {hs queue dead looked : List ℕ} (m : Making file k ls next os ts rows hs queue dead looked) where
   pub making-room : {n : ℕ} → n ≡ fileN file → n ≤ length hs
   making-room e = rw (e, m .zeros, length-replicate) (few file (m .loaded))
 
-  pub making-few : {n : ℕ} → n ≡ fileN file → n ≤ GATEWAYS
-  making-few e = rw e (few file (m .loaded))
-
-  pub making-placings : {n : ℕ} {hs' queue looked : List ℕ} {rows : List (List ℕ)} (c : ℕ) → n ≡ fileN file → n ≤ c → c ≤ GATEWAYS → hs' ≡ written n (replicate n NONE) hs → rows ≡ replicate c (replicate HIGHEST NONE) → queue ≡ replicate GATEWAYS 0
-      → looked ≡ replicate GATEWAYS 0 → Placings w file k ls next os ts hs' rows queue dead looked
-  making-placings {n} {hs'} {queue} {looked} c e wide most held table zeros zeros₂ =
+  pub making-placings : {n : ℕ} {hs' : List ℕ} → n ≡ fileN file → hs' ≡ written n (replicate n NONE) hs → Placings w file k ls next os ts hs' rows queue dead looked
+  making-placings {n} {hs'} e held =
       record {
         loaded = m .loaded;
         within = m .within;
         first = held ∙ rw (e, m .zeros) (sym (first-holders file (m .loaded .accepted) w));
-        table = rows-none (fileN file) hs' c (rw (← e) wide) most (λ v l. ap (λ (k : List ℕ). at k v) held ∙ rw e (repeated-at (fileN file) NONE hs v l)) table;
-        places = rw (zeros, length-replicate) (few file (m .loaded));
+        table = rows-none (fileN file) hs' (length rows) (m .nobody .wide) (m .nobody .most) (λ v l. ap (λ (k : List ℕ). at k v) held ∙ rw e (repeated-at (fileN file) NONE hs v l)) (m .nobody .empty);
+        places = m .places;
         none = m .none;
-        room = rw (zeros₂, length-replicate) (few file (m .loaded));
+        room = m .room;
       }
+
+  -- the lists keep their lengths
+  pub making-places : {l : ℕ} → l ≡ length queue → fileN file ≤ l
+  making-places e = omega (arith, e, m .places)
+
+  pub making-long : {l : ℕ} → l ≡ length dead → l ≡ fileN file
+  making-long e = e ∙ rw (m .none) (length-replicate (fileN file) NONE)
 
 -- a search may be made with the holders of the record made
 made-searchable : (w : Way) (file : List ℕ) (k : ℕ) → fileRefusal file ≡ 0 → k ≤ fileN file → Searchable (fileN file) (stateBy w file k .holders)
@@ -84,7 +104,7 @@ made-searchable w file k z within =
     rw few at (sound-searchable (a .made .sound))
 
 -- the choke bytes: by the marks, and by the walk of its own
-module _ (w : Way) (file : List ℕ) (k : ℕ) {ls next hs dead choke : List ℕ} (c : Choking w file k ls next hs dead choke) where
+module _ (w : Way) (file : List ℕ) (k : ℕ) {ls next : List ℕ} {rows : List (List ℕ)} {hs queue dead choke : List ℕ} (c : Choking w file k ls next rows hs queue dead choke) where
   module _ {n : ℕ} {q b : Bool} (e : n ≡ fileN file) (is : q ≡ isQueued w) (both : b ≡ (q && eqb k n)) (yes : b ≡ true) where
     marked : (length dead ≡ fileN file) × ((u : ℕ) → u < fileN file → seen dead u ≡ inChoke (fileN file) (fileLinks file) (stateBy w file k .holders) u)
     marked = c .dead-choke (sym is ∙ and-l q (eqb k n) (sym both ∙ yes)) (eqb-true k n (and-r q (eqb k n) (sym both ∙ yes)) ∙ e)
@@ -97,11 +117,24 @@ module _ (w : Way) (file : List ℕ) (k : ℕ) {ls next hs dead choke : List ℕ
     unfolding chokeByte seenByte
     choking-marked f = (rw (marked .0) at f) ∙ ap (λ (l : List ℕ). written (fileN file) l choke) (listOf-ext (fileN file) (seenByte dead) (chokeByte (fileN file) (fileLinks file) (stateBy w file k .holders)) (λ u l. ap (λ (b : Bool). pick b 1) (marked .1 u l)))
 
-  pub choking-walked : {n : ℕ} {choke' : List ℕ} → n ≡ fileN file → choke' ≡ chokeWritten n ls hs choke
+  made-may : Searchable (fileN file) (stateBy w file k .holders)
+  made-may = made-searchable w file k (c .accepted) (c .within)
+
+  pub choking-marks : {n : ℕ} → n ≡ fileN file → n ≤ length dead
+  choking-marks e = omega (arith, e, c .marks)
+
+  pub choking-works : {n : ℕ} {dead' : List ℕ} → n ≡ fileN file → dead' ≡ written n (replicate n NONE) dead → Workable n rows hs queue dead' choke
+  choking-works {n} {dead'} e f =
+      rw e
+      (record {
+        lent = record { few = made-may .few; entries = rw (c .made) (made-may .holders); places = c .room };
+        table = record { is = c .table; within = rw (c .made) (made-may .within) };
+        space = record { places = c .places; unseen = (rw e at f) ∙ written-whole (fileN file) (replicate (fileN file) NONE) dead (length-replicate (fileN file) NONE) (omega (arith, c .marks)) };
+      })
+
+  pub choking-walked : {n : ℕ} {choke' : List ℕ} → n ≡ fileN file → choke' ≡ written n (listOf n (chokeByte n ls hs)) choke
       → choke' ≡ written (fileN file) (listOf (fileN file) (chokeByte (fileN file) (fileLinks file) (stateBy w file k .holders))) choke
-  choking-walked {choke' = choke'} e f =
-      let at-file : choke' ≡ chokeWritten (fileN file) (fileLinks file) (stateBy w file k .holders) choke = rw (e, c .links, c .made) at f in
-      at-file ∙ choke-written (fileN file) (fileLinks file) (stateBy w file k .holders) choke (chokeable-holds choke (made-searchable w file k (c .accepted) (c .within)) (c .room))
+  choking-walked e f = rw (e, c .links, c .made) at f
 
 -- the plan of the lists
 module _ (w : Way) (file : List ℕ) (k : ℕ) {ls next os ts leaders choke : List ℕ} (r : Readable file k ls next os ts leaders choke) where
@@ -109,8 +142,10 @@ module _ (w : Way) (file : List ℕ) (k : ℕ) {ls next os ts leaders choke : Li
   accepted = r .loaded .accepted
 
   module _ {n : ℕ} {hs : List ℕ} (e : n ≡ fileN file) (made : hs ≡ stateBy w file k .holders) where
-    pub reading-choking : {dead : List ℕ} → DeadChoke w file k dead → Choking w file k ls next hs dead choke
-    reading-choking d = record { accepted = accepted; links = r .loaded .links; index = r .loaded .index; within = r .within; made = made; dead-choke = d; room = r .room₂ }
+    pub reading-choking : {rows : List (List ℕ)} {queue dead : List ℕ} → RowsOf (fileN file) (stateBy w file k .holders) rows → fileN file ≤ length queue → length dead ≡ fileN file → DeadChoke w file k dead
+        → Choking w file k ls next rows hs queue dead choke
+    reading-choking table places marks d =
+        record { accepted = accepted; links = r .loaded .links; index = r .loaded .index; within = r .within; made = made; table = rw made table; places = places; marks = marks; dead-choke = d; room = r .room₂ }
 
     pub reading-leaders : {leaders' : List ℕ} → leaders' ≡ leadersWritten n os hs leaders → leaders' ≡ readLeaders (stateBy w file k) leaders choke
     unfolding readLeaders

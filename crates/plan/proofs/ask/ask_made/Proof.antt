@@ -13,9 +13,9 @@ make-requires : tie.Need-make-requires
 make-requires c κs = search needs
 
 why-placed-requires : tie.Need-why-placed-requires
-why-placed-requires c κs = let made = c .before .before .before .before .before .before .before in
-    let counted = made .before .before .before in
-    let start = counted .before .before .before .before .before .before .before .before .before .before in
+why-placed-requires c κs = let made = c .before .before .before .before .before .before .before .before .before .before .before .before in
+    let counted = made .before .before .before .before .before .before in
+    let start = counted .before .before .before .before .before .before .before .before .before .before .before .before in
     (start .pre .loaded .index, asking-searchable _ (start .pre .loaded) (counted .gateways .ensures) (made .make .ensures .0))
 
 same-length : tie.Need-same-length
@@ -30,11 +30,20 @@ same-length-3 c = search needs
 same-length-4 : tie.Need-same-length-4
 same-length-4 c = search needs
 
+same-length-5 : tie.Need-same-length-5
+same-length-5 c = search needs
+
+same-length-6 : tie.Need-same-length-6
+same-length-6 c = search needs
+
+same-length-7 : tie.Need-same-length-7
+same-length-7 c = search needs
+
 returns : tie.Need-returns
 returns c = let called = c .before .before .before .before in
-    let made = called .before .before .before .before .before .before .before .before in
-    let counted = made .before .before .before in
-    let start = counted .before .before .before .before .before .before .before .before .before .before in
+    let made = called .before .before .before .before .before .before .before .before .before .before .before .before .before in
+    let counted = made .before .before .before .before .before .before in
+    let start = counted .before .before .before .before .before .before .before .before .before .before .before .before in
     asking-answered _ (start .pre .loaded) (counted .gateways .ensures) (made .make .ensures .0) _ _ _ (called .why-placed .ensures)
 
 pub ask-made-spec : {M : Type 1} → statement M
@@ -49,4 +58,7 @@ ask-made-spec =
     same-length-2
     same-length-3
     same-length-4
+    same-length-5
+    same-length-6
+    same-length-7
     returns)

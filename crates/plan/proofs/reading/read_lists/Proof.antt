@@ -1,4 +1,5 @@
-use Rattle.plan.proofs.ReadingLists.{lent-marks, lent-making}
+use native.Mathlib.Omega.{arith}
+use Rattle.plan.proofs.ReadingLists.{lent-rows, lent-all-rows}
 use borrow.Author.Needs.{needs}
 use Rattle.plan.proofs.reading.read_lists.Statement.{statement}
 use Rattle.plan.proofs.reading.read_lists.Tie as tie
@@ -6,35 +7,21 @@ use Rattle.plan.proofs.reading.read_lists.Tie as tie
 gateways-requires : tie.Need-gateways-requires
 gateways-requires c κs = search needs
 
-cast-end : tie.Need-cast-end
-cast-end c = search needs
+cast-if1 : tie.Need-cast-if1
+cast-if1 c = search needs
 
-zeros-requires : tie.Need-zeros-requires
-zeros-requires c κs = search needs
+few-rows-requires : tie.Need-few-rows-requires
+few-rows-requires c κs = search needs
 
-nones-requires : tie.Need-nones-requires
-nones-requires c κs = search needs
+slice-aggregate-read-with : tie.Need-slice-aggregate-read-with
+slice-aggregate-read-with c = search needs
 
-slice-aggregate-read-made : tie.Need-slice-aggregate-read-made
-slice-aggregate-read-made c = search needs
-
-array-borrow-prefix-dead : tie.Need-array-borrow-prefix-dead
-array-borrow-prefix-dead c = let marks = c .before in
-    let counted = marks .before .before in
+read-with-requires : tie.Need-read-with-requires
+read-with-requires c κs = let rows = c .before .before .before in
+    let test = rows .before in
+    let counted = test .before in
     let start = counted .before .before .before .before .before .before .before .before in
-    lent-marks _ (start .pre .loaded) (counted .gateways .ensures) (marks .nones .ensures) .0
-
-slice-aggregate-read-made-2 : tie.Need-slice-aggregate-read-made-2
-slice-aggregate-read-made-2 c = let marks = c .before .before in
-    let counted = marks .before .before in
-    let start = counted .before .before .before .before .before .before .before .before in
-    lent-marks _ (start .pre .loaded) (counted .gateways .ensures) (marks .nones .ensures) .1
-
-read-made-requires : tie.Need-read-made-requires
-read-made-requires c κs = let marks = c .before .before .before .before in
-    let counted = marks .before .before in
-    let start = counted .before .before .before .before .before .before .before .before in
-    (start .pre, lent-making _ (start .pre .loaded) (start .pre .within) (counted .gateways .ensures) (marks .before .zeros .ensures) (marks .nones .ensures))
+    (start .pre, lent-rows _ (start .pre .loaded) 128 (counted .gateways .ensures) (test .if1 .taken) (omega arith) (rows .few-rows .ensures))
 
 same-length : tie.Need-same-length
 same-length c = search needs
@@ -45,18 +32,41 @@ same-length-2 c = search needs
 returns : tie.Need-returns
 returns c = search needs
 
+empty-rows-requires : tie.Need-empty-rows-requires
+empty-rows-requires c κs = search needs
+
+slice-aggregate-read-with-2 : tie.Need-slice-aggregate-read-with-2
+slice-aggregate-read-with-2 c = search needs
+
+read-with-requires-2 : tie.Need-read-with-requires-2
+read-with-requires-2 c κs = let rows = c .before .before .before in
+    let start = rows .before .before .before .before .before .before .before .before .before .before in
+    (start .pre, lent-all-rows _ (start .pre .loaded) (rows .empty-rows .ensures))
+
+same-length-3 : tie.Need-same-length-3
+same-length-3 c = search needs
+
+same-length-4 : tie.Need-same-length-4
+same-length-4 c = search needs
+
+returns-2 : tie.Need-returns-2
+returns-2 c = search needs
+
 pub read-lists-spec : {M : Type 1} → statement M
 read-lists-spec =
     tie.close
     (tie.spec
     gateways-requires
-    cast-end
-    zeros-requires
-    nones-requires
-    slice-aggregate-read-made
-    array-borrow-prefix-dead
-    slice-aggregate-read-made-2
-    read-made-requires
+    cast-if1
+    few-rows-requires
+    slice-aggregate-read-with
+    read-with-requires
     same-length
     same-length-2
-    returns)
+    returns
+    empty-rows-requires
+    slice-aggregate-read-with-2
+    read-with-requires-2
+    same-length-3
+    same-length-4
+    returns-2)

@@ -1,4 +1,5 @@
-use Rattle.plan.proofs.ReadingLists.{reading-choking, reading-leaders, reading-choke}
+use Rattle.planner.specs.declared.Way.the-variants.{Queued}
+use Rattle.plan.proofs.ReadingLists.{making-places, making-long, reading-choking, reading-leaders, reading-choke}
 use borrow.Author.Needs.{needs}
 use Rattle.plan.proofs.reading.read_made.Statement.{statement}
 use Rattle.plan.proofs.reading.read_made.Tie as tie
@@ -13,10 +14,11 @@ leaders-requires : tie.Need-leaders-requires
 leaders-requires c κs = search needs
 
 write-choke-requires : tie.Need-write-choke-requires
-write-choke-requires c κs = let counted = c .before .before .before .before .before .before .before .before in
-    let made = counted .before .before .before .before .before in
-    let start = made .before .before .before .before .before .before .before .before .before .before .before .before in
-    reading-choking _ _ _ (start .pre .0) (counted .gateways .ensures) (made .make .ensures .0) (made .make .ensures .1 .1)
+write-choke-requires c κs = let counted = c .before .before .before .before .before .before .before .before .before .before in
+    let made = counted .before .before .before .before .before .before .before .before .before .before in
+    let start = made .before .before .before .before .before .before .before .before .before .before .before .before .before .before .before .before .before in
+    let (holders, (rows, (moved, dead))) = made .make .ensures in
+    reading-choking _ _ _ (start .pre .0) (counted .gateways .ensures) holders rows (making-places Queued _ _ (start .pre .1) (made .make .kept .1 .1 .1 .1 .1 .1 .1 .1 .1 .0)) (making-long Queued _ _ (start .pre .1) (made .make .kept .1 .1 .1 .1 .1 .1 .1 .1 .1 .1 .0)) dead
 
 same-length : tie.Need-same-length
 same-length c = search needs
@@ -30,14 +32,24 @@ same-length-3 c = search needs
 same-length-4 : tie.Need-same-length-4
 same-length-4 c = search needs
 
+same-length-5 : tie.Need-same-length-5
+same-length-5 c = search needs
+
+same-length-6 : tie.Need-same-length-6
+same-length-6 c = search needs
+
+same-length-7 : tie.Need-same-length-7
+same-length-7 c = search needs
+
 returns : tie.Need-returns
-returns c = let written = c .before .before in
-    let led = written .before .before .before .before .before .before in
+returns c = let written = c .before .before .before .before .before .before in
+    let led = written .before .before .before .before .before .before .before .before in
     let counted = led .before .before .before in
-    let made = counted .before .before .before .before .before in
-    let start = made .before .before .before .before .before .before .before .before .before .before .before .before in (
-      reading-leaders _ _ _ (start .pre .0) (counted .gateways .ensures) (made .make .ensures .0) (led .leaders .ensures .1),
-      (reading-choke _ _ _ (start .pre .0) (written .write-choke .ensures), made .make .ensures .1 .0),
+    let made = counted .before .before .before .before .before .before .before .before .before .before in
+    let start = made .before .before .before .before .before .before .before .before .before .before .before .before .before .before .before .before .before in
+    let (holders, (rows, (moved, dead))) = made .make .ensures in (
+      reading-leaders _ _ _ (start .pre .0) (counted .gateways .ensures) holders (led .leaders .ensures .1),
+      (reading-choke _ _ _ (start .pre .0) (written .write-choke .ensures), moved),
     )
 
 pub read-made-spec : {M : Type 1} → statement M
@@ -52,4 +64,7 @@ read-made-spec =
     same-length-2
     same-length-3
     same-length-4
+    same-length-5
+    same-length-6
+    same-length-7
     returns)
