@@ -34,10 +34,9 @@ struct highest {
     int n, m;
 };
 
-/* Of plants of 64 gateways apart: there most of the call's time goes into clearing lists that fit the largest plant. */
-enum { SMALL = 64 };
+enum { SMALLEST = 64 };
 
-static struct highest to_plain[2], to_flow[2];
+static struct highest to_plain, to_flow;
 
 static void print_head(void)
 {
@@ -87,8 +86,8 @@ static bool show(const struct kind *k, int n, enum links links, struct before *b
         return false;
     }
     print_line(k->name, b, &t);
-    keep_highest(&to_plain[n <= SMALL], t.call / t.plain, k->name);
-    keep_highest(&to_flow[n <= SMALL], t.call / t.flow, k->name);
+    keep_highest(&to_plain, t.call / t.plain, k->name);
+    keep_highest(&to_flow, t.call / t.flow, k->name);
     b->size = plant.n + plant.m;
     b->timing = t;
     return true;
@@ -99,17 +98,15 @@ static bool table(int most)
     print_head();
     for (int i = 0; i < kind_count; i++) {
         struct before b = {0};
-        for (int n = SMALL; n <= most; n *= 4)
+        for (int n = SMALLEST; n <= most; n *= 4)
             if (!show(&kinds[i], n, USUAL, &b))
                 return false;
         if (most >= MAX_GATEWAYS && kinds[i].has_most && !show(&kinds[i], MAX_GATEWAYS, MOST_OF_ALL, &b))
             return false;
     }
     printf("growth: over the line before, of gateways and links together and of the times\n");
-    for (int small = 0; small < 2; small++) {
-        print_highest("call to plain C", &to_plain[small]);
-        print_highest("call to flow", &to_flow[small]);
-    }
+    print_highest("call to plain C", &to_plain);
+    print_highest("call to flow", &to_flow);
     return true;
 }
 
@@ -121,8 +118,8 @@ static int argument(int count, char **words, int i, int otherwise)
 int main(int count, char **words)
 {
     int most = argument(count, words, 1, MAX_GATEWAYS);
-    if (most < 64 || most > MAX_GATEWAYS) {
-        printf("gateways: 64 to %d\n", MAX_GATEWAYS);
+    if (most < SMALLEST || most > MAX_GATEWAYS) {
+        printf("gateways: %d to %d\n", SMALLEST, MAX_GATEWAYS);
         return 2;
     }
     bool same = same_on_small(SMALL_PLANTS) && table(most) &&

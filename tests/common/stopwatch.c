@@ -11,17 +11,24 @@ static double now(void)
     return (double)t.tv_sec + 1e-9 * (double)t.tv_nsec;
 }
 
-/* The clock is asked after one turn, two more, four more, and so on: to ask it takes as long as a small plant. */
+/*
+ * The clock is asked after one turn, two more, four more, and so on: to ask it takes as long as a small plant. The fastest
+ * part counts that is no short one: the first turns after another work, or after another program had the processor, are
+ * slower, for some works far more than for others.
+ */
 static double one_turn(void (*work)(void), double share)
 {
-    double start = now(), taken;
-    int turns = 0;
-    do {
-        for (int more = turns + 1; more > 0; more--, turns++)
+    double start = now(), before = start, least = 0;
+    for (int turns = 1;; turns *= 2) {
+        for (int i = 0; i < turns; i++)
             work();
-        taken = now() - start;
-    } while (taken < share);
-    return taken / turns;
+        double after = now(), part = after - before;
+        if (part >= share / 8 && (least == 0 || part / turns < least))
+            least = part / turns;
+        if (after - start >= share)
+            return least > 0 ? least : part / turns;
+        before = after;
+    }
 }
 
 void stopwatch(int count, void (*const *works)(void), int rounds, double share, double *seconds)

@@ -9,6 +9,13 @@
 #include "plan_groups.h"
 #include "stopwatch.h"
 
+/*
+ * With care. More rounds that are shorter do not serve: on the largest plants it takes milliseconds until the plain program
+ * runs at full speed, and where others use the machine it may then never do so.
+ */
+enum { ROUNDS = 11, ROUNDS_AT_FIRST = 5 };
+static const double share = 0.007;
+
 /* What the works take and give. The answers are looked at, so that no work is left out. */
 static const struct plant *plant;
 static uint8_t file[MAX_FILE], by_call[PLAN_GROUPS_OUT_MAX], by_plain[PLAN_GROUPS_OUT_MAX], by_other[PLAN_GROUPS_OUT_MAX];
@@ -61,7 +68,7 @@ bool timing_all(const struct plant *p, struct timing *t)
     static void (*const works[])(void) = {work_call, work_plain, work_recursive, work_flow};
     double seconds[4];
     begin(p);
-    stopwatch(4, works, 9, 0.007, seconds);
+    stopwatch(4, works, ROUNDS, share, seconds);
     t->call = seconds[0];
     t->plain = seconds[1];
     t->recursive = seconds[2];
@@ -74,7 +81,7 @@ bool timing_two(const struct plant *p, bool with_care, struct timing *t)
     static void (*const works[])(void) = {work_call, work_plain};
     double seconds[2];
     begin(p);
-    stopwatch(2, works, with_care ? 9 : 5, with_care ? 0.005 : 0, seconds);
+    stopwatch(2, works, with_care ? ROUNDS : ROUNDS_AT_FIRST, with_care ? share : 0, seconds);
     t->call = seconds[0];
     t->plain = seconds[1];
     return end(t);
