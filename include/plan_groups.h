@@ -83,13 +83,13 @@ extern "C" {
  *
  * What it uses. The call is reentrant and keeps nothing: the library has no writable data and allocates
  * none. Calls may run at once in any threads, each with an out of its own; they may share a file that
- * nobody changes meanwhile. Its lists stand on the stack: 160,240 bytes were measured, nearly the same for
- * every file (why_alone 125,216, check_groups 112,824, plan_groups_recursive below). A thread whose stack
- * has PLAN_GROUPS_STACK bytes, with what the thread itself takes of them, can make the call; what the
+ * nobody changes meanwhile. Its lists stand on the stack: 125,960 bytes were measured at most, little less
+ * for a small plant (why_alone 160,104, check_groups 110,808, plan_groups_recursive below). A thread whose
+ * stack has PLAN_GROUPS_STACK bytes, with what the thread itself takes of them, can make the call; what the
  * thread does besides needs more.
  *
  * Its time grows as n * (n + m) at worst, and as n + m on most plants: a few microseconds for 64 gateways,
- * 30 to 120 microseconds for 1,024 gateways with some thousand links, under a millisecond on most plants
+ * 25 to 100 microseconds for 1,024 gateways with some thousand links, under a millisecond on most plants
  * of 8,192 links. Where many links end at the same gateways a link that stands there already is looked
  * for along chains that are long; the slowest of thousands of plants tried took under 4 milliseconds.
  *
@@ -184,7 +184,7 @@ uint32_t why_alone(const uint8_t *file, size_t file_len, uint32_t gateway, uint8
  *   - the number moved is counted in the same way, placing by placing, but need not be the least.
  *
  * What it uses. Its two functions call each other, up to 512 times each one within the other in a plant of
- * 1,024 gateways; on such plants 250,280 bytes of stack were measured, on most far less. A thread whose
+ * 1,024 gateways; on such plants 248,727 bytes of stack were measured, on most far less. A thread whose
  * stack has PLAN_GROUPS_RECURSIVE_STACK bytes, with what the thread itself takes of them, can make the call
  * on every file. Its time grows as n * (n + m) at worst: it takes about as long as plan_groups on most
  * plants, and up to some thirty times as long, milliseconds then, where many are left alone. All else is as

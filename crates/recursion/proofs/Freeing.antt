@@ -22,7 +22,7 @@ use Rattle.search.proofs.Joining.{from-place, free-place, past-end}
 use Rattle.recursion.specs.Recursion.{Try, tried, orElse, tryEach, findHolder, freePlace}
 use Rattle.recursion.specs.Pre.{untried, asTry, Working, Front}
 use Rattle.recursion.proofs.Marks.{front-long, front-same, front-then}
-use Rattle.recursion.proofs.Promises.{FoundBy, FoundRows, FreedBy, FreedRows, one-more, one-at-least, working-below, find-grown}
+use Rattle.recursion.proofs.Promises.{FoundBy, FoundRows, FreedBy, FreedRows, one-more, one-at-least, find-grown}
 
 -- the loop over what u holds, before place i of its row
 pub record Freeing (n : ℕ) (limit : ℕ → ℕ) (ls : List ℕ) (u : ℕ) (rows₀ : List (List ℕ)) (hs₀ marks₀ : List ℕ) (rows : List (List ℕ)) (hs marks : List ℕ) (i : ℕ) : Type 0 where

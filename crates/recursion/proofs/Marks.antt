@@ -1,18 +1,17 @@
 -- Marks of who has been tried: one more is one fewer to try, and marks that only grow leave no more to try.
 use Prim.Native.Nat.{ℕ, _+_, _<_, _≤_}
-use mathlib.Core.Path.{_≡_, refl, sym, ap, _∙_}
-use mathlib.Core.Bool.{Bool, true, false, not, _&&_, and-false}
+use mathlib.Core.Path.{_≡_, refl, sym, _∙_}
+use mathlib.Core.Bool.{Bool, true, false, not, _&&_}
 use mathlib.Core.List.{List}
 use native.Mathlib.Omega.{arith}
-use lib.Dec.{eqb, ltb}
+use lib.Dec.{ltb}
 use lib.ListN.{length, take, length-set, replicate, length-replicate, List·getD-eq-default}
 use lib.Seq.{getD-set-other, length-take-le, getD-take, take-set-lt, take-set-le, set-out}
-use borrow.Author.Tests.{eqb-false, not-true, ltb-true, ltb-false}
-use Rattle.packing.specs.Count.{pick, count}
+use borrow.Author.Tests.{not-true, ltb-true, ltb-false}
+use Rattle.packing.specs.Count.{count}
 use Rattle.packing.specs.Plant.{NONE, at}
 use Rattle.packing.proofs.Tests.{by-bool, clash, and-l, and-r, and-i, not-i}
-use Rattle.packing.proofs.Sums.{count-ext, count-mono, count-bound}
-use Rattle.packing.proofs.Moved.{count-point}
+use Rattle.packing.proofs.Sums.{count-mono, count-bound}
 use Rattle.search.proofs.States.{unseen-below, seen-marked, unseen-falls, seen-kept}
 use Rattle.recursion.specs.Recursion.{tried, mark}
 use Rattle.recursion.specs.Pre.{untriedIn, untried, Front}

@@ -5,16 +5,13 @@ use mathlib.Core.Bool.{Bool, true, _||_, or-false}
 use mathlib.Core.Logic.{⊎-elim}
 use mathlib.Core.List.{List, [], _∷_}
 use native.Mathlib.Omega.{arith}
-use lib.Dec.{eqb, ltb}
-use lib.ListN.{length, set}
-use lib.Seq.{getD-set-same}
-use borrow.Author.Tests.{eqb-true, eq-eqb, ltb-true, ltb-false}
-use Rattle.packing.specs.Lists.{written}
+use lib.Dec.{eqb}
+use lib.ListN.{length}
+use borrow.Author.Tests.{eqb-true, eq-eqb}
 use Rattle.packing.specs.Plant.{GATEWAYS, HIGHEST, at}
 use Rattle.packing.specs.Holders.{held, holds}
 use Rattle.packing.specs.Moved.{moved}
 use Rattle.packing.proofs.Tests.{by-bool, or-r}
-use Rattle.packing.proofs.Lists.{written-whole}
 use Rattle.packing.proofs.Moved.{moved-none}
 use Rattle.search.specs.Search.{found, shift, settled, placedHolders}
 use Rattle.search.specs.RowPre.{RowsOf, RowsKept}

@@ -14,7 +14,7 @@ use Rattle.packing.specs.Plant.{NONE, at}
 use Rattle.packing.proofs.Tests.{by-bool}
 use Rattle.packing.proofs.Sums.{count-bound}
 use Rattle.search.specs.Search.{seen}
-use Rattle.search.specs.Noted.{NotedThen, takenBack, unseenCount, RoomToNote, Noted, Notes}
+use Rattle.search.specs.Noted.{NotedThen, takenBack, unseenCount, RoomToNote, Notes}
 use Rattle.search.proofs.States.{unseen-below, unseen-falls}
 
 -- nothing noted, and notes after notes

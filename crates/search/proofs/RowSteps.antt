@@ -8,7 +8,7 @@ use native.Mathlib.Omega.{arith}
 use lib.ListN.{length, set, take, drop, getD, length-set, take-append-drop, drop-of-length-le, List·getD-eq-default}
 use lib.Seq.{take-suc, take-suc-set, take-all, drop-cons, drop-set-lt, append-snoc, getD-drop, set-out}
 use borrow.Author.Tests.{eq-eqb, ne-eqb, lt-ltb, le-ltb}
-use Rattle.packing.specs.Plant.{NONE, GATEWAYS, at}
+use Rattle.packing.specs.Plant.{NONE, at}
 use Rattle.search.specs.Table.{rowAt}
 use Rattle.search.specs.RowPre.{entered, movedUp, without, leftRow, joinedRow, movedRows, Taken}
 use Rattle.search.proofs.Rows.{default-below}

@@ -2,10 +2,10 @@
 -- What the functions of a plan's placings require and leave. ls are the plant's links, hs the holders, limit u how many u may hold; left says who is placed and without holder.
 use Prim.Native.Nat.{ℕ, _<_, _≤_}
 use mathlib.Core.Path.{_≡_}
-use mathlib.Core.Bool.{Bool, true, false, not, cond, _&&_, _||_}
-use mathlib.Core.List.{List, [], _∷_}
+use mathlib.Core.Bool.{Bool, true, false, not, _&&_, _||_}
+use mathlib.Core.List.{List}
 use lib.Dec.{eqb}
-use lib.ListN.{length, set}
+use lib.ListN.{length}
 use Rattle.packing.specs.Plant.{NONE, HIGHEST, at, linked}
 use Rattle.packing.specs.Holders.{held, Feasible}
 use Rattle.packing.proofs.Tight.{Tight}
