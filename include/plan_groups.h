@@ -186,9 +186,9 @@ uint32_t why_alone(const uint8_t *file, size_t file_len, uint32_t gateway, uint8
  * What it uses. Its two functions call each other, up to 512 times each one within the other in a plant of
  * 1,024 gateways; on such plants 248,727 bytes of stack were measured, on most far less. A thread whose
  * stack has PLAN_GROUPS_RECURSIVE_STACK bytes, with what the thread itself takes of them, can make the call
- * on every file. Its time grows as n * (n + m) at worst: it takes about as long as plan_groups on most
- * plants, and up to some thirty times as long, milliseconds then, where many are left alone. All else is as
- * for plan_groups.
+ * on every file. Its time grows as n * (n + m) at worst: it takes one to three times as long as plan_groups
+ * on most plants, and up to some fifty times as long, milliseconds then, where many are left alone. All else
+ * is as for plan_groups.
  */
 uint32_t plan_groups_recursive(const uint8_t *file, size_t file_len, uint8_t *out, size_t out_len);
 
