@@ -1,4 +1,4 @@
--- Laws of the search: of lists and states; of the table of what is held (Rows, SameTable), and of a table that is kept (RowMoves, RowShift); of the loops (Gathering, RowSteps, Joining, Looks, Turns, and the rounds of Shifting);
+-- Laws of the search: of lists and states; of the table of what is held (Rows, SameTable), and of a table that is kept (RowExchange, RowMoves, RowShift); of the loops (Gathering, RowSteps, Joining, Looks, Turns, and the rounds of Shifting);
 -- of what holds through a walk and what it reaches (Walking, Reach), what a shift leaves, what placing does, and what it does not depend on (Repeats, Limits);
 -- of the number moved: cuts of the queue, that no other holders differ at fewer gateways, and the statements (Cuts, Least, Moved).
 -- Laws of the choke set: of the lists and the loops that write them (Unheld, Seen), and of the walk itself. Tested has what the public calls test.
@@ -11,6 +11,7 @@ pub mod TableExamples
 pub mod SameTable
 pub mod Gathering
 pub mod RowSteps
+pub mod RowExchange
 pub mod RowMoves
 pub mod Joining
 pub mod Results

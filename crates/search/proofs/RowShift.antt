@@ -1,7 +1,7 @@
 -- The table through a shift: each round moves one gateway from one row to another. And that a search for v that found a place free gives a shift that keeps the table.
 use Prim.Native.Nat.{ℕ, zero, suc, _+_, _-_, _<_, _≤_}
 use mathlib.Core.Path.{_≡_, refl, sym, ap, _∙_}
-use mathlib.Core.Bool.{Bool}
+use mathlib.Core.Bool.{Bool, false}
 use mathlib.Core.List.{List, [], _∷_}
 use native.Mathlib.Nat.{sub-zero}
 use native.Mathlib.Omega.{arith}
@@ -9,75 +9,88 @@ use lib.Dec.{eqb}
 use lib.ListN.{length, set, length-set}
 use borrow.Author.Tests.{eqb-true, eq-eqb, ltb-true}
 use Rattle.packing.specs.Count.{pick}
-use Rattle.packing.specs.Plant.{GATEWAYS, HIGHEST, at}
-use Rattle.packing.specs.Holders.{holds}
+use Rattle.packing.specs.Plant.{NONE, GATEWAYS, HIGHEST, at}
+use Rattle.packing.specs.Holders.{held, holds}
 use Rattle.packing.proofs.Tests.{by-bool}
 use Rattle.search.specs.Search.{found, walk, shift}
 use Rattle.search.specs.Pre.{takings, Placeable}
-use Rattle.search.specs.RowPre.{RowsOf, Taken, RowsFit, RowsKept}
-use Rattle.search.proofs.RowMoves.{rows-moved}
+use Rattle.search.specs.Table.{rowAt}
+use Rattle.search.specs.RowPre.{RowsOf, TakenFor, RowsFit, RowsKept, exchangedRow}
+use Rattle.search.proofs.RowExchange.{Packed}
+use Rattle.search.proofs.RowMoves.{rows-packed, nobody-goes, rows-handed}
 use Rattle.search.proofs.Taken.{taken-other, taken-holds}
-use Rattle.search.proofs.Shifting.{Rounds, rounds-start, rounds-turn, rounds-done, rounds-end, Chain, chain-next}
+use Rattle.search.proofs.Shifting.{Rounds, rounds-start, rounds-turn, rounds-done, rounds-end, Chain, chain-next, not-its-holder}
 use Rattle.search.proofs.Placing.{FoundFrom, walk-found}
 
--- after k rounds the rows are the table still, where the shift's rounds fit, and those that are left fit
-pub record RowRounds (n v u x : ℕ) (from hs₀ : List ℕ) (rows₀ : List (List ℕ)) (hs : List ℕ) (rows : List (List ℕ)) (taker taken k : ℕ) : Type 0 where
+-- After k rounds the rows are those of the holders, but that gone, whom the taker is to let go, still stands in its row; and the rounds that are left fit. At first nobody is to go.
+pub record RowRounds (n v u x : ℕ) (from hs₀ : List ℕ) (rows₀ : List (List ℕ)) (hs : List ℕ) (rows : List (List ℕ)) (taker taken gone k : ℕ) : Type 0 where
   pub rounds : Rounds n v u x from hs₀ hs taker taken k
   pub wide : length rows ≡ length rows₀
-  pub kept : n ≤ GATEWAYS → n ≤ length hs₀ → RowsFit n n v from u x hs₀ → RowsOf n hs₀ rows₀ → RowsFit (n - k) n v from taker taken hs × RowsOf n hs rows
+  pub kept : n ≤ GATEWAYS → n ≤ length hs₀ → RowsFit n n v from u x hs₀ → RowsOf n hs₀ rows₀
+      → RowsFit (n - k) n v from taker taken hs × RowsOf n hs (exchangedRow gone NONE taker rows) × Packed (rowAt rows taker)
 
 module _ (n v u x : ℕ) (from hs₀ : List ℕ) (rows₀ : List (List ℕ)) where
-  pub row-rounds-start : RowRounds n v u x from hs₀ rows₀ hs₀ rows₀ u x 0
-  row-rounds-start = record { rounds = rounds-start n v u x from hs₀; wide = refl; kept = λ few long fits is. (rw sub-zero fits, is) }
+  pub row-rounds-start : RowRounds n v u x from hs₀ rows₀ hs₀ rows₀ u x NONE 0
+  row-rounds-start =
+      record {
+        rounds = rounds-start n v u x from hs₀;
+        wide = refl;
+        kept = λ few long fits is. let packed = rows-packed is few u in (rw sub-zero fits, rw (nobody-goes rows₀ u packed) is, packed);
+      }
 
   module _
-      {hs : List ℕ} {rows : List (List ℕ)} {taker taken k : ℕ} (r : RowRounds n v u x from hs₀ rows₀ hs rows taker taken k) (l : k < n)
-      {old : ℕ} {hs' : List ℕ} {rows' : List (List ℕ)} (t : Taken taken taker hs hs' rows rows' old)
+      {hs : List ℕ} {rows : List (List ℕ)} {taker taken gone k : ℕ} (r : RowRounds n v u x from hs₀ rows₀ hs rows taker taken gone k) (l : k < n)
+      {old : ℕ} {hs' : List ℕ} {rows' : List (List ℕ)} (t : TakenFor taken gone taker hs hs' rows rows' old)
     where
       -- the rows after one more round, and the rounds then left
       one-more : n ≤ GATEWAYS → n ≤ length hs₀ → RowsFit n n v from u x hs₀ → RowsOf n hs₀ rows₀
-          → RowsOf n hs' rows' × ((taken ≡ v → ⊥) → RowsFit (n - (k + 1)) n v from (at hs taken) (at from (at hs taken)) (set hs taken taker))
+          → RowsOf n hs' (exchangedRow taken NONE old rows') × Packed (rowAt rows' old) × ((taken ≡ v → ⊥) → RowsFit (n - (k + 1)) n v from (at hs taken) (at from (at hs taken)) (set hs taken taker))
       unfolding RowsFit
       one-more few long fits is =
           let before = r .kept few long fits is in
           let next : n - k ≡ suc (n - (k + 1)) = omega arith in
           let round = rw next at (before .0) in
-          (rw (t .table, t .holders) (rows-moved n hs taken taker few (rw (r .rounds .same) long) (round .0) (round .1) (before .1)), round .2)
+          let then = rows-handed n hs rows gone taken taker few (round .0) (before .2) (round .2) (rw (r .rounds .same) long) (round .1) (before .1) in
+          (rw (t .table, t .holders, t .old) (then .0), rw (t .table, t .old) (then .1), round .3)
 
-      pub row-rounds-turn : {taken' : ℕ} → length rows' ≡ length rows → (taken ≡ v → ⊥) → taken' ≡ at from old → RowRounds n v u x from hs₀ rows₀ hs' rows' old taken' (k + 1)
+      pub row-rounds-turn : {taken' : ℕ} → length rows' ≡ length rows → (taken ≡ v → ⊥) → taken' ≡ at from old → RowRounds n v u x from hs₀ rows₀ hs' rows' old taken' taken (k + 1)
       row-rounds-turn same go next =
           record {
             rounds = rounds-turn n v u x from hs₀ (r .rounds) l (t .old) (t .holders) go next;
             wide = same ∙ r .wide;
-            kept = λ few long fits is. let m = one-more few long fits is in (rw (next, t .old, t .holders) (m .1 go), m .0);
+            kept = λ few long fits is. let m = one-more few long fits is in (rw (next, t .old, t .holders) (m .2 go), m .0, m .1);
           }
 
-      pub row-rounds-done : taken ≡ v → (hs' ≡ shift n v from u x hs₀) × ((k + 1 ≡ takings n v from u x hs₀) × RowsKept n v from u x hs₀ rows₀ rows')
+      pub row-rounds-done : {rows″ : List (List ℕ)} → taken ≡ v → rows″ ≡ exchangedRow taken NONE old rows'
+          → (hs' ≡ shift n v from u x hs₀) × ((k + 1 ≡ takings n v from u x hs₀) × RowsKept n v from u x hs₀ rows₀ rows″)
       unfolding RowsKept
-      row-rounds-done done =
+      row-rounds-done done left =
           let e = rounds-done n v u x from hs₀ (r .rounds) l (t .holders) done in
-          (e .0, (e .1, λ few long fits is. rw (← e .0) (one-more few long fits is .0)))
+          (e .0, (e .1, λ few long fits is. rw (← e .0, left) (one-more few long fits is .0)))
 
-  pub row-rounds-end : {hs : List ℕ} {rows : List (List ℕ)} {taker taken k : ℕ} → RowRounds n v u x from hs₀ rows₀ hs rows taker taken k → n ≤ k
-      → (hs ≡ shift n v from u x hs₀) × ((k ≡ takings n v from u x hs₀) × RowsKept n v from u x hs₀ rows₀ rows)
+  pub row-rounds-end : {hs : List ℕ} {rows rows' : List (List ℕ)} {taker taken gone k : ℕ} → RowRounds n v u x from hs₀ rows₀ hs rows taker taken gone k → n ≤ k → rows' ≡ exchangedRow gone NONE taker rows
+      → (hs ≡ shift n v from u x hs₀) × ((k ≡ takings n v from u x hs₀) × RowsKept n v from u x hs₀ rows₀ rows')
   unfolding RowsKept
-  row-rounds-end r l =
+  row-rounds-end r l left =
       let e = rounds-end n v u x from hs₀ (r .rounds) l in
-      (e .0, (e .1, λ few long fits is. rw (← e .0) (r .kept few long fits is .1)))
+      (e .0, (e .1, λ few long fits is. rw (← e .0, left) (r .kept few long fits is .1)))
 
 -- Along a chain each that is taken has a holder, but v. Who holds no more than a row has places, holds no more in any round: each taker has a place free when it takes.
 module _ (n : ℕ) (ls : List ℕ) (v : ℕ) (from : List ℕ) (inside : v < n) (Few : ℕ → Type 0) (below : (w : ℕ) → w < n → Few w) where
   chain-fits : (fuel k : ℕ) (hs : List ℕ) (u x : ℕ) → n ≤ length hs → u < n → Chain n ls v from inside hs k x → ((w : ℕ) → Few w → holds n (at hs) w ≤ HIGHEST)
-      → (at hs v < GATEWAYS → Few (at hs v)) → holds n (at hs) u < HIGHEST → RowsFit fuel n v from u x hs
+      → (at hs v < GATEWAYS → Few (at hs v)) → holds n (at hs) u < HIGHEST → held n (at hs) v ≡ false → at from u ≡ x → RowsFit fuel n v from u x hs
   unfolding RowsFit Chain
-  chain-fits zero k hs u x long l c few its free = tt
-  chain-fits (suc fuel) zero hs u x long l c few its free = (rw c inside, λ q. few (at hs x) (rw c (its (rw c at q))), λ go. absurd (go c))
-  chain-fits (suc fuel) (suc k) hs u x long l c few its free =
+  chain-fits zero k hs u x long l c few its free unheld seer = tt
+  chain-fits (suc fuel) zero hs u x long l c few its free unheld seer =
+      (rw c inside, λ q. few (at hs x) (rw c (its (rw c at q))), not-its-holder n ls v from inside hs zero u x l unheld seer (unfold Chain in c), λ go. absurd (go c))
+  chain-fits (suc fuel) (suc k) hs u x long l c few its free unheld seer =
+      let own : at (set hs x u) v ≡ at hs v = taken-other n hs x u long (c .1) v (λ e. c .0 (sym e)) in
       let old : at hs x < n = ltb-true _ _ (c .2) in (
         c .1,
         λ q. few (at hs x) (below (at hs x) old),
+        not-its-holder n ls v from inside hs (suc k) u x l unheld seer (unfold Chain in c),
         λ go. chain-fits fuel k (set hs x u) (at hs x) (at from (at hs x)) (rw length-set long) old (chain-next n ls v from inside hs x u k c)
-            (λ w f. within w (few w f)) (λ q. rw (taken-other n hs x u long (c .1) v (λ e. c .0 (sym e))) (its (rw (taken-other n hs x u long (c .1) v (λ e. c .0 (sym e))) at q))) freed,
+            (λ w f. within w (few w f)) (λ q. rw own (its (rw own at q))) freed (rw own unheld) refl,
       )
     where
       one : (w : ℕ) → pick (eqb w w) 1 ≡ 1
@@ -98,7 +111,7 @@ module _
   where
     pub found-fits : {u x : ℕ} {from : List ℕ} → FoundFrom n limit ls hs v (p .inside) u x from → RowsFit n n v from u x hs
     found-fits {u} {x} {from} f =
-        chain-fits n ls v from (p .inside) (λ w. holds n (at hs) w ≤ HIGHEST) (p .within) n (f .steps) hs u x (p .holders) (f .below) (f .chain) (λ w q. q) its (omega (arith, f .free, most u (f .below)))
+        chain-fits n ls v from (p .inside) (λ w. holds n (at hs) w ≤ HIGHEST) (p .within) n (f .steps) hs u x (p .holders) (f .below) (f .chain) (λ w q. q) its (omega (arith, f .free, most u (f .below))) (p .free) (f .seer)
 
     pub found-rows : {u x : ℕ} {from : List ℕ} → walk n limit ls hs (v ∷ []) ≡ found u x from → RowsFit n n v from u x hs
     found-rows e = found-fits (walk-found limit ls p e)
@@ -112,4 +125,4 @@ module _
     unfolding RowsFit
     fits-read zero hs u x s f = tt
     fits-read (suc fuel) hs u x s f =
-        (f .0, f .1, λ other. let (same, next) = step hs u x s other in rw same (fits-read fuel (set hs x u) (at hs x) (at from (at hs x)) next (f .2 other)))
+        (f .0, f .1, f .2, λ other. let (same, next) = step hs u x s other in rw same (fits-read fuel (set hs x u) (at hs x) (at from (at hs x)) next (f .3 other)))

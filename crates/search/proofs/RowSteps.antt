@@ -1,4 +1,4 @@
--- The passes over a row by which a gateway joins it and leaves it: their invariants, their turns, and their ends.
+-- The passes over a row by which one gateway leaves it and another joins it: their invariants, their turns, and their ends.
 use Prim.Native.Nat.{ℕ, _+_, _<_, _≤_}
 use mathlib.Core.Path.{_≡_, refl, sym, ap, _∙_}
 use mathlib.Core.List.{List, [], _∷_, _++_, append-nil}
@@ -10,7 +10,7 @@ use lib.Seq.{take-suc, take-suc-set, take-all, drop-cons, drop-set-lt, append-sn
 use borrow.Author.Tests.{eq-eqb, ne-eqb, lt-ltb, le-ltb}
 use Rattle.packing.specs.Plant.{NONE, at}
 use Rattle.search.specs.Table.{rowAt}
-use Rattle.search.specs.RowPre.{entered, movedUp, without, leftRow, joinedRow, movedRows, Taken}
+use Rattle.search.specs.RowPre.{raised, pushed, exchanged, exchangedRow, movedRows, Taken, TakenFor}
 use Rattle.search.proofs.Rows.{default-below}
 
 -- the number at a place, and 65535 past the end
@@ -38,116 +38,109 @@ module _ (row : List ℕ) (i : ℕ) (l : i < length row) where
   left-set : (b : ℕ) → drop (i + 1) (set row i b) ≡ drop (i + 1) row
   left-set b = drop-set-lt (i + 1) row i b (omega arith)
 
--- x has joined those before place i, and carried goes on
-pub record Entering (row₀ : List ℕ) (x : ℕ) (row : List ℕ) (carried i : ℕ) : Type 0 where
+-- from a place on, those that are smaller than y have moved up, as far as place i
+pub record Raising (row₀ : List ℕ) (place y : ℕ) (row : List ℕ) (i : ℕ) : Type 0 where
   pub same : length row ≡ length row₀
-  pub state : take i row ++ entered carried (drop i row) ≡ entered x row₀
+  pub state : take i row ++ raised y (drop i row) ≡ take place row₀ ++ raised y (drop place row₀)
 
-module _ (row₀ : List ℕ) (x : ℕ) where
-  pub entering-start : Entering row₀ x row₀ x 0
-  entering-start = record { same = refl; state = refl }
+module _ (row₀ : List ℕ) (place y : ℕ) where
+  pub raising-start : Raising row₀ place y row₀ place
+  raising-start = record { same = refl; state = refl }
 
-  module _ {row : List ℕ} {carried i : ℕ} (e : Entering row₀ x row carried i) where
-    pub entering-end : length row ≤ i → row ≡ entered x row₀
-    unfolding entered
-    entering-end l = all-done (entered carried) refl row (entered x row₀) i l (e .state)
-
-    module _ (l : i < length row) where
-      pub entering-done : carried ≡ NONE → row ≡ entered x row₀
-      unfolding entered
-      entering-done none = sym (take-append-drop i row) ∙ (rw (left row i l, eq-eqb carried NONE none, ← left row i l) at (e .state))
-
-      module _ (some : carried ≡ NONE → ⊥) where
-        pub entering-smaller : carried < at row i → Entering row₀ x (set row i carried) (at row i) (i + 1)
-        unfolding entered
-        entering-smaller less =
-            record {
-              same = length-set row i carried ∙ e .same;
-              state = rw (left-set row i l carried) (is-set row i l carried (entered (at row i) (drop (i + 1) row)) ∙ (rw (left row i l, ne-eqb carried NONE some, lt-ltb carried (at row i) less) at (e .state)));
-            }
-
-        pub entering-larger : at row i ≤ carried → Entering row₀ x row carried (i + 1)
-        unfolding entered
-        entering-larger more =
-            record {
-              same = e .same;
-              state = stays row i l (entered carried (drop (i + 1) row)) ∙ (rw (left row i l, ne-eqb carried NONE some, le-ltb carried (at row i) more) at (e .state));
-            }
-
--- those from a place on have moved up, as far as place i
-pub record MovingUp (row₀ : List ℕ) (place : ℕ) (row : List ℕ) (i : ℕ) : Type 0 where
-  pub same : length row ≡ length row₀
-  pub state : take i row ++ movedUp (drop i row) ≡ take place row₀ ++ movedUp (drop place row₀)
-
-module _ (row₀ : List ℕ) (place : ℕ) where
-  pub moving-start : MovingUp row₀ place row₀ place
-  moving-start = record { same = refl; state = refl }
-
-  module _ {row : List ℕ} {i : ℕ} (m : MovingUp row₀ place row i) where
-    pub moving-end : length row ≤ i → row ≡ take place row₀ ++ movedUp (drop place row₀)
-    unfolding movedUp
-    moving-end l = all-done movedUp refl row (take place row₀ ++ movedUp (drop place row₀)) i l (m .state)
+  module _ {row : List ℕ} {i : ℕ} (m : Raising row₀ place y row i) where
+    pub raising-end : length row ≤ i → row ≡ take place row₀ ++ raised y (drop place row₀)
+    unfolding raised
+    raising-end l = all-done (raised y) refl row (take place row₀ ++ raised y (drop place row₀)) i l (m .state)
 
     module _ (l : i < length row) {next : ℕ} (is : next ≡ getD row (i + 1) NONE) where
       -- the one behind place i
       first : getD (drop (i + 1) row) 0 NONE ≡ next
       first = getD-drop (i + 1) row 0 NONE ∙ rw add-zero (sym is)
 
-      pub moving-done : next ≡ NONE → set row i next ≡ take place row₀ ++ movedUp (drop place row₀)
-      unfolding movedUp
-      moving-done none = sym (take-append-drop (i + 1) (set row i next)) ∙ rw (left-set row i l next) (is-set row i l next (drop (i + 1) row) ∙ (rw (left row i l, first, eq-eqb next NONE none, ← none) at (m .state)))
+      pub raising-done : y ≤ next → set row i y ≡ take place row₀ ++ raised y (drop place row₀)
+      unfolding raised
+      raising-done larger = sym (take-append-drop (i + 1) (set row i y)) ∙ rw (left-set row i l y) (is-set row i l y (drop (i + 1) row) ∙ (rw (left row i l, first, le-ltb next y larger) at (m .state)))
 
-      pub moving-turn : (next ≡ NONE → ⊥) → MovingUp row₀ place (set row i next) (i + 1)
-      unfolding movedUp
-      moving-turn some =
+      pub raising-turn : next < y → Raising row₀ place y (set row i next) (i + 1)
+      unfolding raised
+      raising-turn smaller =
           record {
             same = length-set row i next ∙ m .same;
-            state = rw (left-set row i l next) (is-set row i l next (movedUp (drop (i + 1) row)) ∙ (rw (left row i l, first, ne-eqb next NONE some) at (m .state)));
+            state = rw (left-set row i l next) (is-set row i l next (raised y (drop (i + 1) row)) ∙ (rw (left row i l, first, lt-ltb next y smaller) at (m .state)));
           }
 
--- x stands in none of the places before i
-pub record Leaving (row₀ : List ℕ) (x : ℕ) (row : List ℕ) (i : ℕ) : Type 0 where
+-- y has taken a place, and from there on each has moved on by one, as far as place i, which carried takes next
+pub record Pushing (row₀ : List ℕ) (place x y : ℕ) (row : List ℕ) (carried i : ℕ) : Type 0 where
   pub same : length row ≡ length row₀
-  pub state : take i row ++ without x (drop i row) ≡ without x row₀
+  pub state : take i row ++ pushed x carried (drop i row) ≡ take place row₀ ++ pushed x y (drop place row₀)
 
-module _ (row₀ : List ℕ) (x : ℕ) where
-  pub leaving-start : Leaving row₀ x row₀ 0
-  leaving-start = record { same = refl; state = refl }
+module _ (row₀ : List ℕ) (place x y : ℕ) where
+  pub pushing-start : Pushing row₀ place x y row₀ y place
+  pushing-start = record { same = refl; state = refl }
 
-  module _ {row : List ℕ} {i : ℕ} (v : Leaving row₀ x row i) where
-    pub leaving-end : length row ≤ i → row ≡ without x row₀
-    unfolding without
-    leaving-end l = all-done (without x) refl row (without x row₀) i l (v .state)
+  module _ {row : List ℕ} {carried i : ℕ} (m : Pushing row₀ place x y row carried i) where
+    pub pushing-end : length row ≤ i → row ≡ take place row₀ ++ pushed x y (drop place row₀)
+    unfolding pushed
+    pushing-end l = all-done (pushed x carried) refl row (take place row₀ ++ pushed x y (drop place row₀)) i l (m .state)
 
     module _ (l : i < length row) where
-      pub leaving-here : at row i ≡ x → {row' : List ℕ} → row' ≡ take i row ++ movedUp (drop i row) → row' ≡ without x row₀
-      unfolding without
-      leaving-here here e = e ∙ rw (left row i l) (rw (left row i l, eq-eqb (at row i) x here) at (v .state))
+      pub pushing-done : at row i ≡ x → set row i carried ≡ take place row₀ ++ pushed x y (drop place row₀)
+      unfolding pushed
+      pushing-done here =
+          sym (take-append-drop (i + 1) (set row i carried)) ∙ rw (left-set row i l carried) (is-set row i l carried (drop (i + 1) row) ∙ (rw (left row i l, eq-eqb (at row i) x here) at (m .state)))
 
-      pub leaving-turn : (at row i ≡ x → ⊥) → Leaving row₀ x row (i + 1)
-      unfolding without
-      leaving-turn other = record { same = v .same; state = stays row i l (without x (drop (i + 1) row)) ∙ (rw (left row i l, ne-eqb (at row i) x other) at (v .state)) }
+      pub pushing-turn : (at row i ≡ x → ⊥) → Pushing row₀ place x y (set row i carried) (at row i) (i + 1)
+      unfolding pushed
+      pushing-turn other =
+          record {
+            same = length-set row i carried ∙ m .same;
+            state = rw (left-set row i l carried) (is-set row i l carried (pushed x (at row i) (drop (i + 1) row)) ∙ (rw (left row i l, ne-eqb (at row i) x other) at (m .state)));
+          }
+
+-- none of those before place i is x, and all are smaller than y
+pub record Exchanging (row₀ : List ℕ) (x y : ℕ) (row : List ℕ) (i : ℕ) : Type 0 where
+  pub same : length row ≡ length row₀
+  pub state : take i row ++ exchanged x y (drop i row) ≡ exchanged x y row₀
+
+module _ (row₀ : List ℕ) (x y : ℕ) where
+  pub exchanging-start : Exchanging row₀ x y row₀ 0
+  exchanging-start = record { same = refl; state = refl }
+
+  module _ {row : List ℕ} {i : ℕ} (v : Exchanging row₀ x y row i) where
+    pub exchanging-end : length row ≤ i → row ≡ exchanged x y row₀
+    unfolding exchanged
+    exchanging-end l = all-done (exchanged x y) refl row (exchanged x y row₀) i l (v .state)
+
+    module _ (l : i < length row) where
+      pub exchanging-here : at row i ≡ x → {row' : List ℕ} → row' ≡ take i row ++ raised y (drop i row) → row' ≡ exchanged x y row₀
+      unfolding exchanged
+      exchanging-here here e = e ∙ rw (left row i l) (rw (left row i l, eq-eqb (at row i) x here) at (v .state))
+
+      module _ (other : at row i ≡ x → ⊥) where
+        pub exchanging-before : y ≤ at row i → {row' : List ℕ} → row' ≡ take i row ++ pushed x y (drop i row) → row' ≡ exchanged x y row₀
+        unfolding exchanged
+        exchanging-before larger e = e ∙ rw (left row i l) (rw (left row i l, ne-eqb (at row i) x other, le-ltb (at row i) y larger) at (v .state))
+
+        pub exchanging-turn : at row i < y → Exchanging row₀ x y row (i + 1)
+        unfolding exchanged
+        exchanging-turn smaller =
+            record {
+              same = v .same;
+              state = stays row i l (exchanged x y (drop (i + 1) row)) ∙ (rw (left row i l, ne-eqb (at row i) x other, lt-ltb (at row i) y smaller) at (v .state));
+            }
 
 -- the rows of which one is changed
-module _ (x u : ℕ) (rows : List (List ℕ)) where
-  pub left-row : {row : List ℕ} → row ≡ without x (rowAt rows u) → set rows u row ≡ leftRow x u rows
-  unfolding leftRow
-  left-row e = rw e
+module _ (x y u : ℕ) (rows : List (List ℕ)) where
+  pub exchanged-row : {row : List ℕ} → row ≡ exchanged x y (rowAt rows u) → set rows u row ≡ exchangedRow x y u rows
+  unfolding exchangedRow
+  exchanged-row e = rw e
 
-  pub left-none : length rows ≤ u → rows ≡ leftRow x u rows
-  unfolding leftRow
-  left-none l = sym (set-out rows u (without x (rowAt rows u)) l)
+  pub exchanged-none : length rows ≤ u → rows ≡ exchangedRow x y u rows
+  unfolding exchangedRow
+  exchanged-none l = sym (set-out rows u (exchanged x y (rowAt rows u)) l)
 
-  pub joined-row : {row : List ℕ} → row ≡ entered x (rowAt rows u) → set rows u row ≡ joinedRow x u rows
-  unfolding joinedRow
-  joined-row e = rw e
-
-  pub joined-none : length rows ≤ u → rows ≡ joinedRow x u rows
-  unfolding joinedRow
-  joined-none l = sym (set-out rows u (entered x (rowAt rows u)) l)
-
-pub moved-rows : (x old u : ℕ) (rows : List (List ℕ)) {rows₁ rows₂ : List (List ℕ)} → rows₁ ≡ leftRow x old rows → rows₂ ≡ joinedRow x u rows₁ → rows₂ ≡ movedRows x old u rows
-moved-rows x old u rows e f = f ∙ ap (joinedRow x u) e
+pub moved-rows : (x old u : ℕ) (rows : List (List ℕ)) {rows₁ rows₂ : List (List ℕ)} → rows₁ ≡ exchangedRow x NONE old rows → rows₂ ≡ exchangedRow NONE x u rows₁ → rows₂ ≡ movedRows x old u rows
+moved-rows x old u rows e f = f ∙ ap (exchangedRow NONE x u) e
 
 -- u takes x
 pub takes : {x u old : ℕ} {hs hs' : List ℕ} {rows rows' : List (List ℕ)} → old ≡ at hs x → hs' ≡ set hs x u → rows' ≡ movedRows x old u rows → Taken x u hs hs' rows rows' old

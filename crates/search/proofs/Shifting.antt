@@ -134,7 +134,7 @@ module _ (n : ℕ) (ls : List ℕ) (v : ℕ) (from : List ℕ) (inside : v < n) 
       (off-kept hs x u (suc k) c y k (at from (at hs x)) (omega arith) (c .4) (o .1)) ∙ getD-set-other hs x y u 0 (λ q. o .0 (sym q)))
 
   -- a gateway that was seen from x does not hold x: else the chain from x came back to x
-  not-its-holder : (hs : List ℕ) (k u x : ℕ) → u < n → held n (at hs) v ≡ false → at from u ≡ x → Chain hs k x → at hs x ≡ u → ⊥
+  pub not-its-holder : (hs : List ℕ) (k u x : ℕ) → u < n → held n (at hs) v ≡ false → at from u ≡ x → Chain hs k x → at hs x ≡ u → ⊥
   unfolding Chain
   not-its-holder hs zero u x below free seer c q = clash (held n (at hs) v) (lt-ltb (at hs v) n (rw (← c, q) below)) free
   not-its-holder hs (suc k) u x below free seer c q = let same : suc k ≡ k = chain-unique hs (suc k) k x (unfold Chain in c) (rw (q, seer) at (c .4)) in omega arith

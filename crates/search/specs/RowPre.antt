@@ -15,32 +15,28 @@ pub record RowsOf (n : ℕ) (hs : List ℕ) (rows : List (List ℕ)) : Type 0 wh
   pub wide : n ≤ length rows
   pub is : rows ≡ take (length rows) (heldTable n hs)
 
--- x joins a row in its place, ascending: at each place the smaller number stays and the larger goes on. The last one falls out; where 65535 goes on, nothing more changes.
-unfoldable pub entered : ℕ → List ℕ → List ℕ
-entered x [] = []
-entered x (a ∷ row) = cond (eqb x NONE) (a ∷ row) (cond (ltb x a) (x ∷ entered a row) (a ∷ entered x row))
+-- The first place of a row is free for y: those behind it that are smaller move up, and y takes the place behind them. Where y is 65535, all move up, as far as anybody stands there.
+unfoldable pub raised : ℕ → List ℕ → List ℕ
+raised y [] = []
+raised y (a ∷ row) = cond (ltb (getD row 0 NONE) y) (getD row 0 NONE ∷ raised y row) (y ∷ row)
 
--- a row without its first: those behind it move up, as far as anybody stands there, and 65535 takes the place of the last
-unfoldable pub movedUp : List ℕ → List ℕ
-movedUp [] = []
-movedUp (a ∷ row) = cond (eqb (getD row 0 NONE) NONE) (NONE ∷ row) (getD row 0 NONE ∷ movedUp row)
+-- y takes the first place of a row, and each moves on by one, up to the place of x; where x does not stand there, the last falls out
+unfoldable pub pushed : ℕ → ℕ → List ℕ → List ℕ
+pushed x y [] = []
+pushed x y (a ∷ row) = y ∷ cond (eqb a x) row (pushed x a row)
 
--- a row that x leaves; as it is where x does not stand in it
-unfoldable pub without : ℕ → List ℕ → List ℕ
-without x [] = []
-without x (a ∷ row) = cond (eqb a x) (movedUp (a ∷ row)) (a ∷ without x row)
+-- A row that x leaves and y joins, ascending: nothing moves but what stands between the two. Where y is 65535, x leaves and nobody joins; where x is, y joins and takes the first place that is free.
+unfoldable pub exchanged : ℕ → ℕ → List ℕ → List ℕ
+exchanged x y [] = []
+exchanged x y (a ∷ row) = cond (eqb a x) (raised y (a ∷ row)) (cond (ltb a y) (a ∷ exchanged x y row) (pushed x y (a ∷ row)))
 
--- the rows once x leaves that of u, ..
-unfoldable pub leftRow : ℕ → ℕ → List (List ℕ) → List (List ℕ)
-leftRow x u rows = set rows u (without x (rowAt rows u))
-
--- .. and once it joins that of u; a number past the rows has none
-unfoldable pub joinedRow : ℕ → ℕ → List (List ℕ) → List (List ℕ)
-joinedRow x u rows = set rows u (entered x (rowAt rows u))
+-- the rows once x leaves that of u and y joins it; a number past the rows has none
+unfoldable pub exchangedRow : ℕ → ℕ → ℕ → List (List ℕ) → List (List ℕ)
+exchangedRow x y u rows = set rows u (exchanged x y (rowAt rows u))
 
 -- the rows once x is held by u and no more by its old holder
 abbrev pub movedRows : ℕ → ℕ → ℕ → List (List ℕ) → List (List ℕ)
-movedRows x old u rows = joinedRow x u (leftRow x old rows)
+movedRows x old u rows = exchangedRow NONE x u (exchangedRow x NONE old rows)
 
 -- the holders and the rows once u takes x, whose old holder was r
 pub record Taken (x u : ℕ) (hs hs' : List ℕ) (rows rows' : List (List ℕ)) (r : ℕ) : Type 0 where
@@ -48,11 +44,17 @@ pub record Taken (x u : ℕ) (hs hs' : List ℕ) (rows rows' : List (List ℕ)) 
   pub holders : hs' ≡ set hs x u
   pub table : rows' ≡ movedRows x (at hs x) u rows
 
--- In each round of a shift a gateway is taken, and its old holder holds no more than a row has places: so the row says all that the old holder holds.
+-- .. where u, in the same pass over its row, lets another go
+pub record TakenFor (x gone u : ℕ) (hs hs' : List ℕ) (rows rows' : List (List ℕ)) (r : ℕ) : Type 0 where
+  pub old : r ≡ at hs x
+  pub holders : hs' ≡ set hs x u
+  pub table : rows' ≡ exchangedRow gone x u rows
+
+-- In each round of a shift a gateway is taken, and its old holder is not the taker and holds no more than a row has places: so the row says all that the old holder holds.
 unfoldable pub RowsFit : (fuel n v : ℕ) (from : List ℕ) (u x : ℕ) (hs : List ℕ) → Type 0
 RowsFit zero n v from u x hs = Unit {0}
 RowsFit (suc fuel) n v from u x hs =
-    (x < n) × (at hs x < GATEWAYS → holds n (at hs) (at hs x) ≤ HIGHEST) × ((x ≡ v → ⊥) → RowsFit fuel n v from (at hs x) (at from (at hs x)) (set hs x u))
+    (x < n) × (at hs x < GATEWAYS → holds n (at hs) (at hs x) ≤ HIGHEST) × (at hs x ≡ u → ⊥) × ((x ≡ v → ⊥) → RowsFit fuel n v from (at hs x) (at from (at hs x)) (set hs x u))
 
 -- a shift with such rounds leaves the rows of the holders after it, where they were those of the holders before it
 unfoldable pub RowsKept : (n v : ℕ) (from : List ℕ) (u x : ℕ) (hs : List ℕ) (rows rows' : List (List ℕ)) → Type 0

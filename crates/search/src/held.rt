@@ -5,7 +5,7 @@ ghost use lib.ListN.{getD, replicate, take, drop};
 ghost use Rattle.packing.specs.Plant.{GATEWAYS, HIGHEST, NONE};
 ghost use Rattle.search.specs.Table.{heldTable};
 ghost use Rattle.search.specs.Pre.{Joinable, Joined, rowHasPlace};
-ghost use Rattle.search.specs.RowPre.{entered, movedUp, without, leftRow, joinedRow, movedRows};
+ghost use Rattle.search.specs.RowPre.{raised, pushed, exchanged, exchangedRow, movedRows};
 
 // The places of a row: as many as the highest limit.
 pub const ROW: usize = 16;
@@ -92,76 +92,71 @@ fn number(row: &[u16], i: usize) -> u16
     row[i]
 }
 
-// x joins a row in its place: at each place the smaller number stays and the larger goes on.
-fn enter(row: &mut [u16], x: u16)
-    ensures { λ _. ⌜ now (row .exit) ≡ entered x (now (row .entry)) ⌝ }
-{
-    let mut carried = x;
-    let mut i: usize = 0;
-    while i < row.len() {
-        if carried == lists::NONE {
-            return;
-        }
-        let here = row[i];
-        if carried < here {
-            row[i] = carried;
-            carried = here;
-        }
-        i += 1;
-    }
-}
-
-// Those behind a place move up, as far as anybody stands there.
-fn move_up(row: &mut [u16], place: usize)
-    ensures { λ _. ⌜ now (row .exit) ≡ take place (now (row .entry)) ++ movedUp (drop place (now (row .entry))) ⌝ }
+// From a place that is free for y on, those that are smaller move up, and y takes the place behind them.
+fn raise(row: &mut [u16], place: usize, y: u16)
+    ensures { λ _. ⌜ now (row .exit) ≡ take place (now (row .entry)) ++ raised y (drop place (now (row .entry))) ⌝ }
 {
     let mut i = place;
     while i < row.len() {
-        let next = number(row, i + 1);
-        row[i] = next;
-        if next == lists::NONE {
+        let behind = number(row, i + 1);
+        if y <= behind {
+            row[i] = y;
             return;
         }
+        row[i] = behind;
         i += 1;
     }
 }
 
-// x leaves a row, if it stands in it.
-fn leave(row: &mut [u16], x: u16)
-    ensures { λ _. ⌜ now (row .exit) ≡ without x (now (row .entry)) ⌝ }
+// y takes a place, and each from there on moves on by one, up to the place of x.
+fn push(row: &mut [u16], place: usize, x: u16, y: u16)
+    ensures { λ _. ⌜ now (row .exit) ≡ take place (now (row .entry)) ++ pushed x y (drop place (now (row .entry))) ⌝ }
+{
+    let mut carried = y;
+    let mut i = place;
+    while i < row.len() {
+        let here = row[i];
+        row[i] = carried;
+        if here == x {
+            return;
+        }
+        carried = here;
+        i += 1;
+    }
+}
+
+// x leaves a row and y joins it, in one pass: a shift does both to each row that it comes to but the last.
+fn exchange(row: &mut [u16], x: u16, y: u16)
+    ensures { λ _. ⌜ now (row .exit) ≡ exchanged x y (now (row .entry)) ⌝ }
 {
     let mut i: usize = 0;
     while i < row.len() {
-        if row[i] == x {
-            move_up(row, i);
+        let here = row[i];
+        if here == x {
+            raise(row, i, y);
+            return;
+        }
+        if y <= here {
+            push(row, i, x, y);
             return;
         }
         i += 1;
     }
 }
 
-// x leaves the row of u.
-fn leave_row(rows: &mut [Row], x: u16, u: u16)
-    ensures { λ _. ⌜ now (rows .exit) ≡ leftRow x u (now (rows .entry)) ⌝ }
+// x leaves the row of u and y joins it; 65535 for nobody. A number past the rows has none.
+pub(crate) fn exchange_row(rows: &mut [Row], u: u16, x: u16, y: u16)
+    ensures { λ _. ⌜ now (rows .exit) ≡ exchangedRow x y u (now (rows .entry)) ⌝ }
 {
     if (u as usize) < rows.len() {
-        leave(&mut rows[u as usize], x);
+        exchange(&mut rows[u as usize], x, y);
     }
 }
 
-// x joins the row of u.
-fn join_row(rows: &mut [Row], x: u16, u: u16)
-    ensures { λ _. ⌜ now (rows .exit) ≡ joinedRow x u (now (rows .entry)) ⌝ }
-{
-    if (u as usize) < rows.len() {
-        enter(&mut rows[u as usize], x);
-    }
-}
-
-// x is held by u, and no more by its old holder. A number past the rows has none.
+// x is held by u, and no more by its old holder.
 pub(crate) fn move_row(rows: &mut [Row], x: u16, old: u16, u: u16)
     ensures { λ _. ⌜ now (rows .exit) ≡ movedRows x old u (now (rows .entry)) ⌝ }
 {
-    leave_row(rows, x, old);
-    join_row(rows, x, u);
+    exchange_row(rows, old, x, lists::NONE);
+    exchange_row(rows, u, lists::NONE, x);
 }

@@ -6,31 +6,35 @@ use Rattle.search.proofs.shift.shift_back.Statement.{statement}
 use Rattle.search.proofs.shift.shift_back.Tie as tie
 
 abbrev Inv-loop : tie.InvT-loop
-Inv-loop n v u x from rows₀ holders₀ taker₀ taken₀ k₀ rows holders taker taken k = RowRounds n v u x from holders₀ rows₀ holders rows taker taken k
+Inv-loop n v u x from rows₀ holders₀ taker₀ taken₀ gone₀ k₀ rows holders taker taken gone k = RowRounds n v u x from holders₀ rows₀ holders rows taker taken gone k
 
 abbrev μ-loop : tie.MeasureT-loop
-μ-loop n v u x from rows₀ holders₀ taker₀ taken₀ k₀ rows holders taker taken k = n - k
+μ-loop n v u x from rows₀ holders₀ taker₀ taken₀ gone₀ k₀ rows holders taker taken gone k = n - k
 
 loop-holds : tie.Need-loop-holds Inv-loop μ-loop
 loop-holds c = row-rounds-start _ _ _ _ _ _ _
 
-take-requires : tie.Need-take-requires Inv-loop μ-loop
-take-requires c κs = search needs
+take-for-requires : tie.Need-take-for-requires Inv-loop μ-loop
+take-for-requires c κs = search needs
+
+exchange-row-requires : tie.Need-exchange-row-requires Inv-loop μ-loop
+exchange-row-requires c κs = search needs
 
 add-result : tie.Need-add-result Inv-loop μ-loop
 add-result c = search needs
 
 same-length : tie.Need-same-length Inv-loop μ-loop
-same-length c = let called = c .before .before .before .before in
-    called .take .kept .1 .1 .0 ∙ called .before .before .before .before .loop .inv .wide
+same-length c = search needs
 
 same-length-2 : tie.Need-same-length-2 Inv-loop μ-loop
 same-length-2 c = search needs
 
 returns : tie.Need-returns Inv-loop μ-loop
-returns c = let called = c .before .before .before .before in
+returns c = let left = c .before in
+    let done = left .before .before in
+    let called = done .before .before .before .before in
     let turn = called .before .before .before in
-    row-rounds-done _ _ _ _ _ _ _ (turn .before .loop .inv) (turn .loop-test .taken) (called .take .ensures) (c .if1 .taken)
+    row-rounds-done _ _ _ _ _ _ _ (turn .before .loop .inv) (turn .loop-test .taken) (called .take-for .ensures) (done .if1 .taken) (left .exchange-row .ensures)
 
 entry-requires : tie.Need-entry-requires Inv-loop μ-loop
 entry-requires c κs = search needs
@@ -44,16 +48,21 @@ loop-less c = search needs
 loop-again : tie.Need-loop-again Inv-loop μ-loop
 loop-again c = let called = c .before .before .before .before .before in
     let turn = called .before .before .before in
-    row-rounds-turn _ _ _ _ _ _ _ (turn .before .loop .inv) (turn .loop-test .taken) (called .take .ensures) (called .take .kept .1 .1 .0) (c .before .if1 .left) (c .entry .ensures)
+    row-rounds-turn _ _ _ _ _ _ _ (turn .before .loop .inv) (turn .loop-test .taken) (called .take-for .ensures) (called .take-for .kept .1 .1 .1 .0) (c .before .if1 .left) (c .entry .ensures)
+
+exchange-row-requires-2 : tie.Need-exchange-row-requires-2 Inv-loop μ-loop
+exchange-row-requires-2 c κs = search needs
 
 same-length-3 : tie.Need-same-length-3 Inv-loop μ-loop
-same-length-3 c = c .before .loop .inv .wide
+same-length-3 c = search needs
 
 same-length-4 : tie.Need-same-length-4 Inv-loop μ-loop
 same-length-4 c = search needs
 
 returns-2 : tie.Need-returns-2 Inv-loop μ-loop
-returns-2 c = row-rounds-end _ _ _ _ _ _ _ (c .before .loop .inv) (c .loop-test .left)
+returns-2 c = let left = c .before in
+    let out = left .before .before in
+    row-rounds-end _ _ _ _ _ _ _ (out .before .loop .inv) (out .loop-test .left) (left .exchange-row2 .ensures)
 
 pub shift-back-spec : {M : Type 1} → statement M
 shift-back-spec =
@@ -62,7 +71,8 @@ shift-back-spec =
     Inv-loop
     μ-loop
     loop-holds
-    take-requires
+    take-for-requires
+    exchange-row-requires
     add-result
     same-length
     same-length-2
@@ -71,6 +81,7 @@ shift-back-spec =
     add-k
     loop-less
     loop-again
+    exchange-row-requires-2
     same-length-3
     same-length-4
     returns-2)

@@ -1,18 +1,18 @@
 use borrow.Author.Needs.{needs}
 use Prim.Native.Nat.{_-_}
 use lib.ListN.{length}
-use Rattle.search.proofs.RowSteps.{MovingUp, moving-start, moving-done, moving-turn, moving-end}
-use Rattle.search.proofs.held.move_up.Statement.{statement}
-use Rattle.search.proofs.held.move_up.Tie as tie
+use Rattle.search.proofs.RowSteps.{Raising, raising-start, raising-done, raising-turn, raising-end}
+use Rattle.search.proofs.held.raise.Statement.{statement}
+use Rattle.search.proofs.held.raise.Tie as tie
 
 abbrev Inv-loop : tie.InvT-loop
-Inv-loop row₀ place i₀ row i = MovingUp row₀ place row i
+Inv-loop row₀ place y i₀ row i = Raising row₀ place y row i
 
 abbrev μ-loop : tie.MeasureT-loop
-μ-loop row₀ place i₀ row i = length row₀ - i
+μ-loop row₀ place y i₀ row i = length row₀ - i
 
 loop-holds : tie.Need-loop-holds Inv-loop μ-loop
-loop-holds c = moving-start _ _
+loop-holds c = raising-start _ _ _
 
 add-number : tie.Need-add-number Inv-loop μ-loop
 add-number c = search needs
@@ -32,7 +32,13 @@ same-length c = search needs
 returns : tie.Need-returns Inv-loop μ-loop
 returns c = let number = c .before in
     let turn = number .before .before in
-    moving-done _ _ (turn .before .loop .inv) (turn .loop-test .taken) (number .number .ensures) (c .if1 .taken)
+    raising-done _ _ _ (turn .before .loop .inv) (turn .loop-test .taken) (number .number .ensures) (c .if1 .taken)
+
+mul-row-2 : tie.Need-mul-row-2 Inv-loop μ-loop
+mul-row-2 c = search needs
+
+slice-write-row-2 : tie.Need-slice-write-row-2 Inv-loop μ-loop
+slice-write-row-2 c = search needs
 
 add-i : tie.Need-add-i Inv-loop μ-loop
 add-i c = search needs
@@ -43,16 +49,16 @@ loop-less c = search needs
 loop-again : tie.Need-loop-again Inv-loop μ-loop
 loop-again c = let number = c .before in
     let turn = number .before .before in
-    moving-turn _ _ (turn .before .loop .inv) (turn .loop-test .taken) (number .number .ensures) (c .if1 .left)
+    raising-turn _ _ _ (turn .before .loop .inv) (turn .loop-test .taken) (number .number .ensures) (c .if1 .left)
 
 same-length-2 : tie.Need-same-length-2 Inv-loop μ-loop
 same-length-2 c = search needs
 
 returns-2 : tie.Need-returns-2 Inv-loop μ-loop
-returns-2 c = moving-end _ _ (c .before .loop .inv) (c .loop-test .left)
+returns-2 c = raising-end _ _ _ (c .before .loop .inv) (c .loop-test .left)
 
-pub move-up-spec : {M : Type 1} → statement M
-move-up-spec =
+pub raise-spec : {M : Type 1} → statement M
+raise-spec =
     tie.close
     (tie.spec
     Inv-loop
@@ -64,6 +70,8 @@ move-up-spec =
     slice-write-row
     same-length
     returns
+    mul-row-2
+    slice-write-row-2
     add-i
     loop-less
     loop-again
