@@ -70,7 +70,6 @@ module _ (ls : List ℕ) (x : ℕ) where
 pub built-whole : (ls : List ℕ) (m : ℕ) {next last : List ℕ} → Built ls m next last → length ls ≤ 2 * m + 1 → Index ls next
 built-whole ls m {next} b q =
     record {
-      places = omega (arith, b .room);
       room = b .room;
       few = b .few;
       first = λ x h. next-is ls x m 0 _ (b .within) q long (omega arith) (b .hung .chain x (rootOf (length next) x) 0 h (inl (refl, refl)));

@@ -36,7 +36,6 @@ pub record NextEnd (ls : List ℕ) (x i e : ℕ) : Type 0 where
 
 -- next is the index of the links ls
 pub record Index (ls next : List ℕ) : Type 0 where
-  pub places : GATEWAYS ≤ length next
   pub room : length ls + GATEWAYS ≤ length next
   pub few : length next ≤ SLOTS
   pub first : (x : ℕ) → x < GATEWAYS → NextEnd ls x 0 (at next (rootOf (length next) x))

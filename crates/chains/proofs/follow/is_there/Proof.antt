@@ -12,7 +12,7 @@ abbrev μ-loop : tie.MeasureT-loop
 μ-loop links next x y e₀ e = NONE - e
 
 first-end-requires : tie.Need-first-end-requires Inv-loop μ-loop
-first-end-requires c κs = (c .before .before .pre .0 .places, c .before .before .pre .1)
+first-end-requires c κs = (omega (arith, c .before .before .pre .0 .room), c .before .before .pre .1)
 
 loop-holds : tie.Need-loop-holds Inv-loop μ-loop
 loop-holds c = let asked = c .before .before .before .pre in

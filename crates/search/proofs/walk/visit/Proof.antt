@@ -1,6 +1,7 @@
 use borrow.Author.Needs.{needs}
 use Prim.Native.Nat.{_-_}
 use mathlib.Core.Path.{refl}
+use native.Mathlib.Omega.{arith}
 use Rattle.packing.specs.Plant.{NONE, at}
 use Rattle.search.proofs.Noting.{NotesSo, notes-same, notes-then, notes-on}
 use Rattle.search.proofs.Looks.{Visiting, ready-below, visit-start, visit-ready, visit-places, visit-turn, visit-ends, visit-out}
@@ -15,7 +16,7 @@ abbrev μ-loop : tie.MeasureT-loop
 
 first-end-requires : tie.Need-first-end-requires Inv-loop μ-loop
 first-end-requires c κs = let start = c .before .before .before .before .before .before in
-    (start .pre .0 .places, ready-below (start .pre .1))
+    (omega (arith, start .pre .0 .room), ready-below (start .pre .1))
 
 loop-holds : tie.Need-loop-holds Inv-loop μ-loop
 loop-holds c = let start = c .before .before .before .before .before .before .before in
