@@ -13,7 +13,7 @@ fn is_there(links: &[u16], next: &[u16], x: u16, y: u16) -> bool
 {
     let mut e = crate::first_end(next, x);
     while e != lists::NONE {
-        if crate::across(links, e) == y {
+        if crate::neighbour_at(links, e) == y {
             return true;
         }
         e = crate::next_end(next, e);
