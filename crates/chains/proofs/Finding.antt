@@ -11,7 +11,7 @@ use borrow.Author.Tests.{eq-eqb, ne-eqb}
 use Rattle.packing.specs.Plant.{NONE, GATEWAYS, at, linked, neighbours}
 use Rattle.packing.specs.Lists.{memberOf}
 use Rattle.packing.proofs.Links.{neighbours-linked, linked-sym}
-use Rattle.chains.specs.Index.{rootOf, mate, Index}
+use Rattle.chains.specs.Index.{rootOf, Index}
 use Rattle.chains.proofs.Following.{Standing, chain-first, chain-next, chain-end, chain-there, chain-places}
 
 -- the loop's invariant: y is among x's neighbours by the links from the end at place e on, or x and y are not linked
@@ -26,23 +26,23 @@ module _ (ls next : List ℕ) (x y : ℕ) (d : Index ls next) (below : x < GATEW
       rw q (record { rest = ap (λ (l : List ℕ). memberOf l y) (sym rest) ∙ neighbours-linked ls x y; stands = stands })
 
   module _ {e : ℕ} (s : Sought ls x y e) (there : e ≡ NONE → ⊥) where
-    pub sought-places : (mate e < length ls) × (e < length next)
+    pub sought-places : (e < length ls) × (e < length next)
     sought-places = chain-places d below (s .stands) there
 
-    next-one : (neighbours (drop (2 * (e / 2)) ls) x ≡ at ls (mate e) ∷ neighbours (drop (2 * (at next e / 2)) ls) x) × Standing ls x (at next e) × (e < at next e)
+    next-one : (neighbours (drop (2 * (e / 2)) ls) x ≡ at ls e ∷ neighbours (drop (2 * (at next e / 2)) ls) x) × Standing ls x (at next e) × (e < at next e)
     next-one = chain-next d below (chain-there d below (s .stands) there)
 
-    -- the other end, or one of those after it
-    here : (eqb (at ls (mate e)) y || memberOf (neighbours (drop (2 * (at next e / 2)) ls) x) y) ≡ linked ls x y
+    -- the neighbour there, or one of those after it
+    here : (eqb (at ls e) y || memberOf (neighbours (drop (2 * (at next e / 2)) ls) x) y) ≡ linked ls x y
     unfolding memberOf
     here = ap (λ (l : List ℕ). memberOf l y) (sym (next-one .0)) ∙ s .rest
 
-    pub sought-found : {z : ℕ} → z ≡ at ls (mate e) → z ≡ y → true ≡ linked ls x y
-    sought-found q f = rw (eq-eqb (at ls (mate e)) y (sym q ∙ f)) at here
+    pub sought-found : {z : ℕ} → z ≡ at ls e → z ≡ y → true ≡ linked ls x y
+    sought-found q f = rw (eq-eqb (at ls e) y (sym q ∙ f)) at here
 
-    module _ {z j : ℕ} (q : z ≡ at ls (mate e)) (f : z ≡ y → ⊥) (on : j ≡ at next e) where
+    module _ {z j : ℕ} (q : z ≡ at ls e) (f : z ≡ y → ⊥) (on : j ≡ at next e) where
       pub sought-turn : Sought ls x y j
-      sought-turn = rw on (record { rest = rw (ne-eqb (at ls (mate e)) y (λ r. f (q ∙ r))) at here; stands = next-one .1 })
+      sought-turn = rw on (record { rest = rw (ne-eqb (at ls e) y (λ r. f (q ∙ r))) at here; stands = next-one .1 })
 
       pub sought-less : j ≤ NONE → NONE - j < NONE - e
       sought-less few = omega (arith, next-one .2, on, few)

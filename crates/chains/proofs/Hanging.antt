@@ -1,4 +1,4 @@
--- Hanging one end more: the place that was the last of its gateway's chain gets it, and it is the last place itself.
+-- Hanging one end more: the place that was the last of the chain gets it, and it is the last place itself.
 use Prim.Native.Nat.{ℕ, _+_, _<_, _≤_}
 use mathlib.Core.Path.{_≡_, refl, sym, _∙_}
 use mathlib.Core.Logic.{_⊎_, inl, inr, ⊎-elim}
@@ -14,7 +14,7 @@ use Rattle.packing.specs.Plant.{NONE, GATEWAYS, at}
 use Rattle.packing.specs.Lists.{listOf}
 use Rattle.packing.proofs.Tests.{by-bool, below-suc}
 use Rattle.packing.proofs.Lists.{listOf-at}
-use Rattle.chains.specs.Index.{rootOf}
+use Rattle.chains.specs.Index.{rootOf, mate}
 use Rattle.chains.specs.Build.{Stands, Absent, FirstOrNone, LastPlace, Hung}
 
 -- no end is hung: each chain is its root
@@ -46,10 +46,10 @@ module _ (slots : ℕ) (ls : List ℕ) where
       by-bool (ltb s t) (λ l. absurd (none t (omega (arith, a .2, ltb-true s t l)) (b .0) (b .1)))
       (λ l. by-bool (ltb t s) (λ q. absurd (none' s (omega (arith, b .2, ltb-true t s q)) (a .0) (a .1))) (λ q. omega (arith, ltb-false s t l, ltb-false t s q)))) st') st
 
--- End e is y's; t is the last place of y's chain.
+-- End e is a far end of y; t is the last place of y's chain.
 module _
     (slots : ℕ) (ls : List ℕ) (e y t : ℕ) {next last : List ℕ} (d : Hung slots ls e next last) (few : e + GATEWAYS < slots) (places : length next ≡ slots) (gateways : length last ≡ GATEWAYS)
-    (here : at ls e ≡ y) (below : y < GATEWAYS) (there : at last y ≡ t)
+    (near : at ls (mate e) ≡ y) (below : y < GATEWAYS) (there : at last y ≡ t)
   where
     last-of : LastPlace slots ls e y t
     last-of = rw there at (d .tail y below)
@@ -64,9 +64,9 @@ module _
     other : (s : ℕ) → (s ≡ t → ⊥) → at (set next t e) s ≡ at next s
     other s n = getD-set-other next t s e 0 n
 
-    -- no end of x is added
+    -- no far end of x is added
     still : {x k : ℕ} → (y ≡ x → ⊥) → Absent ls x k e → Absent ls x k (e + 1)
-    still n a i l h q = below-suc i e (rw (add-one e) at h) (λ r. n (sym here ∙ (rw r at q))) (λ r. a i l r q)
+    still n a i l h q = below-suc i e (rw (add-one e) at h) (λ r. n (sym near ∙ (rw r at q))) (λ r. a i l r q)
 
     later : (k : ℕ) → e < k → (x : ℕ) → Absent ls x k (e + 1)
     later k l x i a b q = omega (arith, l, a, b)
@@ -77,7 +77,7 @@ module _
         rw (other s n)
         (⊎-elim
         (λ a. inl (a .0, by-bool (eqb y x) (λ q. let is : y ≡ x = eqb-true y x q in absurd (n (last-one slots ls st (a .1) (rw is at last-of)))) (λ q. still (eqb-false y x q) (a .1))))
-        (λ a. inr (record { from = a .from; below = omega (arith, a .below); here = a .here; before = a .before })) old)
+        (λ a. inr (record { from = a .from; below = omega (arith, a .below); near = a .near; before = a .before })) old)
 
     chained : (x s k : ℕ) → x < GATEWAYS → Stands slots ls (e + 1) x s k → FirstOrNone ls (e + 1) x k (at (set next t e) s)
     chained x s k h st = by-bool (eqb s t) (λ q. at-last (eqb-true s t q)) (λ q. elsewhere (eqb-false s t q) st)
@@ -87,7 +87,7 @@ module _
             let (k', st', none) = last-of in
             let (same, from) = stands-one slots ls (omega (arith, few)) (omega (arith, few)) (rw q at st) st' in
             rw (q, getD-set-same next t e 0 (rw places last-inside), same, from)
-            (inr (record { from = ⊎-elim (λ a. omega (arith, a .1)) (λ a. omega (arith, a .0, a .2)) st'; below = omega arith; here = here; before = none }))
+            (inr (record { from = ⊎-elim (λ a. omega (arith, a .1)) (λ a. omega (arith, a .0, a .2)) st'; below = omega arith; near = near; before = none }))
 
         elsewhere : (s ≡ t → ⊥) → Stands slots ls (e + 1) x s k → FirstOrNone ls (e + 1) x k (at (set next t e) s)
         elsewhere n =
@@ -99,7 +99,7 @@ module _
     tailed : (x : ℕ) → x < GATEWAYS → LastPlace slots ls (e + 1) x (at (set last y e) x)
     tailed x h =
         by-bool (eqb x y)
-        (λ q. let is : x ≡ y = eqb-true x y q in rw (is, getD-set-same last y e 0 (rw gateways below)) (e + 1, inr (omega arith, here, refl), later (e + 1) (omega arith) y))
+        (λ q. let is : x ≡ y = eqb-true x y q in rw (is, getD-set-same last y e 0 (rw gateways below)) (e + 1, inr (omega arith, near, refl), later (e + 1) (omega arith) y))
         (λ q.
         let (k, st, none) = d .tail x h in
         rw (getD-set-other last y x e 0 (eqb-false x y q)) (k, ⊎-elim inl (λ a. inr (omega (arith, a .0), a .1, a .2)) st, still (λ r. eqb-false x y q (sym r)) none))

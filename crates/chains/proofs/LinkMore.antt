@@ -13,8 +13,9 @@ use Rattle.packing.specs.Plant.{NONE, GATEWAYS, at, joins, linked}
 use Rattle.packing.specs.Lists.{listOf}
 use Rattle.packing.proofs.Tests.{below-suc, and-i, or-l, or-r}
 use Rattle.packing.proofs.Lists.{listOf-length}
-use Rattle.chains.specs.Index.{SLOTS, rootOf}
+use Rattle.chains.specs.Index.{SLOTS, rootOf, mate}
 use Rattle.chains.specs.Build.{Joining, Hung, Built, Ready, Adding}
+use Rattle.chains.proofs.Following.{mate-first, mate-second}
 use Rattle.chains.proofs.Hanging.{hung-start, last-inside, hung-more}
 use Rattle.chains.proofs.BuiltIndex.{built-same}
 
@@ -33,20 +34,26 @@ built-start ls {next} slots room few e f =
     long : length next ≡ slots
     long = ap length e ∙ length-replicate slots NONE
 
--- .. and link m more: its first end, then its second
+-- .. and link m more: the place of its first end in the chain of its second, then the other way round
 module _ (ls : List ℕ) (m : ℕ) {next last : List ℕ} (r : Ready ls m next last) where
   few : 2 * m + 1 + GATEWAYS < length next
   few = omega (arith, r .more, r .built .room)
 
-  first-hung : Hung (length next) ls (2 * m + 1) (set next (at last (at ls (2 * m))) (2 * m)) (set last (at ls (2 * m)) (2 * m))
+  near : at ls (mate (2 * m)) ≡ at ls (2 * m + 1)
+  near = ap (at ls) (mate-first m)
+
+  near' : at ls (mate (2 * m + 1)) ≡ at ls (2 * m)
+  near' = ap (at ls) (mate-second m)
+
+  first-hung : Hung (length next) ls (2 * m + 1) (set next (at last (at ls (2 * m + 1))) (2 * m)) (set last (at ls (2 * m + 1)) (2 * m))
   first-hung =
-      hung-more (length next) ls (2 * m) (at ls (2 * m)) (at last (at ls (2 * m))) (r .built .hung) (omega (arith, few)) refl (r .built .gateways) refl (r .two .first) refl
+      hung-more (length next) ls (2 * m) (at ls (2 * m + 1)) (at last (at ls (2 * m + 1))) (r .built .hung) (omega (arith, few)) refl (r .built .gateways) near (r .two .second) refl
 
-  pub first-places : (at ls (2 * m) < length last) × (at last (at ls (2 * m)) < length next)
+  pub first-places : (at ls (2 * m + 1) < length last) × (at last (at ls (2 * m + 1)) < length next)
   first-places =
-      (rw (r .built .gateways) (r .two .first), last-inside (length next) ls (2 * m) (at ls (2 * m)) (at last (at ls (2 * m))) (r .built .hung) (omega (arith, few)) refl (r .built .gateways) refl (r .two .first) refl)
+      (rw (r .built .gateways) (r .two .second), last-inside (length next) ls (2 * m) (at ls (2 * m + 1)) (at last (at ls (2 * m + 1))) (r .built .hung) (omega (arith, few)) refl (r .built .gateways) near (r .two .second) refl)
 
-  module _ {next' last' : List ℕ} (e : next' ≡ set next (at last (at ls (2 * m))) (2 * m)) (f : last' ≡ set last (at ls (2 * m)) (2 * m)) where
+  module _ {next' last' : List ℕ} (e : next' ≡ set next (at last (at ls (2 * m + 1))) (2 * m)) (f : last' ≡ set last (at ls (2 * m + 1)) (2 * m)) where
     hung' : Hung (length next) ls (2 * m + 1) next' last'
     hung' = rw (e, f) first-hung
 
@@ -56,11 +63,11 @@ module _ (ls : List ℕ) (m : ℕ) {next last : List ℕ} (r : Ready ls m next l
     gateways' : length last' ≡ GATEWAYS
     gateways' = ap length f ∙ length-set last _ (2 * m) ∙ r .built .gateways
 
-    pub second-places : (at ls (2 * m + 1) < length last') × (at last' (at ls (2 * m + 1)) < length next')
+    pub second-places : (at ls (2 * m) < length last') × (at last' (at ls (2 * m)) < length next')
     second-places =
-        (rw gateways' (r .two .second), rw places' (last-inside (length next) ls (2 * m + 1) (at ls (2 * m + 1)) (at last' (at ls (2 * m + 1))) hung' few places' gateways' refl (r .two .second) refl))
+        (rw gateways' (r .two .first), rw places' (last-inside (length next) ls (2 * m + 1) (at ls (2 * m)) (at last' (at ls (2 * m))) hung' few places' gateways' near' (r .two .first) refl))
 
-    pub both-hung : {next'' last'' : List ℕ} → next'' ≡ set next' (at last' (at ls (2 * m + 1))) (2 * m + 1) → last'' ≡ set last' (at ls (2 * m + 1)) (2 * m + 1) → Built ls (m + 1) next'' last''
+    pub both-hung : {next'' last'' : List ℕ} → next'' ≡ set next' (at last' (at ls (2 * m))) (2 * m + 1) → last'' ≡ set last' (at ls (2 * m)) (2 * m + 1) → Built ls (m + 1) next'' last''
     both-hung {next''} g h =
         record {
           within = omega (arith, r .more);
@@ -68,7 +75,7 @@ module _ (ls : List ℕ) (m : ℕ) {next last : List ℕ} (r : Ready ls m next l
           few = rw kept (r .built .few);
           gateways = ap length h ∙ length-set last' _ (2 * m + 1) ∙ gateways';
           joining = λ i l. below-suc i m (rw (add-one m) at l) (λ q. rw q (r .two)) (r .built .joining i);
-          hung = rw (kept, two, g, h) (hung-more (length next) ls (2 * m + 1) (at ls (2 * m + 1)) (at last' (at ls (2 * m + 1))) hung' few places' gateways' refl (r .two .second) refl);
+          hung = rw (kept, two, g, h) (hung-more (length next) ls (2 * m + 1) (at ls (2 * m)) (at last' (at ls (2 * m))) hung' few places' gateways' near' (r .two .first) refl);
         }
       where
         kept : length next'' ≡ length next

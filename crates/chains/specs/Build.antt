@@ -5,7 +5,7 @@ use mathlib.Core.Logic.{_⊎_}
 use mathlib.Core.List.{List}
 use lib.ListN.{length}
 use Rattle.packing.specs.Plant.{NONE, GATEWAYS, at}
-use Rattle.chains.specs.Index.{SLOTS, rootOf}
+use Rattle.chains.specs.Index.{SLOTS, rootOf, mate}
 
 -- link i joins two gateways that differ
 pub record JoinsTwo (ls : List ℕ) (i : ℕ) : Type 0 where
@@ -17,22 +17,22 @@ pub record JoinsTwo (ls : List ℕ) (i : ℕ) : Type 0 where
 unfoldable pub Joining : List ℕ → Type 0
 Joining ls = (i : ℕ) → 2 * i + 1 < length ls → JoinsTwo ls i
 
--- s is a place of x's chain, and from end k on lie the ends that come after it: its root, or one of the first e ends
+-- s is a place of x's chain, and from end k on lie the ends that come after it: its root, or one of the first e ends that is a far end of x
 abbrev pub Stands : ℕ → List ℕ → ℕ → ℕ → ℕ → ℕ → Type 0
-Stands slots ls e x s k = ((s ≡ rootOf slots x) × (k ≡ 0)) ⊎ ((s < e) × (at ls s ≡ x) × (k ≡ s + 1))
+Stands slots ls e x s k = ((s ≡ rootOf slots x) × (k ≡ 0)) ⊎ ((s < e) × (at ls (mate s) ≡ x) × (k ≡ s + 1))
 
--- none of the ends from k up to e is x's
+-- none of the ends from k up to e is a far end of x
 abbrev pub Absent : List ℕ → ℕ → ℕ → ℕ → Type 0
-Absent ls x k e = (i : ℕ) → k ≤ i → i < e → at ls i ≡ x → ⊥
+Absent ls x k e = (i : ℕ) → k ≤ i → i < e → at ls (mate i) ≡ x → ⊥
 
--- i is x's first end from k up to e
+-- i is x's first far end from k up to e
 pub record FirstEnd (ls : List ℕ) (e x k i : ℕ) : Type 0 where
   pub from : k ≤ i
   pub below : i < e
-  pub here : at ls i ≡ x
+  pub near : at ls (mate i) ≡ x
   pub before : Absent ls x k i
 
--- i is x's first end from k up to e, or 65535 where there is none
+-- i is x's first far end from k up to e, or 65535 where there is none
 abbrev pub FirstOrNone : List ℕ → ℕ → ℕ → ℕ → ℕ → Type 0
 FirstOrNone ls e x k i = ((i ≡ NONE) × Absent ls x k e) ⊎ FirstEnd ls e x k i
 

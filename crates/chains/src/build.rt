@@ -1,4 +1,4 @@
-// Building the index, link by link. last has the place of the index where each gateway's next end is to be written: its root at first, then the place of its last end, so that an empty chain is no case apart.
+// Building the index, link by link. last has the place of the index where each gateway's next far end is to be written: its root at first, then the place of its last far end, so that an empty chain is no case apart.
 use crate::SLOTS;
 use crate::SMALL;
 use lists::PLACES;
@@ -49,7 +49,7 @@ fn hang(x: u16, end: u16, next: &mut [u16], last: &mut [u16])
     last[x as usize] = end;
 }
 
-// Hangs link m to the chains of its two ends.
+// Hangs link m to the chains of its two ends: to each the place at which the other stands.
 fn hang_link(links: &[u16], m: u16, next: &mut [u16], last: &mut [u16])
     requires { ⌜ Ready (now links) m (now next) (now last) ⌝ }
     ensures { λ _. ⌜ Built (now (links .entry)) (m + 1) (now (next .exit)) (now (last .exit)) ⌝ }
@@ -57,8 +57,8 @@ fn hang_link(links: &[u16], m: u16, next: &mut [u16], last: &mut [u16])
     let place = 2 * (m as usize);
     let a = links[place];
     let b = links[place + 1];
-    hang(a, 2 * m, next, last);
-    hang(b, 2 * m + 1, next, last);
+    hang(b, 2 * m, next, last);
+    hang(a, 2 * m + 1, next, last);
 }
 
 // Writes the ends of link m to their places among the links, and hangs it.

@@ -7,13 +7,13 @@ ghost use Rattle.packing.specs.Plant.{GATEWAYS, linked};
 ghost use Rattle.chains.specs.Index.{Index};
 
 // Whether x and y are linked, by the chain of x.
-pub fn is_there(links: &[u16], next: &[u16], x: u16, y: u16) -> bool
+fn is_there(links: &[u16], next: &[u16], x: u16, y: u16) -> bool
     requires { ⌜ Index (now links) (now next) × (x < GATEWAYS) ⌝ }
     ensures { λ r. ⌜ r ≡ linked (now (links .entry)) x y ⌝ }
 {
     let mut e = crate::first_end(next, x);
     while e != lists::NONE {
-        if crate::across(links, e) == y {
+        if crate::neighbour_at(links, e) == y {
             return true;
         }
         e = crate::next_end(next, e);

@@ -1,4 +1,4 @@
-// The index of links: each gateway's links in order of arrival, as a chain.
+// The index of links: each gateway's links in order of arrival, as a chain. It goes through the far ends, the places at which the neighbours stand, so that a neighbour is read where the chain is.
 pub mod build;
 pub mod follow;
 
@@ -6,7 +6,7 @@ ghost use mathlib.Core.Path.{_≡_};
 ghost use Prim.Native.Nat.{_<_, _≤_};
 ghost use lib.ListN.{length};
 ghost use Rattle.packing.specs.Plant.{GATEWAYS, at};
-ghost use Rattle.chains.specs.Index.{rootOf, mate};
+ghost use Rattle.chains.specs.Index.{rootOf};
 
 // The most places of an index: one for each end of a link, and one for each gateway.
 pub const SLOTS: usize = 17408;
@@ -14,7 +14,7 @@ pub const SLOTS: usize = 17408;
 // Those of a small one: the ends of 512 links, and the gateways.
 pub const SMALL: usize = 2048;
 
-// The place of x's first end.
+// The place of x's first far end.
 pub fn first_end(next: &[u16], x: u16) -> u16
     requires { ⌜ (GATEWAYS ≤ length (now next)) × (x < GATEWAYS) ⌝ }
     ensures { λ r. ⌜ r ≡ at (now (next .entry)) (rootOf (length (now (next .entry))) x) ⌝ }
@@ -22,16 +22,15 @@ pub fn first_end(next: &[u16], x: u16) -> u16
     next[next.len() - lists::PLACES + (x as usize)]
 }
 
-// The gateway at the other end of the link that has an end at place e.
-pub fn across(links: &[u16], e: u16) -> u16
-    requires { ⌜ mate e < length (now links) ⌝ }
-    ensures { λ r. ⌜ r ≡ at (now (links .entry)) (mate e) ⌝ }
+// The neighbour at place e of a chain.
+pub fn neighbour_at(links: &[u16], e: u16) -> u16
+    requires { ⌜ e < length (now links) ⌝ }
+    ensures { λ r. ⌜ r ≡ at (now (links .entry)) e ⌝ }
 {
-    let place = e as usize;
-    links[2 * (place / 2) + (1 - place % 2)]
+    links[e as usize]
 }
 
-// The place of the next end of the gateway at place e.
+// The place of the far end that comes after place e in its chain.
 pub fn next_end(next: &[u16], e: u16) -> u16
     requires { ⌜ e < length (now next) ⌝ }
     ensures { λ r. ⌜ r ≡ at (now (next .entry)) e ⌝ }

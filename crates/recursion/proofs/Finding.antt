@@ -14,7 +14,7 @@ use Rattle.packing.specs.Moved.{moved}
 use Rattle.packing.proofs.Tests.{by-bool, iff-test, not-i, not-i-false}
 use Rattle.packing.proofs.Sums.{count-ext}
 use Rattle.packing.proofs.Moved.{moved-one}
-use Rattle.chains.specs.Index.{rootOf, mate, EndOf}
+use Rattle.chains.specs.Index.{rootOf, FarEnd}
 use Rattle.chains.proofs.Following.{Standing, chain-first, chain-next, chain-end, chain-there, chain-places}
 use Rattle.search.specs.RowPre.{Taken}
 use Rattle.search.proofs.States.{seen-kept}
@@ -31,7 +31,7 @@ moved-back : (n : ℕ) (h h' : ℕ → ℕ) → moved n h h' ≡ moved n h' h
 unfolding moved
 moved-back n h h' = count-ext n (λ w. not (eqb (h w) (h' w))) (λ w. not (eqb (h' w) (h w))) (λ w l. ap not (iff-test (eqb (h w) (h' w)) (eqb (h' w) (h w)) (λ e. eq-eqb (h' w) (h w) (sym (eqb-true (h w) (h' w) e))) (λ e. eq-eqb (h w) (h' w) (sym (eqb-true (h' w) (h w) e)))))
 
--- the loop over v's links, before the link with v's end at place e
+-- the loop over v's links, before the link with the far end at place e
 pub record Finding (n : ℕ) (limit : ℕ → ℕ) (ls : List ℕ) (v : ℕ) (rows₀ : List (List ℕ)) (hs₀ marks₀ : List ℕ) (rows : List (List ℕ)) (hs marks : List ℕ) (e : ℕ) : Type 0 where
   pub standing : Standing ls v e
   pub front : Front n marks₀ marks
@@ -77,12 +77,12 @@ module _
       first-at : (y : ℕ) → at (take n marks) y ≡ at marks y
       first-at = front-at n marks room (λ y l. f .front .beyond y l ∙ w .past y l)
 
-      -- a chain that is not at its end is at an end of v
+      -- a chain that is not at its end is at a far end of v
       module _ (some : e ≡ NONE → ⊥) where
-        finding-there : EndOf ls v e
+        finding-there : FarEnd ls v e
         finding-there = chain-there (w .index) below (f .standing) some
 
-        pub finding-places : (mate e < length ls) × (e < length next)
+        pub finding-places : (e < length ls) × (e < length next)
         finding-places = chain-places (w .index) below (f .standing) some
 
         module _ {e' : ℕ} (later : e' ≡ at next e) where
@@ -98,7 +98,7 @@ module _
           turn front unchanged same own fewer rest =
               record { standing = rw later (chain-next (w .index) below finding-there .1); front = front; unchanged = unchanged; same = same; own = own; fewer = fewer; rest = λ calls q. rw later (rest calls q) }
 
-        module _ {u : ℕ} (its : u ≡ at ls (mate e)) {k : ℕ} (is : k ≡ at marks u) where
+        module _ {u : ℕ} (its : u ≡ at ls e) {k : ℕ} (is : k ≡ at marks u) where
           first-is : at (take n marks) u ≡ k
           first-is = first-at u ∙ sym is
 

@@ -29,7 +29,7 @@ FreedRows n limit k hs rows₀ rows = RowsEnd k n hs rows₀ rows (SmallLimits n
 
 -- what either is lent has room for x
 pub working-below : {n x h : ℕ} {ls next : List ℕ} {rows : List (List ℕ)} {hs marks : List ℕ} → Working n x h ls next rows hs marks → (GATEWAYS ≤ length next) × (x < GATEWAYS)
-working-below w = (w .index .places, omega (arith, w .few, w .inside))
+working-below w = (omega (arith, w .index .room), omega (arith, w .few, w .inside))
 
 -- .. and x has a row
 pub working-row : {n x h : ℕ} {ls next : List ℕ} {rows : List (List ℕ)} {hs marks : List ℕ} → Working n x h ls next rows hs marks → x < length rows

@@ -31,7 +31,7 @@ fn find_holder(
 {
     let mut e = chains::first_end(next, v);
     while e != lists::NONE {
-        let u = chains::across(links, e);
+        let u = chains::neighbour_at(links, e);
         if lists::entry(tried, u) == lists::NONE {
             lists::put(tried, u, 0);
             let k = free_place(n, u, limits, links, next, rows, holders, tried);

@@ -10,7 +10,7 @@ use borrow.Author.Tests.{eq-eqb, ne-eqb, ltb-true, ltb-false}
 use Rattle.packing.specs.Plant.{NONE, GATEWAYS, at, neighbours}
 use Rattle.packing.specs.Holders.{holds}
 use Rattle.packing.proofs.Tests.{not-i, not-i-false}
-use Rattle.chains.specs.Index.{rootOf, mate, Index}
+use Rattle.chains.specs.Index.{rootOf, Index}
 use Rattle.chains.proofs.Following.{Standing, chain-first, chain-next, chain-end, chain-there, chain-places}
 use Rattle.search.specs.Search.{found, more, seen, look, visit}
 use Rattle.search.specs.declared.Walked.{Walked}
@@ -102,14 +102,14 @@ module _
       pub visit-ready : ForSome rows (λ n hs. Ready n x hs queue end from)
       visit-ready = some-then some (λ n hs t r. v .each n hs t r .ready)
 
-      pub visit-places : (e ≡ NONE → ⊥) → (mate e < length ls) × (e < length next)
+      pub visit-places : (e ≡ NONE → ⊥) → (e < length ls) × (e < length next)
       visit-places l = chain-places d below (v .standing) l
 
     module _
         {queue from queue' from' : List ℕ} {end e u : ℕ} {w : Walked} (v : Visiting limit x ls rows queue₀ tail from₀ queue from end e) (l : e ≡ NONE → ⊥)
-        (is-u : u ≡ at ls (mate e)) (looks : ForEach rows (λ n hs. Ready n x hs queue end from) (λ n hs. Is w queue' from' (look n limit hs x u (take end queue) from)))
+        (is-u : u ≡ at ls e) (looks : ForEach rows (λ n hs. Ready n x hs queue end from) (λ n hs. Is w queue' from' (look n limit hs x u (take end queue) from)))
       where
-        after : (neighbours (drop (2 * (e / 2)) ls) x ≡ at ls (mate e) ∷ neighbours (drop (2 * (at next e / 2)) ls) x) × Standing ls x (at next e) × (e < at next e)
+        after : (neighbours (drop (2 * (e / 2)) ls) x ≡ at ls e ∷ neighbours (drop (2 * (at next e / 2)) ls) x) × Standing ls x (at next e) × (e < at next e)
         after = chain-next d below (chain-there d below (v .standing) l)
 
         module _ {n : ℕ} {hs : List ℕ} (t : TableOf n hs rows) (r : Ready n x hs queue₀ tail from₀) where

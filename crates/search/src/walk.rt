@@ -60,7 +60,7 @@ fn visit(
     let mut end = tail;
     let mut e = chains::first_end(next, x);
     while e != lists::NONE {
-        let u = chains::across(links, e);
+        let u = chains::neighbour_at(links, e);
         let w = look(limits, x, u, rows, queue, end, from, looked, count);
         match w {
             Walked::Found(y, z) => return Walked::Found(y, z),

@@ -18,7 +18,7 @@ use Rattle.recursion.proofs.+find_holder+free_place.Lts-find_holder as 
 use Rattle.recursion.proofs.free_place.Reads as free-place
 use Rattle.recursion.proofs.free_place.Kinds as free-kinds
 use Rattle.recursion.proofs.+find_holder+free_place.Lts-free_place as free
-use Rattle.chains.proofs.across.Reads as across-reads
+use Rattle.chains.proofs.neighbour_at.Reads as neighbour-at-reads
 use Rattle.chains.proofs.first_end.Reads as first-end-reads
 use Rattle.chains.proofs.next_end.Reads as next-end-reads
 use Rattle.lists.proofs.byte.Reads as byte-reads
@@ -53,8 +53,8 @@ abbrev find-claims : ℕ → find.Claims
 find-claims t = (
   first-end-reads.Asked,
   first-end-reads.Learnt,
-  across-reads.Asked,
-  across-reads.Learnt,
+  neighbour-at-reads.Asked,
+  neighbour-at-reads.Learnt,
   entry-reads.Asked,
   entry-reads.Learnt,
   put-reads.Asked,
@@ -89,8 +89,8 @@ module _ (t : ℕ) where
   find-loop-holds : find.Need-loop-holds (find-claims t) (find-at t) find-holder.Post Inv-find μ-find
   find-loop-holds c = finding-start _ _ _ _ _ _ _ _ (c .before .before .before .before .before .pre .1) (c .first-end .ensures)
 
-  find-across-requires : find.Need-across-requires (find-claims t) (find-at t) find-holder.Post Inv-find μ-find
-  find-across-requires c κs = finding-places _ _ _ _ _ _ _ _ (c .before .before .before .before .before .before .before .pre .1) (c .before .loop .inv) (c .loop-test .taken) .0
+  find-neighbour-at-requires : find.Need-neighbour-at-requires (find-claims t) (find-at t) find-holder.Post Inv-find μ-find
+  find-neighbour-at-requires c κs = finding-places _ _ _ _ _ _ _ _ (c .before .before .before .before .before .before .before .pre .1) (c .before .loop .inv) (c .loop-test .taken) .0
 
   find-entry-requires : find.Need-entry-requires (find-claims t) (find-at t) find-holder.Post Inv-find μ-find
   find-entry-requires c κs = search needs
@@ -101,11 +101,11 @@ module _ (t : ℕ) where
   find-free-place-requires : find.Need-free-place-requires (find-claims t) (find-at t) find-holder.Post Inv-find μ-find
   find-free-place-requires c κs = let put = c .before .before .before in
       let entry = put .before .before .before in
-      let across = entry .before .before .before in
-      let turn = across .before in
+      let read = entry .before .before .before in
+      let turn = read .before in
       let start = turn .before .before .before .before .before .before .before in (
-        omega (arith, start .pre .0, finding-less _ _ _ _ _ _ _ _ (start .pre .1) (turn .before .loop .inv) (turn .loop-test .taken) (across .across .ensures) (entry .entry .ensures) (put .before .before .if1 .taken) (put .put .ensures)),
-        finding-works _ _ _ _ _ _ _ _ (start .pre .1) (turn .before .loop .inv) (turn .loop-test .taken) (across .across .ensures) (entry .entry .ensures) (put .before .before .if1 .taken) (put .put .ensures),
+        omega (arith, start .pre .0, finding-less _ _ _ _ _ _ _ _ (start .pre .1) (turn .before .loop .inv) (turn .loop-test .taken) (read .neighbour-at .ensures) (entry .entry .ensures) (put .before .before .if1 .taken) (put .put .ensures)),
+        finding-works _ _ _ _ _ _ _ _ (start .pre .1) (turn .before .loop .inv) (turn .loop-test .taken) (read .neighbour-at .ensures) (entry .entry .ensures) (put .before .before .if1 .taken) (put .put .ensures),
       )
 
   find-take-requires : find.Need-take-requires (find-claims t) (find-at t) find-holder.Post Inv-find μ-find
@@ -125,10 +125,10 @@ module _ (t : ℕ) where
       let called = then .before .before .before .before in
       let put = called .before .before .before .before in
       let entry = put .before .before .before in
-      let across = entry .before .before .before in
-      let turn = across .before in
+      let read = entry .before .before .before in
+      let turn = read .before in
       let start = turn .before .before .before .before .before .before .before in
-      finding-found _ _ _ _ _ _ _ _ (start .pre .1) (turn .before .loop .inv) (turn .loop-test .taken) (across .across .ensures) (entry .entry .ensures) (put .before .before .if1 .taken) (put .put .ensures)
+      finding-found _ _ _ _ _ _ _ _ (start .pre .1) (turn .before .loop .inv) (turn .loop-test .taken) (read .neighbour-at .ensures) (entry .entry .ensures) (put .before .before .if1 .taken) (put .put .ensures)
       (called .free-place .ensures .1 .1) (called .free-place .ensures .0) (then .if2 .taken) (called .free-place .ensures .1 .0) (taken .take .ensures)
 
   find-next-end-requires : find.Need-next-end-requires (find-claims t) (find-at t) find-holder.Post Inv-find μ-find
@@ -141,14 +141,14 @@ module _ (t : ℕ) where
 
   find-loop-again : find.Need-loop-again (find-claims t) (find-at t) find-holder.Post Inv-find μ-find
   find-loop-again c = let entry = c .before .before in
-      let across = entry .before .before .before in
-      let turn = across .before in
+      let read = entry .before .before .before in
+      let turn = read .before in
       let start = turn .before .before .before .before .before .before .before in
       ⊎-elim
       (λ k.
       rw (k .11, k .12, k .13)
-      (finding-next _ _ _ _ _ _ _ _ (start .pre .1) (turn .before .loop .inv) (turn .loop-test .taken) (across .across .ensures) (entry .entry .ensures) (k .0 .taken) (k .2 .ensures) (k .6 .ensures .1 .1) (k .6 .ensures .0) (k .6 .ensures .1 .0) (k .10 .left) (c .next-end .ensures)))
-      (λ k. rw (k .1, k .2, k .3) (finding-passed _ _ _ _ _ _ _ _ (start .pre .1) (turn .before .loop .inv) (turn .loop-test .taken) (across .across .ensures) (entry .entry .ensures) (c .next-end .ensures) (k .0 .left)))
+      (finding-next _ _ _ _ _ _ _ _ (start .pre .1) (turn .before .loop .inv) (turn .loop-test .taken) (read .neighbour-at .ensures) (entry .entry .ensures) (k .0 .taken) (k .2 .ensures) (k .6 .ensures .1 .1) (k .6 .ensures .0) (k .6 .ensures .1 .0) (k .10 .left) (c .next-end .ensures)))
+      (λ k. rw (k .1, k .2, k .3) (finding-passed _ _ _ _ _ _ _ _ (start .pre .1) (turn .before .loop .inv) (turn .loop-test .taken) (read .neighbour-at .ensures) (entry .entry .ensures) (c .next-end .ensures) (k .0 .left)))
       (c .before .if1 .came)
 
   find-same-length-3 : find.Need-same-length-3 (find-claims t) (find-at t) find-holder.Post Inv-find μ-find
@@ -259,5 +259,5 @@ module _ (t : ℕ) where
 pub +find-holder+free-place-spec : {M : Type 1} → statement M
 +find-holder+free-place-spec =
     close μ-find-holder μ-free-place
-    (λ t. find.spec (find-claims t) (find-at t) find-holder.Post Inv-find μ-find (find-first-end-requires t) (find-loop-holds t) (find-across-requires t) (find-entry-requires t) (find-put-requires t) (find-free-place-requires t) (find-take-requires t) (find-same-length t) (find-same-length-2 t) (find-returns t) (find-next-end-requires t) (find-loop-less t) (find-loop-again t) (find-same-length-3 t) (find-same-length-4 t) (find-returns-2 t))
+    (λ t. find.spec (find-claims t) (find-at t) find-holder.Post Inv-find μ-find (find-first-end-requires t) (find-loop-holds t) (find-neighbour-at-requires t) (find-entry-requires t) (find-put-requires t) (find-free-place-requires t) (find-take-requires t) (find-same-length t) (find-same-length-2 t) (find-returns t) (find-next-end-requires t) (find-loop-less t) (find-loop-again t) (find-same-length-3 t) (find-same-length-4 t) (find-returns-2 t))
     (λ t. free.spec (free-claims t) (free-at t) free-place.Post Inv-free μ-free (free-mul-has-place t) (free-index-1-has-place t) (free-byte-requires t) (free-has-place-requires t) (free-same-length t) (free-returns t) (free-loop-holds t) (free-mul-x t) (free-mul-x-2 t) (free-index-1-x t) (free-index-2-x t) (free-same-length-2 t) (free-same-length-3 t) (free-returns-2 t) (free-find-holder-requires t) (free-add-result t) (free-same-length-4 t) (free-same-length-5 t) (free-returns-3 t) (free-add-i t) (free-loop-less t) (free-loop-again t) (free-same-length-6 t) (free-same-length-7 t) (free-returns-4 t))

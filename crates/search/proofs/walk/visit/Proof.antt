@@ -1,6 +1,7 @@
 use borrow.Author.Needs.{needs}
 use Prim.Native.Nat.{_-_}
 use mathlib.Core.Path.{refl}
+use native.Mathlib.Omega.{arith}
 use Rattle.packing.specs.Plant.{NONE, at}
 use Rattle.search.proofs.Noting.{NotesSo, notes-same, notes-then, notes-on}
 use Rattle.search.proofs.Looks.{Visiting, ready-below, visit-start, visit-ready, visit-places, visit-turn, visit-ends, visit-out}
@@ -15,14 +16,14 @@ abbrev μ-loop : tie.MeasureT-loop
 
 first-end-requires : tie.Need-first-end-requires Inv-loop μ-loop
 first-end-requires c κs = let start = c .before .before .before .before .before .before in
-    (start .pre .0 .places, ready-below (start .pre .1))
+    (omega (arith, start .pre .0 .room), ready-below (start .pre .1))
 
 loop-holds : tie.Need-loop-holds Inv-loop μ-loop
 loop-holds c = let start = c .before .before .before .before .before .before .before in
     (visit-start _ _ _ _ _ _ _ _ (start .pre .0) (start .pre .1) (c .first-end .ensures), (refl, notes-same _ _ _))
 
-across-requires : tie.Need-across-requires Inv-loop μ-loop
-across-requires c κs = let turn = c .before in
+neighbour-at-requires : tie.Need-neighbour-at-requires Inv-loop μ-loop
+neighbour-at-requires c κs = let turn = c .before in
     let start = turn .before .before .before .before .before .before .before .before in
     visit-places _ _ _ _ _ _ _ _ (start .pre .0) (start .pre .1) (turn .loop .inv .0) (c .loop-test .taken) .0
 
@@ -45,10 +46,10 @@ same-length-3 c = search needs
 
 returns : tie.Need-returns Inv-loop μ-loop
 returns c = let called = c .before .before .before .before .before .before .before .before .before in
-    let across = called .before .before .before .before .before in
-    let turn = across .before in
+    let read = called .before .before .before .before .before in
+    let turn = read .before in
     let start = turn .before .before .before .before .before .before .before .before .before in (
-      visit-ends _ _ _ _ _ _ _ _ (start .pre .0) (start .pre .1) (turn .before .loop .inv .0) (turn .loop-test .taken) (across .across .ensures) (called .look .ensures .0) (c .before .w .given .1),
+      visit-ends _ _ _ _ _ _ _ _ (start .pre .0) (start .pre .1) (turn .before .loop .inv .0) (turn .loop-test .taken) (read .neighbour-at .ensures) (called .look .ensures .0) (c .before .w .given .1),
       notes-then (turn .before .loop .inv .1 .1) (called .look .ensures .1),
     )
 
@@ -63,19 +64,19 @@ next-end-requires c κs = let turn = c .before .before .before .before .before .
 loop-less : tie.Need-loop-less Inv-loop μ-loop
 loop-less c = let told = c .before in
     let called = told .before .before .before .before .before .before .before .before .before in
-    let across = called .before .before .before .before .before in
-    let turn = across .before in
+    let read = called .before .before .before .before .before in
+    let turn = read .before in
     let start = turn .before .before .before .before .before .before .before .before .before in
-    visit-turn _ _ _ _ _ _ _ _ (start .pre .0) (start .pre .1) (turn .before .loop .inv .0) (turn .loop-test .taken) (across .across .ensures) (called .look .ensures .0) (told .before .w2 .given .1)
+    visit-turn _ _ _ _ _ _ _ _ (start .pre .0) (start .pre .1) (turn .before .loop .inv .0) (turn .loop-test .taken) (read .neighbour-at .ensures) (called .look .ensures .0) (told .before .w2 .given .1)
     (called .look .kept .1 .1 .1 .1 .0, called .look .kept .1 .1 .1 .1 .1 .1 .0) (c .next-end .ensures) .1
 
 loop-again : tie.Need-loop-again Inv-loop μ-loop
 loop-again c = let told = c .before in
     let called = told .before .before .before .before .before .before .before .before .before in
-    let across = called .before .before .before .before .before in
-    let turn = across .before in
+    let read = called .before .before .before .before .before in
+    let turn = read .before in
     let start = turn .before .before .before .before .before .before .before .before .before in (
-      visit-turn _ _ _ _ _ _ _ _ (start .pre .0) (start .pre .1) (turn .before .loop .inv .0) (turn .loop-test .taken) (across .across .ensures) (called .look .ensures .0) (told .before .w2 .given .1)
+      visit-turn _ _ _ _ _ _ _ _ (start .pre .0) (start .pre .1) (turn .before .loop .inv .0) (turn .loop-test .taken) (read .neighbour-at .ensures) (called .look .ensures .0) (told .before .w2 .given .1)
           (called .look .kept .1 .1 .1 .1 .0, called .look .kept .1 .1 .1 .1 .1 .1 .0) (c .next-end .ensures) .0,
       notes-on (turn .before .loop .inv .1) (called .look .kept .1 .1 .1 .1 .1 .1 .1 .0) (called .look .ensures .1),
     )
@@ -101,7 +102,7 @@ visit-spec =
     μ-loop
     first-end-requires
     loop-holds
-    across-requires
+    neighbour-at-requires
     look-requires
     enum-known-w
     same-length
