@@ -1,8 +1,9 @@
 /*
- * How fast plan_groups is: beside a plain program of the same method in C, the solver by network flow and
- * plan_groups_recursive, on the same plants in one run. All begin with the bytes of the file. First all that the plain
- * program gives is compared with the call; then a table of kinds of plants; then a search for plants on which the call is
- * slow. Nothing is cleared between calls.
+ * How fast plan_groups is: beside a plain program of the same method in C, a plan by network flow and
+ * plan_groups_recursive, on the same plants in one run. All begin with the bytes of the file and end with the bytes of their
+ * answer. Of the flow its count alone is timed too: how many can be covered, which is no plan. First what the plain program
+ * and the flow give is compared with the call; then a table of kinds of plants; then a search for plants on which the call
+ * is slow. Nothing is cleared between calls.
  *
  *   bench [GATEWAYS [PLANTS [FIRST]]]
  *
@@ -36,14 +37,16 @@ struct highest {
 
 enum { SMALLEST = 64 };
 
-static struct highest to_plain, to_flow;
+static struct highest to_plain, to_flow, to_count;
 
 static void print_head(void)
 {
-    printf("\n%-10s %8s %6s %3s %6s %7s | %9s %9s %9s %9s | %8s %8s %9s | %6s %6s %6s | %6s\n", "", "", "", "", "", "",
-           "call", "plain C", "flow", "recursive", "call to", "call to", "recursive", "growth", "of the", "of the", "ns to");
-    printf("%-10s %8s %6s %3s %6s %7s | %9s %9s %9s %9s | %8s %8s %9s | %6s %6s %6s | %6s\n", "kind", "gateways", "links",
-           "T", "alone", "moved", "ms", "ms", "ms", "ms", "plain C", "flow", "to call", "of n+m", "call", "plain", "n+m");
+    printf("\n%-10s %8s %6s %3s %6s %7s |", "", "", "", "", "", "");
+    printf(" %9s %9s %9s %9s %9s |", "call", "plain C", "flow", "count", "recursive");
+    printf(" %8s %8s %9s | %6s %6s %6s | %6s\n", "call to", "call to", "recursive", "growth", "of the", "of the", "ns to");
+    printf("%-10s %8s %6s %3s %6s %7s |", "kind", "gateways", "links", "T", "alone", "moved");
+    printf(" %9s %9s %9s %9s %9s |", "ms", "ms", "ms", "ms", "ms");
+    printf(" %8s %8s %9s | %6s %6s %6s | %6s\n", "plain C", "flow", "to call", "of n+m", "call", "plain", "n+m");
 }
 
 static void print_growth(const struct before *b, const struct timing *t)
@@ -58,7 +61,8 @@ static void print_growth(const struct before *b, const struct timing *t)
 static void print_line(const char *name, const struct before *b, const struct timing *t)
 {
     printf("%-10s %8d %6d %3d %6d %7ld |", name, plant.n, plant.m, plant.limit, t->alone, t->moved);
-    printf(" %9.4f %9.4f %9.4f %9.4f |", 1e3 * t->call, 1e3 * t->plain, 1e3 * t->flow, 1e3 * t->recursive);
+    printf(" %9.4f %9.4f %9.4f %9.4f %9.4f |", 1e3 * t->call, 1e3 * t->plain, 1e3 * t->flow, 1e3 * t->count,
+           1e3 * t->recursive);
     printf(" %8.2f %8.3f %9.2f |", t->call / t->plain, t->call / t->flow, t->recursive / t->call);
     print_growth(b, t);
     printf(" %6.1f\n", 1e9 * t->call / (plant.n + plant.m));
@@ -88,6 +92,7 @@ static bool show(const struct kind *k, int n, enum links links, struct before *b
     print_line(k->name, b, &t);
     keep_highest(&to_plain, t.call / t.plain, k->name);
     keep_highest(&to_flow, t.call / t.flow, k->name);
+    keep_highest(&to_count, t.call / t.count, k->name);
     b->size = plant.n + plant.m;
     b->timing = t;
     return true;
@@ -107,6 +112,7 @@ static bool table(int most)
     printf("growth: over the line before, of gateways and links together and of the times\n");
     print_highest("call to plain C", &to_plain);
     print_highest("call to flow", &to_flow);
+    print_highest("call to the flow's count alone", &to_count);
     return true;
 }
 

@@ -1,4 +1,4 @@
-/* The lists of plain_plan, and its three parts. */
+/* The lists of plain_plan, and its four parts. */
 #ifndef PLAIN_WORK_H
 #define PLAIN_WORK_H
 
@@ -40,5 +40,8 @@ void plain_place(struct work *w);
 
 /* The leader list of the holders. */
 void plain_read(struct work *w);
+
+/* Leaders, choke set and number moved, as plan_groups writes them. */
+void plain_write(const struct work *w, uint8_t *restrict out);
 
 #endif

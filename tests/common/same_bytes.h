@@ -1,4 +1,4 @@
-/* Whether plan_groups and plain_plan give the same number and the same bytes. */
+/* Whether plan_groups and plain_plan give the same number and the same bytes, and flow_plan a plan that goes with them. */
 #ifndef SAME_BYTES_H
 #define SAME_BYTES_H
 
@@ -10,8 +10,8 @@
 bool same_bytes(const uint8_t *file, size_t len, size_t out_len);
 
 /*
- * So many small plants, of every family and both versions, and as many damaged files. Prints a line, or the first plant on
- * which the two differ.
+ * So many small plants, of every family and both versions, and as many damaged files; of flow_plan the plants alone. Prints
+ * what was found, or the first plant on which they differ.
  */
 bool same_on_small(int plants);
 

@@ -4,6 +4,8 @@
 
 #include "answer.h"
 #include "flow.h"
+#include "flow_agrees.h"
+#include "flow_plan.h"
 #include "plain_plan.h"
 #include "plain_work.h"
 #include "plan_groups.h"
@@ -18,7 +20,8 @@ static const double share = 0.007;
 
 /* What the works take and give. The answers are looked at, so that no work is left out. */
 static const struct plant *plant;
-static uint8_t file[MAX_FILE], by_call[PLAN_GROUPS_OUT_MAX], by_plain[PLAN_GROUPS_OUT_MAX], by_other[PLAN_GROUPS_OUT_MAX];
+static uint8_t file[MAX_FILE], by_call[PLAN_GROUPS_OUT_MAX], by_plain[PLAN_GROUPS_OUT_MAX], by_other[PLAN_GROUPS_OUT_MAX],
+    by_flow[PLAN_GROUPS_OUT_MAX];
 static size_t len;
 static uint32_t refusals;
 static int covered;
@@ -38,8 +41,13 @@ static void work_recursive(void)
     refusals |= plan_groups_recursive(file, len, by_other, sizeof by_other);
 }
 
-/* It begins with the file too, which the plain program's reader checks, and gives only how many can be covered. */
 static void work_flow(void)
+{
+    refusals |= flow_plan(plant, file, len, by_flow, sizeof by_flow);
+}
+
+/* It begins with the file too, which the plain program's reader checks, and gives only how many can be covered. */
+static void work_count(void)
 {
     static struct work w;
     refusals |= plain_take(&w, file, len);
@@ -65,15 +73,16 @@ static bool end(struct timing *t)
 
 bool timing_all(const struct plant *p, struct timing *t)
 {
-    static void (*const works[])(void) = {work_call, work_plain, work_recursive, work_flow};
-    double seconds[4];
+    static void (*const works[])(void) = {work_call, work_plain, work_recursive, work_flow, work_count};
+    double seconds[5];
     begin(p);
-    stopwatch(4, works, ROUNDS, share, seconds);
+    stopwatch(5, works, ROUNDS, share, seconds);
     t->call = seconds[0];
     t->plain = seconds[1];
     t->recursive = seconds[2];
     t->flow = seconds[3];
-    return end(t) && covered == p->n - t->alone;
+    t->count = seconds[4];
+    return end(t) && flow_agrees(p, by_flow, by_call) && covered == p->n - t->alone;
 }
 
 bool timing_two(const struct plant *p, bool with_care, struct timing *t)
