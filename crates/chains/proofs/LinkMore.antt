@@ -1,6 +1,7 @@
 -- One link more: no links at first, the ends of the next one hung, and the loop over a list of links.
-use Prim.Native.Nat.{ℕ, zero, suc, _+_, _*_, _<_, _≤_}
-use mathlib.Core.Path.{_≡_, refl, sym, ap, _∙_}
+use Prim.Native.Nat.{ℕ, zero, suc, _+_, _*_, _/_, _<_, _≤_}
+use mathlib.Core.Path.{_≡_, refl, sym, ap, subst, _∙_}
+use mathlib.Core.Logic.{⊎-elim}
 use mathlib.Core.Bool.{true, _&&_}
 use mathlib.Core.List.{List, [], _∷_}
 use native.Mathlib.Numerals.{add-one}
@@ -13,9 +14,9 @@ use Rattle.packing.specs.Plant.{NONE, GATEWAYS, at, joins, linked}
 use Rattle.packing.specs.Lists.{listOf}
 use Rattle.packing.proofs.Tests.{below-suc, and-i, or-l, or-r}
 use Rattle.packing.proofs.Lists.{listOf-length}
-use Rattle.chains.specs.Index.{SLOTS, rootOf, mate}
+use Rattle.chains.specs.Index.{SLOTS, rootOf, mate, Index, IndexFor}
 use Rattle.chains.specs.Build.{Joining, Hung, Built, Ready, Adding}
-use Rattle.chains.proofs.Following.{mate-first, mate-second}
+use Rattle.chains.proofs.Following.{mates, mate-first, mate-second}
 use Rattle.chains.proofs.Hanging.{hung-start, last-inside, hung-more}
 use Rattle.chains.proofs.BuiltIndex.{built-same}
 
@@ -130,3 +131,13 @@ linked-own (a ∷ b ∷ rest) (suc i) h = rw (two, three) (or-r (joins a b (at r
 pub joining-linked : (n : ℕ) (ls : List ℕ) → n ≤ GATEWAYS → ((x y : ℕ) → linked ls x y ≡ true → (x < n) × (y < n) × (x ≡ y → ⊥)) → Joining ls
 unfolding Joining
 joining-linked n ls few ends i h = let (first, second, differ) = ends _ _ (linked-own ls i h) in record { first = omega (arith, few, first); second = omega (arith, few, second); differ = differ }
+
+-- .. and they are all that stand at its ends
+pub index-for : (n : ℕ) (ls : List ℕ) {next : List ℕ} → ((x y : ℕ) → linked ls x y ≡ true → (x < n) × (y < n) × (x ≡ y → ⊥)) → Index ls next → IndexFor n ls next
+index-for n ls ends d =
+    record {
+      index = d;
+      below = λ e h.
+          let (first, second, differ) = ends _ _ (linked-own ls (e / 2) h) in
+          ⊎-elim (λ k. subst (λ (i : ℕ). at ls i < n) (sym (k .0)) first) (λ k. subst (λ (i : ℕ). at ls i < n) (sym (k .0)) second) (mates e);
+    }

@@ -40,3 +40,8 @@ pub record Index (ls next : List ℕ) : Type 0 where
   pub few : length next ≤ SLOTS
   pub first : (x : ℕ) → x < GATEWAYS → NextEnd ls x 0 (at next (rootOf (length next) x))
   pub later : (x e : ℕ) → x < GATEWAYS → FarEnd ls x e → NextEnd ls x (e / 2 + 1) (at next e)
+
+-- .. for n gateways: whoever stands at an end of a whole link is one of them
+pub record IndexFor (n : ℕ) (ls next : List ℕ) : Type 0 where
+  pub index : Index ls next
+  pub below : (e : ℕ) → 2 * (e / 2) + 1 < length ls → at ls e < n

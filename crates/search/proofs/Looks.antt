@@ -10,7 +10,7 @@ use borrow.Author.Tests.{eq-eqb, ne-eqb, ltb-true, ltb-false}
 use Rattle.packing.specs.Plant.{NONE, GATEWAYS, at, neighbours}
 use Rattle.packing.specs.Holders.{holds}
 use Rattle.packing.proofs.Tests.{not-i, not-i-false}
-use Rattle.chains.specs.Index.{rootOf, Index}
+use Rattle.chains.specs.Index.{rootOf, IndexFor}
 use Rattle.chains.proofs.Following.{Standing, chain-first, chain-next, chain-end, chain-there, chain-places}
 use Rattle.search.specs.Search.{found, more, seen, look, visit}
 use Rattle.search.specs.declared.Walked.{Walked}
@@ -82,7 +82,7 @@ pub ready-below : {rows : List (List ℕ)} {x : ℕ} {queue : List ℕ} {tail : 
 ready-below s = omega (arith, s .has .gateway, s .has .going .few)
 
 module _
-    (limit : ℕ → ℕ) (x : ℕ) (ls next : List ℕ) (rows : List (List ℕ)) (queue₀ : List ℕ) (tail : ℕ) (from₀ : List ℕ) (d : Index ls next)
+    (limit : ℕ → ℕ) (x : ℕ) (ls next : List ℕ) (rows : List (List ℕ)) (queue₀ : List ℕ) (tail : ℕ) (from₀ : List ℕ) (d : IndexFor (length from₀) ls next)
     (some : ForSome rows (λ n hs. Ready n x hs queue₀ tail from₀))
   where
     below : x < GATEWAYS
@@ -92,9 +92,9 @@ module _
     visit-start {e} q =
         rw q
         (record {
-          standing = chain-first d below .1;
+          standing = chain-first (d .index) below .1;
           same = (refl, refl);
-          each = λ n hs t r. record { ready = r; rest = ap (λ (us : List ℕ). visit n limit hs x us (more (take tail queue₀) from₀)) (sym (chain-first d below .0)) };
+          each = λ n hs t r. record { ready = r; rest = ap (λ (us : List ℕ). visit n limit hs x us (more (take tail queue₀) from₀)) (sym (chain-first (d .index) below .0)) };
         })
 
     module _ {queue from : List ℕ} {end e : ℕ} (v : Visiting limit x ls rows queue₀ tail from₀ queue from end e) where
@@ -103,14 +103,18 @@ module _
       visit-ready = some-then some (λ n hs t r. v .each n hs t r .ready)
 
       pub visit-places : (e ≡ NONE → ⊥) → (e < length ls) × (e < length next)
-      visit-places l = chain-places d below (v .standing) l
+      visit-places l = chain-places (d .index) below (v .standing) l
+
+      -- the neighbour is a gateway, and has a mark or none
+      pub visit-neighbour : (e ≡ NONE → ⊥) → {u : ℕ} → u ≡ at ls e → u < length from
+      visit-neighbour l is-u = rw (is-u, v .same .1) (d .below e (chain-there (d .index) below (v .standing) l .inside))
 
     module _
         {queue from queue' from' : List ℕ} {end e u : ℕ} {w : Walked} (v : Visiting limit x ls rows queue₀ tail from₀ queue from end e) (l : e ≡ NONE → ⊥)
         (is-u : u ≡ at ls e) (looks : ForEach rows (λ n hs. Ready n x hs queue end from) (λ n hs. Is w queue' from' (look n limit hs x u (take end queue) from)))
       where
         after : (neighbours (drop (2 * (e / 2)) ls) x ≡ at ls e ∷ neighbours (drop (2 * (at next e / 2)) ls) x) × Standing ls x (at next e) × (e < at next e)
-        after = chain-next d below (chain-there d below (v .standing) l)
+        after = chain-next (d .index) below (chain-there (d .index) below (v .standing) l)
 
         module _ {n : ℕ} {hs : List ℕ} (t : TableOf n hs rows) (r : Ready n x hs queue₀ tail from₀) where
           ready : Ready n x hs queue end from
@@ -145,7 +149,7 @@ module _
                       rest = rw same at (step t r);
                     };
               }),
-          omega (arith, f, after .2, visit-places v l .1, d .few),
+          omega (arith, f, after .2, visit-places v l .1, d .index .few),
         )
 
         pub visit-ends : {y z : ℕ} → w ≡ Found y z
@@ -159,4 +163,4 @@ module _
         → ForEach rows (λ n hs. Ready n x hs queue₀ tail from₀) (λ n hs. Is (RanOut end) queue from (visit n limit hs x (neighbours ls x) (more (take tail queue₀) from₀)))
     unfolding visit
     visit-out {queue} {from} {end} {e} v l n hs t r =
-        let done = v .each n hs t r in more-is (sym (rw (chain-end d below l) at (done .rest))) (done .ready .within)
+        let done = v .each n hs t r in more-is (sym (rw (chain-end (d .index) below l) at (done .rest))) (done .ready .within)

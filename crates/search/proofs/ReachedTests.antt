@@ -23,7 +23,7 @@ use Rattle.search.specs.ChokeSet.{chokeWalk, walkSaw}
 use Rattle.search.specs.Reached.{queuedFrom, seenFrom, setWritten, reachable, reachedAnswer, queuedWritten, seenWritten}
 use Rattle.search.specs.ReachedPre.{Unmarked, Marked, joined, Sets, bothCounted}
 use Rattle.search.proofs.Rows.{take-replicate, rows-whole}
-use Rattle.search.proofs.States.{going-start, placeable-startable}
+use Rattle.search.proofs.States.{none-marked, going-start, placeable-startable}
 use Rattle.search.proofs.Settling.{settle-walked}
 use Rattle.search.proofs.Seen.{walked-seen, zero-walk}
 use Rattle.search.proofs.Tested.{placeable-means, placeable-holds}
@@ -58,7 +58,7 @@ module _ {n : ℕ} {hs : List ℕ} {v : ℕ} {from queue : List ℕ} {rows : Lis
       → length from' ≡ length from → Marked n ls hs v from'
   unfolding seenFrom walkSaw chokeWalk
   from-marks limits ls {r} {queue'} {from'} each none same =
-      record { marks = same ∙ rw (u .unseen) (length-replicate n NONE); saw = walked-seen r queue' from' (settle-walked (at limits) ls from-settles each .state ∙ zero-walk n limits ls hs (v ∷ []) from none (u .unseen)) }
+      record { marks = same ∙ none-marked (u .unseen); saw = walked-seen r queue' from' (settle-walked (at limits) ls from-settles each .state ∙ zero-walk n limits ls hs (v ∷ []) from none (u .unseen)) }
 
 -- whether the sets may be written: what the test says, and what it takes
 module _ (n : ℕ) (hs : List ℕ) (v room room' : ℕ) where

@@ -22,7 +22,7 @@ use Rattle.packing.proofs.Lists.{listOf-ext, zero-at}
 use Rattle.sound.proofs.Searchable.{Searchable}
 use Rattle.search.proofs.Rows.{rows-whole}
 use Rattle.search.proofs.Settling.{workspace}
-use Rattle.search.proofs.States.{going-start}
+use Rattle.search.proofs.States.{none-marked, going-start}
 use Rattle.search.proofs.Unheld.{unheld-startable}
 
 -- a byte of one that is not seen, and of one that is
@@ -66,7 +66,7 @@ module _ {n : ℕ} {rows : List (List ℕ)} {hs queue from out queue' : List ℕ
 
   -- the marks keep their number, which is n
   marks-long : {m : ℕ} → m ≡ length from → m ≡ n
-  marks-long same = same ∙ rw (w .space .unseen) (length-replicate n NONE)
+  marks-long same = same ∙ none-marked (w .space .unseen)
 
   -- .. so there is a byte for each
   pub set-places : {m : ℕ} → m ≡ length from → m ≤ length out

@@ -7,7 +7,7 @@ use native.Mathlib.Numerals.{add-one}
 use native.Mathlib.Omega.{arith}
 use lib.ListN.{length, take}
 use lib.Seq.{length-take-le, getD-take}
-use Rattle.packing.specs.Plant.{at, neighbours}
+use Rattle.packing.specs.Plant.{GATEWAYS, at, neighbours}
 use Rattle.search.specs.Search.{more, visit, turns}
 use Rattle.search.specs.declared.Walked.{Walked}
 use Rattle.search.specs.declared.Walked.the-variants.{Found, RanOut}
@@ -37,6 +37,10 @@ module _
     module _ {queue from : List ℕ} {end head : ℕ} (v : Walking limit ls rows queue₀ tail from₀ queue from end head) (l : head < end) where
       long : length (take end queue) ≡ end
       long = length-take-le end queue (v .within)
+
+      -- no more are queued than there are gateways
+      pub walk-below : head < GATEWAYS
+      walk-below = let w = v .each (some .n) (some .hs) (some .table) (some .has) in omega (arith, long, w .going .room, w .going .few)
 
       here : at (take end queue) head ≡ at queue head
       here = getD-take end queue head 0 l

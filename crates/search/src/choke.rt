@@ -8,7 +8,7 @@ use crate::walk::walk;
 ghost use mathlib.Core.Path.{_≡_};
 ghost use lib.ListN.{length};
 ghost use Rattle.packing.specs.Lists.{listOf, written};
-ghost use Rattle.chains.specs.Index.{Index};
+ghost use Rattle.chains.specs.Index.{IndexFor};
 ghost use Rattle.search.specs.ChokeSet.{chokeByte, chokeable, chokeWritten};
 ghost use Rattle.search.specs.ChokePre.{Workable};
 
@@ -23,7 +23,7 @@ pub fn write_set(
     from: &mut [u16],
     out: &mut [u8],
 )
-    requires { ⌜ Index (now links) (now next) × Workable n (now rows) (now holders) (now queue) (now from) (now out) ⌝ }
+    requires { ⌜ IndexFor n (now links) (now next) × Workable n (now rows) (now holders) (now queue) (now from) (now out) ⌝ }
     ensures { λ _. ⌜ now (out .exit) ≡ written n (listOf n (chokeByte n (now (links .entry)) (now (holders .entry)))) (now (out .entry)) ⌝ }
 {
     let tail = queue_unheld(n, holders, queue);
@@ -57,7 +57,7 @@ fn is_chokeable(n: u16, holders: &[u16], room: usize) -> bool
 // Writes the choke bytes to the first n places of out, with the index of the links, and answers whether they may be written; if not, nothing is changed.
 // The equation shuts out, for one, the set seen from the first gateway without holder alone; and a walk that stops at a gateway with a place free.
 pub fn choke_set(n: u16, links: &[u16], next: &[u16], holders: &[u16], out: &mut [u8]) -> bool
-    requires { ⌜ Index (now links) (now next) ⌝ }
+    requires { ⌜ IndexFor n (now links) (now next) ⌝ }
     ensures done { λ r. ⌜ r ≡ chokeable n (now (holders .entry)) (length (now (out .entry))) ⌝ }
     ensures out { λ _. ⌜ now (out .exit) ≡ chokeWritten n (now (links .entry)) (now (holders .entry)) (now (out .entry)) ⌝ }
 {

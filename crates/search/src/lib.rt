@@ -17,7 +17,7 @@ ghost use mathlib.Core.Path.{_≡_};
 ghost use mathlib.Core.List.{[], _∷_};
 ghost use Rattle.packing.specs.Plant.{at};
 ghost use Rattle.packing.specs.Moved.{moved};
-ghost use Rattle.chains.specs.Index.{Index};
+ghost use Rattle.chains.specs.Index.{IndexFor};
 ghost use Rattle.search.specs.Search.{placeable, placedHolders, holdersAfter};
 ghost use Rattle.search.specs.Moved.{placeAnswer};
 ghost use Rattle.search.specs.Dead.{walkPast};
@@ -50,7 +50,7 @@ fn settle(
     looked: &mut [u16],
     count: &mut usize,
 ) -> u16
-    requires { ⌜ Index (now links) (now next) × Settleable n (now holders) v (now rows) (now queue) (now from) ⌝ }
+    requires { ⌜ IndexFor n (now links) (now next) × Settleable n (now holders) v (now rows) (now queue) (now from) ⌝ }
     ensures outcome { λ r. ⌜ Outcome n v (now (holders .entry)) (walkPast n (at (now (limits .entry))) (now (links .entry)) (now (holders .entry)) (v ∷ []) (now (from .entry))) r (now (holders .exit)) (now (from .exit)) (now (rows .entry)) (now (rows .exit)) ⌝ }
     ensures marks { λ _. ⌜ Notes (now (looked .entry)) (now (count .entry)) (now (from .entry)) (now (looked .exit)) (now (count .exit)) (now (from .exit)) ⌝ }
 {
@@ -71,7 +71,7 @@ fn place_unheld(
     next: &[u16],
     holders: &mut [u16],
 ) -> u16
-    requires { ⌜ Index (now links) (now next) × Placeable n (now holders) v ⌝ }
+    requires { ⌜ IndexFor n (now links) (now next) × Placeable n (now holders) v ⌝ }
     ensures holders { λ _. ⌜ now (holders .exit) ≡ placedHolders n (at (now (limits .entry))) (now (links .entry)) (now (holders .entry)) v ⌝ }
     ensures moved { λ r. ⌜ r ≡ moved n (at (now (holders .entry))) (at (placedHolders n (at (now (limits .entry))) (now (links .entry)) (now (holders .entry)) v)) ⌝ }
 {
@@ -119,7 +119,7 @@ pub fn place(
     next: &[u16],
     holders: &mut [u16],
 ) -> Placed
-    requires { ⌜ Index (now links) (now next) ⌝ }
+    requires { ⌜ IndexFor n (now links) (now next) ⌝ }
     ensures answer { λ r. ⌜ r ≡ placeAnswer n (at (now (limits .entry))) (now (links .entry)) (now (holders .entry)) v ⌝ }
     ensures holders { λ _. ⌜ now (holders .exit) ≡ holdersAfter n (at (now (limits .entry))) (now (links .entry)) (now (holders .entry)) v ⌝ }
 {

@@ -5,7 +5,7 @@ use crate::walk::walk;
 ghost use mathlib.Core.Path.{_≡_};
 ghost use lib.ListN.{length};
 ghost use Rattle.packing.specs.Lists.{listWhere, written, Lent};
-ghost use Rattle.chains.specs.Index.{Index};
+ghost use Rattle.chains.specs.Index.{IndexFor};
 ghost use Rattle.search.specs.Search.{seen};
 ghost use Rattle.search.specs.Reached.{queuedFrom, seenFrom, setWritten, reachable, reachedAnswer, queuedWritten, seenWritten};
 ghost use Rattle.search.specs.ReachedPre.{Unmarked, Marked, joined, Sets, bothCounted};
@@ -19,7 +19,7 @@ pub struct Reached {
 
 // Marks all that the walk from v sees.
 fn walk_from(n: u16, v: u16, links: &[u16], next: &[u16], holders: &[u16], from: &mut [u16])
-    requires { ⌜ Index (now links) (now next) × Unmarked n (now holders) v (now from) ⌝ }
+    requires { ⌜ IndexFor n (now links) (now next) × Unmarked n (now holders) v (now from) ⌝ }
     ensures { λ _. ⌜ Marked n (now (links .entry)) (now (holders .entry)) v (now (from .exit)) ⌝ }
 {
     let mut rows = empty_rows();
@@ -110,7 +110,7 @@ fn write_sets(
     queued: &mut [u16],
     seen: &mut [u16],
 ) -> Reached
-    requires { ⌜ Index (now links) (now next) × Sets n (now holders) v (now from) (now queued) (now seen) ⌝ }
+    requires { ⌜ IndexFor n (now links) (now next) × Sets n (now holders) v (now from) (now queued) (now seen) ⌝ }
     ensures answer { λ r. ⌜ r ≡ bothCounted n (now (links .entry)) (now (holders .entry)) v ⌝ }
     ensures queued { λ _. ⌜ now (queued .exit) ≡ setWritten n (queuedFrom n (now (links .entry)) (now (holders .entry)) v) (now (queued .entry)) ⌝ }
     ensures seen { λ _. ⌜ now (seen .exit) ≡ setWritten n (seenFrom n (now (links .entry)) (now (holders .entry)) v) (now (seen .entry)) ⌝ }
@@ -145,7 +145,7 @@ pub fn reached_from(
     queued: &mut [u16],
     seen: &mut [u16],
 ) -> Reached
-    requires { ⌜ Index (now links) (now next) ⌝ }
+    requires { ⌜ IndexFor n (now links) (now next) ⌝ }
     ensures answer { λ r. ⌜ r ≡ reachedAnswer n (now (links .entry)) (now (holders .entry)) v (length (now (queued .entry))) (length (now (seen .entry))) ⌝ }
     ensures queued { λ _. ⌜ now (queued .exit) ≡ queuedWritten n (now (links .entry)) (now (holders .entry)) v (now (queued .entry)) (now (seen .entry)) ⌝ }
     ensures seen { λ _. ⌜ now (seen .exit) ≡ seenWritten n (now (links .entry)) (now (holders .entry)) v (now (queued .entry)) (now (seen .entry)) ⌝ }

@@ -4,16 +4,17 @@ use crate::held::Row;
 use crate::held::has_place;
 use crate::held::join;
 use crate::noted::note;
-ghost use lib.ListN.{take};
+ghost use Prim.Native.Nat.{_<_};
+ghost use lib.ListN.{length, take};
 ghost use Rattle.packing.specs.Plant.{at, neighbours};
-ghost use Rattle.chains.specs.Index.{Index};
+ghost use Rattle.chains.specs.Index.{IndexFor};
 ghost use Rattle.search.specs.Search as model;
 ghost use Rattle.search.specs.Search.{more};
 ghost use Rattle.search.specs.Dead.{walkPast};
 ghost use Rattle.search.specs.Noted.{Notes};
 ghost use Rattle.search.specs.Pre.{ForEach, ForSome, Is, Ready, Walkable};
 
-// Looks at u from x. If it marks u, u is noted.
+// Looks at u, a gateway, from x. If it marks u, u is noted.
 fn look(
     limits: &[u8],
     x: u16,
@@ -25,14 +26,14 @@ fn look(
     looked: &mut [u16],
     count: &mut usize,
 ) -> Walked
-    requires { ⌜ ForSome (now rows) (λ n hs. Ready n x hs (now queue) tail (now from)) ⌝ }
+    requires { ⌜ (u < length (now from)) × ForSome (now rows) (λ n hs. Ready n x hs (now queue) tail (now from)) ⌝ }
     ensures state { λ r. ⌜ ForEach (now (rows .entry)) (λ n hs. Ready n x hs (now (queue .entry)) tail (now (from .entry))) (λ n hs. Is r (now (queue .exit)) (now (from .exit)) (model.look n (at (now (limits .entry))) hs x u (take tail (now (queue .entry))) (now (from .entry)))) ⌝ }
     ensures marks { λ _. ⌜ Notes (now (looked .entry)) (now (count .entry)) (now (from .entry)) (now (looked .exit)) (now (count .exit)) (now (from .exit)) ⌝ }
 {
-    if lists::entry(from, u) != lists::NONE {
+    if from[u as usize] != lists::NONE {
         return Walked::RanOut(tail);
     }
-    lists::put(from, u, x);
+    from[u as usize] = x;
     note(u, looked, count);
     if has_place(&rows[u as usize], lists::byte(limits, u as usize)) {
         return Walked::Found(u, x);
@@ -53,7 +54,7 @@ fn visit(
     looked: &mut [u16],
     count: &mut usize,
 ) -> Walked
-    requires { ⌜ Index (now links) (now next) × ForSome (now rows) (λ n hs. Ready n x hs (now queue) tail (now from)) ⌝ }
+    requires { ⌜ IndexFor (length (now from)) (now links) (now next) × ForSome (now rows) (λ n hs. Ready n x hs (now queue) tail (now from)) ⌝ }
     ensures state { λ r. ⌜ ForEach (now (rows .entry)) (λ n hs. Ready n x hs (now (queue .entry)) tail (now (from .entry))) (λ n hs. Is r (now (queue .exit)) (now (from .exit)) (model.visit n (at (now (limits .entry))) hs x (neighbours (now (links .entry)) x) (more (take tail (now (queue .entry))) (now (from .entry))))) ⌝ }
     ensures marks { λ _. ⌜ Notes (now (looked .entry)) (now (count .entry)) (now (from .entry)) (now (looked .exit)) (now (count .exit)) (now (from .exit)) ⌝ }
 {
@@ -83,7 +84,7 @@ pub(crate) fn walk(
     looked: &mut [u16],
     count: &mut usize,
 ) -> Walked
-    requires { ⌜ Index (now links) (now next) × ForSome (now rows) (λ n hs. Walkable n hs (now queue) tail (now from)) ⌝ }
+    requires { ⌜ IndexFor (length (now from)) (now links) (now next) × ForSome (now rows) (λ n hs. Walkable n hs (now queue) tail (now from)) ⌝ }
     ensures state { λ r. ⌜ ForEach (now (rows .entry)) (λ n hs. Walkable n hs (now (queue .entry)) tail (now (from .entry))) (λ n hs. Is r (now (queue .exit)) (now (from .exit)) (walkPast n (at (now (limits .entry))) (now (links .entry)) hs (take tail (now (queue .entry))) (now (from .entry)))) ⌝ }
     ensures marks { λ _. ⌜ Notes (now (looked .entry)) (now (count .entry)) (now (from .entry)) (now (looked .exit)) (now (count .exit)) (now (from .exit)) ⌝ }
 {

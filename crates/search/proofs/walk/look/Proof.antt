@@ -1,3 +1,5 @@
+use borrow.Author.Needs.{needs}
+use mathlib.Core.Path.{refl}
 use Rattle.packing.specs.Plant.{at}
 use Rattle.search.proofs.Noting.{notes-same}
 use Rattle.search.proofs.Looks.{look-is-seen, look-row, look-joins, look-notes, look-is-free, look-is-full}
@@ -5,17 +7,20 @@ use borrow.Author.Needs.{needs}
 use Rattle.search.proofs.walk.look.Statement.{statement}
 use Rattle.search.proofs.walk.look.Tie as tie
 
-entry-requires : tie.Need-entry-requires
-entry-requires c κs = search needs
+mul-if1 : tie.Need-mul-if1
+mul-if1 c = search needs
 
-same-length : tie.Need-same-length
-same-length c = search needs
+slice-read-if1 : tie.Need-slice-read-if1
+slice-read-if1 c = search needs
 
 returns : tie.Need-returns
-returns c = (λ n hs t r. look-is-seen _ _ t r (c .before .entry .ensures) (c .if1 .taken), notes-same _ _ _)
+returns c = (λ n hs t r. look-is-seen _ _ t r refl (c .if1 .taken), notes-same _ _ _)
 
-put-requires : tie.Need-put-requires
-put-requires c κs = search needs
+mul-from : tie.Need-mul-from
+mul-from c = search needs
+
+slice-write-from : tie.Need-slice-write-from
+slice-write-from c = search needs
 
 note-requires : tie.Need-note-requires
 note-requires c κs = search needs
@@ -24,9 +29,9 @@ mul-has-place : tie.Need-mul-has-place
 mul-has-place c = search needs
 
 shared-slice-element-has-place : tie.Need-shared-slice-element-has-place
-shared-slice-element-has-place c = let left = c .before .before .before .before .before .before .before .before .before in
-    let start = left .before .before .before .before .before .before .before in
-    look-row (at (start .args .limits .now)) _ (start .pre .table) (start .pre .has) (left .before .entry .ensures) (left .if1 .left)
+shared-slice-element-has-place c = let left = c .before .before .before .before .before in
+    let start = left .before .before .before .before .before .before in
+    look-row (at (start .args .limits .now)) _ (start .pre .1 .table) (start .pre .1 .has) refl (left .if1 .left)
 
 byte-requires : tie.Need-byte-requires
 byte-requires c κs = search needs
@@ -34,35 +39,37 @@ byte-requires c κs = search needs
 has-place-requires : tie.Need-has-place-requires
 has-place-requires c κs = search needs
 
+same-length : tie.Need-same-length
+same-length c = search needs
+
 same-length-2 : tie.Need-same-length-2
 same-length-2 c = search needs
-
-same-length-3 : tie.Need-same-length-3
-same-length-3 c = search needs
 
 returns-2 : tie.Need-returns-2
 returns-2 c = let place = c .before in
     let limit = place .before in
     let noted = limit .before .before .before .before .before in
-    let mark = noted .before .before .before .before .before in
-    let left = mark .before .before in
-    let start = left .before .before .before .before .before .before .before in (
-      λ n hs t r. look-is-free _ _ t r (left .before .entry .ensures) (left .if1 .left) (mark .put .ensures) (limit .byte .ensures) (place .has-place .ensures) (c .if2 .taken),
-      look-notes (at (start .args .limits .now)) _ (start .pre .table) (start .pre .has) (left .before .entry .ensures) (left .if1 .left) (mark .put .ensures) (noted .note .ensures),
+    let left = noted .before .before .before in
+    let start = left .before .before .before .before .before .before in (
+      λ n hs t r. look-is-free _ _ t r refl (left .if1 .left) refl (limit .byte .ensures) (place .has-place .ensures) (c .if2 .taken),
+      look-notes (at (start .args .limits .now)) _ (start .pre .1 .table) (start .pre .1 .has) refl (left .if1 .left) refl (noted .note .ensures),
     )
 
 mul-join : tie.Need-mul-join
 mul-join c = search needs
 
 shared-slice-element-join : tie.Need-shared-slice-element-join
-shared-slice-element-join c = let left = c .before .before .before .before .before .before .before .before .before .before .before .before .before .before in
-    let start = left .before .before .before .before .before .before .before in
-    look-row (at (start .args .limits .now)) _ (start .pre .table) (start .pre .has) (left .before .entry .ensures) (left .if1 .left)
+shared-slice-element-join c = let left = c .before .before .before .before .before .before .before .before .before .before in
+    let start = left .before .before .before .before .before .before in
+    look-row (at (start .args .limits .now)) _ (start .pre .1 .table) (start .pre .1 .has) refl (left .if1 .left)
 
 join-requires : tie.Need-join-requires
-join-requires c κs = let left = c .before .before .before .before .before .before .before .before .before .before .before .before .before .before .before .before .before in
-    let start = left .before .before .before .before .before .before .before in
-    look-joins (at (start .args .limits .now)) _ (start .pre .table) (start .pre .has) (left .before .entry .ensures) (left .if1 .left)
+join-requires c κs = let left = c .before .before .before .before .before .before .before .before .before .before .before .before .before in
+    let start = left .before .before .before .before .before .before in
+    look-joins (at (start .args .limits .now)) _ (start .pre .1 .table) (start .pre .1 .has) refl (left .if1 .left)
+
+same-length-3 : tie.Need-same-length-3
+same-length-3 c = search needs
 
 same-length-4 : tie.Need-same-length-4
 same-length-4 c = search needs
@@ -70,42 +77,39 @@ same-length-4 c = search needs
 same-length-5 : tie.Need-same-length-5
 same-length-5 c = search needs
 
-same-length-6 : tie.Need-same-length-6
-same-length-6 c = search needs
-
 returns-3 : tie.Need-returns-3
 returns-3 c = let joined = c .before .before in
     let full = joined .before .before .before .before in
     let place = full .before in
     let limit = place .before in
     let noted = limit .before .before .before .before .before in
-    let mark = noted .before .before .before .before .before in
-    let left = mark .before .before in
-    let start = left .before .before .before .before .before .before .before in (
-      λ n hs t r. look-is-full _ _ t r (left .before .entry .ensures) (left .if1 .left) (mark .put .ensures) (limit .byte .ensures) (place .has-place .ensures) (full .if2 .left) (joined .join .ensures),
-      look-notes (at (start .args .limits .now)) _ (start .pre .table) (start .pre .has) (left .before .entry .ensures) (left .if1 .left) (mark .put .ensures) (noted .note .ensures),
+    let left = noted .before .before .before in
+    let start = left .before .before .before .before .before .before in (
+      λ n hs t r. look-is-full _ _ t r refl (left .if1 .left) refl (limit .byte .ensures) (place .has-place .ensures) (full .if2 .left) (joined .join .ensures),
+      look-notes (at (start .args .limits .now)) _ (start .pre .1 .table) (start .pre .1 .has) refl (left .if1 .left) refl (noted .note .ensures),
     )
 
 pub look-spec : {M : Type 1} → statement M
 look-spec =
     tie.close
     (tie.spec
-    entry-requires
-    same-length
+    mul-if1
+    slice-read-if1
     returns
-    put-requires
+    mul-from
+    slice-write-from
     note-requires
     mul-has-place
     shared-slice-element-has-place
     byte-requires
     has-place-requires
+    same-length
     same-length-2
-    same-length-3
     returns-2
     mul-join
     shared-slice-element-join
     join-requires
+    same-length-3
     same-length-4
     same-length-5
-    same-length-6
     returns-3)

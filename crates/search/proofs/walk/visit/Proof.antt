@@ -4,7 +4,7 @@ use mathlib.Core.Path.{refl}
 use native.Mathlib.Omega.{arith}
 use Rattle.packing.specs.Plant.{NONE, at}
 use Rattle.search.proofs.Noting.{NotesSo, notes-same, notes-then, notes-on}
-use Rattle.search.proofs.Looks.{Visiting, ready-below, visit-start, visit-ready, visit-places, visit-turn, visit-ends, visit-out}
+use Rattle.search.proofs.Looks.{Visiting, ready-below, visit-start, visit-ready, visit-places, visit-neighbour, visit-turn, visit-ends, visit-out}
 use Rattle.search.proofs.walk.visit.Statement.{statement}
 use Rattle.search.proofs.walk.visit.Tie as tie
 
@@ -16,7 +16,7 @@ abbrev μ-loop : tie.MeasureT-loop
 
 first-end-requires : tie.Need-first-end-requires Inv-loop μ-loop
 first-end-requires c κs = let start = c .before .before .before .before .before .before in
-    (omega (arith, start .pre .0 .room), ready-below (start .pre .1))
+    (omega (arith, start .pre .0 .index .room), ready-below (start .pre .1))
 
 loop-holds : tie.Need-loop-holds Inv-loop μ-loop
 loop-holds c = let start = c .before .before .before .before .before .before .before in
@@ -30,7 +30,10 @@ neighbour-at-requires c κs = let turn = c .before in
 look-requires : tie.Need-look-requires Inv-loop μ-loop
 look-requires c κs = let turn = c .before .before .before .before .before .before in
     let start = turn .before .before .before .before .before .before .before .before in
-    visit-ready _ _ _ _ _ _ _ _ (start .pre .0) (start .pre .1) (turn .loop .inv .0)
+    (
+      visit-neighbour _ _ _ _ _ _ _ _ (start .pre .0) (start .pre .1) (turn .loop .inv .0) (c .before .before .before .before .before .loop-test .taken) (c .before .before .before .before .neighbour-at .ensures),
+      visit-ready _ _ _ _ _ _ _ _ (start .pre .0) (start .pre .1) (turn .loop .inv .0),
+    )
 
 enum-known-w : tie.Need-enum-known-w Inv-loop μ-loop
 enum-known-w c = search needs

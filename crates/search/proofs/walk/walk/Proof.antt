@@ -4,7 +4,8 @@ use mathlib.Core.Path.{refl}
 use lib.ListN.{length}
 use Rattle.packing.specs.Plant.{at}
 use Rattle.search.proofs.Noting.{NotesSo, notes-same, notes-then, notes-on}
-use Rattle.search.proofs.Turns.{Walking, walk-start, walk-ready, walk-turn, walk-ends, walk-out}
+use Rattle.search.proofs.States.{marked-index}
+use Rattle.search.proofs.Turns.{Walking, walk-start, walk-below, walk-ready, walk-turn, walk-ends, walk-out}
 use Rattle.search.proofs.walk.walk.Statement.{statement}
 use Rattle.search.proofs.walk.walk.Tie as tie
 
@@ -26,7 +27,7 @@ slice-read-x c = search needs
 visit-requires : tie.Need-visit-requires Inv-loop μ-loop
 visit-requires c κs = let turn = c .before .before .before .before .before in
     let start = turn .before .before .before .before .before .before .before .before in
-    (start .pre .0, walk-ready _ _ _ _ _ _ (start .pre .1) (turn .before .loop .inv .0) (turn .loop-test .taken))
+    (marked-index (turn .before .loop .inv .0 .same .1) (start .pre .0), walk-ready _ _ _ _ _ _ (start .pre .1) (turn .before .loop .inv .0) (turn .loop-test .taken))
 
 enum-known-w : tie.Need-enum-known-w Inv-loop μ-loop
 enum-known-w c = search needs
@@ -51,7 +52,8 @@ enum-known-w-2 : tie.Need-enum-known-w-2 Inv-loop μ-loop
 enum-known-w-2 c = search needs
 
 add-head : tie.Need-add-head Inv-loop μ-loop
-add-head c = search needs
+add-head c = let turn = c .before .before .before .before .before .before .before .before .before .before .before .before .before .before .before in
+    search (needs, walk-below _ _ _ _ _ _ (turn .before .before .before .before .before .before .before .before .pre .1) (turn .before .loop .inv .0) (turn .loop-test .taken))
 
 loop-less : tie.Need-loop-less Inv-loop μ-loop
 loop-less c = search needs
