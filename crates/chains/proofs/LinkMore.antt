@@ -141,3 +141,7 @@ index-for n ls ends d =
           let (first, second, differ) = ends _ _ (linked-own ls (e / 2) h) in
           ⊎-elim (λ k. subst (λ (i : ℕ). at ls i < n) (sym (k .0)) first) (λ k. subst (λ (i : ℕ). at ls i < n) (sym (k .0)) second) (mates e);
     }
+
+-- .. however their number is told
+pub index-told : {n k : ℕ} {ls next : List ℕ} → k ≡ n → IndexFor n ls next → IndexFor k ls next
+index-told {ls = ls} {next} e d = subst (λ (i : ℕ). IndexFor i ls next) (sym e) d

@@ -1,5 +1,5 @@
 -- Why a gateway is alone in a file's plan: the refusals, and what the call gives by them.
-use Prim.Native.Nat.{ℕ, zero, suc, _≤_}
+use Prim.Native.Nat.{ℕ, zero, suc, _<_, _≤_}
 use mathlib.Core.Path.{_≡_, refl, sym, ap, _∙_}
 use mathlib.Core.Bool.{Bool, true}
 use mathlib.Core.List.{List}
@@ -7,6 +7,7 @@ use native.Mathlib.Omega.{arith}
 use lib.ListN.{length}
 use borrow.Author.Tests.{le-ltb}
 use Rattle.packing.specs.Count.{count}
+use Rattle.packing.specs.Plant.{linked}
 use Rattle.packing.specs.Lists.{listWhere, written}
 use Rattle.packing.specs.Refusals.{firstOf, byNumber}
 use Rattle.packing.proofs.Sums.{count-bound}
@@ -22,7 +23,7 @@ use Rattle.violator.specs.declared.WhyCounts.{WhyCounts}
 use Rattle.violator.specs.WhyPlaced.{countsOf}
 use Rattle.violator.specs.WhyAlone.{whyConditions, whyRefusal, inFirst, inSecond, firstCount, secondCount, whyAnswer, whyFirst, whySecond}
 use Rattle.violator.proofs.WhyTests.{out-of-range}
-use Rattle.plant_file.specs.PlantFile.{fileN, fileRefusal}
+use Rattle.plant_file.specs.PlantFile.{fileN, fileLinks, fileRefusal}
 use Rattle.plan.specs.Plan.{fileState}
 use Rattle.plan.specs.Why.{fileWhyRefusal, fileFirst, fileSecond, fileWhy, firstWritten, secondWritten}
 use Rattle.plan.specs.declared.why.Why.{Why}
@@ -37,6 +38,10 @@ module _ (file : List ℕ) (z : fileRefusal file ≡ 0) where
   pub state-sound : soundState (fileState file) ≡ true
   unfolding soundState fileState
   state-sound = means-sound _ _ _ _ _ _ _ _ (file-agrees file z Queued (fileN file) (omega arith) .made .sound)
+
+  -- .. so that its links are between gateways
+  pub file-ends : (x y : ℕ) → linked (fileLinks file) x y ≡ true → (x < fileN file) × (y < fileN file) × (x ≡ y → ⊥)
+  file-ends = let g = file-agrees file z Queued 0 (omega arith) in rw (g .small, g .links) at (g .made .sound .ends)
 
 -- the file's number, and 30 for a number that is no gateway
 module _ (file : List ℕ) (v a b : ℕ) {e : ℕ} (of : e ≡ fileRefusal file) where

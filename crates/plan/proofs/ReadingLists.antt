@@ -14,6 +14,7 @@ use Rattle.packing.proofs.Tests.{and-l, and-r}
 use Rattle.packing.proofs.Lists.{listOf-ext, written-room, written-at, written-front, written-whole, repeated-at}
 use Rattle.sound.specs.Searchable.{searchable}
 use Rattle.sound.proofs.Searchable.{Searchable, searchable-holds, sound-searchable}
+use Rattle.chains.proofs.LinkMore.{index-for}
 use Rattle.search.specs.Search.{seen}
 use Rattle.search.specs.ChokeSet.{inChoke, chokeByte}
 use Rattle.search.specs.ChokePre.{seenByte, Workable}
@@ -41,7 +42,7 @@ use Rattle.plan.specs.After.{planAfterRefusal}
 use Rattle.plan.specs.Pre.{isQueued, Loaded, Placings, DeadChoke, NobodyIn, Making, Choking, Readable}
 use Rattle.plan.proofs.Refusing.{plan-places}
 use Rattle.plan.proofs.After.{reads, file-agrees}
-use Rattle.plan.proofs.Asking.{state-sound}
+use Rattle.plan.proofs.Asking.{state-sound, file-ends}
 use Rattle.plan.proofs.NextPlacing.{first-holders}
 
 -- the arrays to work in, of which the first n marks are lent
@@ -187,7 +188,7 @@ module _
         record {
           accepted = sym of ∙ fine;
           links = loaded-links;
-          index = rw loaded-links (d fine .index);
+          index = rw loaded-links (index-for (fileN file) (fileLinks file) (file-ends file (sym of ∙ fine)) (d fine .index));
           order-long = rw (d fine .ordered) (written-room (fileN file) (fileOrder file) order₀ (order-long file));
           order = λ i l. rw (d fine .ordered) (written-at (fileN file) (fileOrder file) order₀ (order-long file) i l);
           limits = λ u l. rw (d fine .limited) (written-at (fileN file) (fileLimits file) limits₀ (limits-long file) u l ∙ limits-at file u l);

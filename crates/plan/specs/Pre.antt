@@ -5,7 +5,7 @@ use mathlib.Core.Bool.{Bool, true, false}
 use mathlib.Core.List.{List}
 use lib.ListN.{length, replicate}
 use Rattle.packing.specs.Plant.{GATEWAYS, HIGHEST, NONE, at}
-use Rattle.chains.specs.Index.{Index}
+use Rattle.chains.specs.Index.{IndexFor}
 use Rattle.search.specs.Search.{seen}
 use Rattle.search.specs.RowPre.{RowsOf}
 use Rattle.search.specs.ChokeSet.{inChoke}
@@ -29,7 +29,7 @@ DeadBy Recursive n limit ls hs v dead hs' dead' = dead' ≡ dead
 pub record Loaded (file ls next os ts : List ℕ) : Type 0 where
   pub accepted : fileRefusal file ≡ 0
   pub links : ls ≡ fileLinks file
-  pub index : Index ls next
+  pub index : IndexFor (fileN file) ls next
   pub order-long : fileN file ≤ length os
   pub order : (i : ℕ) → i < fileN file → at os i ≡ at (fileOrder file) i
   pub limits : (u : ℕ) → u < fileN file → at ts u ≡ fileLimit file u
@@ -68,7 +68,7 @@ pub record Making (file : List ℕ) (k : ℕ) (ls next os ts : List ℕ) (rows :
 pub record Choking (w : Way) (file : List ℕ) (k : ℕ) (ls next : List ℕ) (rows : List (List ℕ)) (hs queue dead choke : List ℕ) : Type 0 where
   pub accepted : fileRefusal file ≡ 0
   pub links : ls ≡ fileLinks file
-  pub index : Index ls next
+  pub index : IndexFor (fileN file) ls next
   pub within : k ≤ fileN file
   pub made : hs ≡ stateBy w file k .holders
   pub table : RowsOf (fileN file) hs rows

@@ -13,7 +13,8 @@ use Rattle.packing.specs.Holders.{held}
 use Rattle.packing.specs.Moved.{moved}
 use Rattle.packing.proofs.Turns.{Says}
 use Rattle.chains.specs.Build.{Joining}
-use Rattle.chains.proofs.LinkMore.{joining-linked}
+use Rattle.chains.specs.Index.{Index, IndexFor}
+use Rattle.chains.proofs.LinkMore.{joining-linked, index-for}
 use Rattle.search.specs.ChokeSet.{chokeByte, chokeWritten}
 use Rattle.search.specs.declared.Placed.{Placed}
 use Rattle.search.specs.Pre.{Placeable}
@@ -58,6 +59,11 @@ checked n t m k ls os hs ts {v} e f = sound-means n t m k ls os hs ts (sym e ∙
 pub sound-joining : {n t m k : ℕ} {ls os hs ts : List ℕ} → Sound n t m k ls os hs ts → (length (take (2 * m) ls) ≤ ENDS) × Joining (take (2 * m) ls)
 unfolding firstLinks
 sound-joining {n} {m = m} {ls = ls} sound = (omega (arith, length-take-le (2 * m) ls (sound .links-long), sound .few-links), joining-linked n (take (2 * m) ls) (sound .few) (sound .ends))
+
+-- .. which is one for its gateways
+pub sound-index : {n t m k : ℕ} {ls os hs ts next : List ℕ} → Sound n t m k ls os hs ts → Index (take (2 * m) ls) next → IndexFor n (take (2 * m) ls) next
+unfolding firstLinks
+sound-index {n} {m = m} {ls = ls} sound d = index-for n (take (2 * m) ls) (sound .ends) d
 
 -- one with no holder is not held
 pub none-unheld : (n : ℕ) (hs : List ℕ) (v : ℕ) → n ≤ GATEWAYS → at hs v ≡ NONE → held n (at hs) v ≡ false

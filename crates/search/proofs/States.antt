@@ -1,6 +1,6 @@
 -- States of the search: who is seen, the three ways a look ends, and room for all that may yet join the queue.
 use Prim.Native.Nat.{ℕ, zero, suc, _+_, _<_, _≤_}
-use mathlib.Core.Path.{_≡_, refl, sym, ap, subst, _∙_}
+use mathlib.Core.Path.{_≡_, refl, sym, ap, _∙_}
 use mathlib.Core.Bool.{Bool, true, false, not, _&&_, and-false}
 use mathlib.Core.List.{List, [], _∷_, _++_}
 use native.Mathlib.Omega.{arith}
@@ -17,7 +17,6 @@ use Rattle.packing.proofs.Moved.{count-point}
 use Rattle.search.specs.Search.{Search, found, more, seen, heldBy, look, visit, turn, turns, walk}
 use Rattle.search.specs.Pre.{waiting, Going, Startable, Placeable}
 use Rattle.packing.proofs.Lists.{member-at}
-use Rattle.chains.specs.Index.{IndexFor}
 use Rattle.search.proofs.Queue.{append-at, heldBy-length, heldBy-out}
 
 -- a gateway is no NONE
@@ -27,10 +26,6 @@ gateway-some few l e = omega arith
 -- marks of nobody, one for each gateway
 pub none-marked : {n : ℕ} {from : List ℕ} → from ≡ replicate n NONE → length from ≡ n
 none-marked {n} e = ap length e ∙ length-replicate n NONE
-
--- .. so that all neighbours have a mark or none
-pub marked-index : {n marks : ℕ} {ls next : List ℕ} → marks ≡ n → IndexFor n ls next → IndexFor marks ls next
-marked-index {ls = ls} {next} e d = subst (λ (k : ℕ). IndexFor k ls next) (sym e) d
 
 -- whoever is not seen is a gateway
 pub unseen-below : {n : ℕ} (from : List ℕ) (u : ℕ) → length from ≡ n → seen from u ≡ false → u < n

@@ -3,7 +3,7 @@ use planner::Small;
 ghost use mathlib.Core.Path.{_≡_};
 ghost use mathlib.Core.Bool.{true};
 ghost use lib.ListN.{length};
-ghost use Rattle.chains.specs.Index.{Index};
+ghost use Rattle.chains.specs.Index.{IndexFor};
 ghost use Rattle.sound.specs.Searchable.{searchable};
 ghost use Rattle.planner.specs.State.{stateOf};
 ghost use Rattle.violator.specs.WhyAlone.{isPlaced, whyConditions, whyAnswer, whyFirst, whySecond};
@@ -80,7 +80,7 @@ pub fn why_placed(
     first: &mut [u16],
     second: &mut [u16],
 ) -> WhyCounts
-    requires { ⌜ Index (now links) (now next) × (searchable n (now holders) ≡ true) ⌝ }
+    requires { ⌜ IndexFor n (now links) (now next) × (searchable n (now holders) ≡ true) ⌝ }
     ensures answer { λ r. ⌜ r ≡ placedCounts n k (now (links .entry)) (now (order .entry)) (now (holders .entry)) gateway (length (now (first .entry))) (length (now (second .entry))) ⌝ }
     ensures first { λ _. ⌜ now (first .exit) ≡ placedFirst n k (now (links .entry)) (now (order .entry)) (now (holders .entry)) gateway (now (first .entry)) (now (second .entry)) ⌝ }
     ensures second { λ _. ⌜ now (second .exit) ≡ placedSecond n k (now (links .entry)) (now (order .entry)) (now (holders .entry)) gateway (now (first .entry)) (now (second .entry)) ⌝ }

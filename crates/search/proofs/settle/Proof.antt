@@ -2,7 +2,7 @@ use mathlib.Core.Path.{_∙_}
 use lib.ListN.{length-set}
 use Rattle.search.proofs.Settling.{settle-some, settle-kept, settle-left}
 use borrow.Author.Needs.{needs}
-use Rattle.search.proofs.States.{marked-index}
+use Rattle.chains.proofs.LinkMore.{index-told}
 use Rattle.search.proofs.settle.Statement.{statement}
 use Rattle.search.proofs.settle.Tie as tie
 
@@ -11,7 +11,7 @@ slice-write-queue c = search needs
 
 walk-requires : tie.Need-walk-requires
 walk-requires c κs = let start = c .before .before .before .before .before .before .before .before .before .before .before .before in
-    (marked-index (start .pre .1 .going .marks) (start .pre .0), settle-some (start .pre .1))
+    (index-told (start .pre .1 .going .marks) (start .pre .0), settle-some (start .pre .1))
 
 enum-known-w : tie.Need-enum-known-w
 enum-known-w c = search needs

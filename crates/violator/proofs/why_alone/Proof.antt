@@ -3,7 +3,7 @@ use lib.Seq.{length-take-le}
 use Rattle.packing.specs.Plant.{firstLinks}
 use Rattle.sound.proofs.Searchable.{searchable-holds, sound-searchable}
 use Rattle.planner.specs.State.{soundState}
-use Rattle.planner.proofs.Next.{checked, sound-joining}
+use Rattle.planner.proofs.Next.{checked, sound-joining, sound-index}
 use Rattle.violator.proofs.WhyPlaced.{why-unsound, why-looked}
 use borrow.Author.Needs.{needs}
 use Rattle.violator.proofs.why_alone.Statement.{statement}
@@ -39,7 +39,8 @@ slice-aggregate-why-placed-2 c = search needs
 why-placed-requires : tie.Need-why-placed-requires
 why-placed-requires c κs = let built = c .before .before .before .before in
     let test = built .before .before in
-    (built .index-of .ensures, searchable-holds (sound-searchable (checked _ _ _ _ _ _ _ _ (test .before .is-sound .ensures) (test .if1 .left))))
+    let sound = checked _ _ _ _ _ _ _ _ (test .before .is-sound .ensures) (test .if1 .left) in
+    (sound-index sound (built .index-of .ensures), searchable-holds (sound-searchable sound))
 
 same-length : tie.Need-same-length
 same-length c = search needs

@@ -1,5 +1,6 @@
 use Rattle.plan.proofs.ReadingLists.{asking-searchable, asking-answered}
 use borrow.Author.Needs.{needs}
+use Rattle.chains.proofs.LinkMore.{index-told}
 use Rattle.plan.proofs.ask.ask_made.Statement.{statement}
 use Rattle.plan.proofs.ask.ask_made.Tie as tie
 
@@ -16,7 +17,7 @@ why-placed-requires : tie.Need-why-placed-requires
 why-placed-requires c κs = let made = c .before .before .before .before .before .before .before .before .before .before .before .before in
     let counted = made .before .before .before .before .before .before in
     let start = counted .before .before .before .before .before .before .before .before .before .before .before .before in
-    (start .pre .loaded .index, asking-searchable _ (start .pre .loaded) (counted .gateways .ensures) (made .make .ensures .0))
+    (index-told (counted .gateways .ensures) (start .pre .loaded .index), asking-searchable _ (start .pre .loaded) (counted .gateways .ensures) (made .make .ensures .0))
 
 same-length : tie.Need-same-length
 same-length c = search needs

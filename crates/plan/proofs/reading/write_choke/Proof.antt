@@ -1,5 +1,6 @@
 use Rattle.plan.proofs.ReadingLists.{choking-room, choking-marked, choking-marks, choking-works, choking-walked}
 use borrow.Author.Needs.{needs}
+use Rattle.chains.proofs.LinkMore.{index-told}
 use Rattle.plan.proofs.reading.write_choke.Statement.{statement}
 use Rattle.plan.proofs.reading.write_choke.Tie as tie
 
@@ -45,7 +46,7 @@ write-set-requires : tie.Need-write-set-requires
 write-set-requires c κs = let filled = c .before .before .before .before .before in
     let counted = filled .before .before .before .before .before in
     let start = counted .before .before .before .before .before .before .before .before in
-    (start .pre .index, choking-works _ _ _ (start .pre) (counted .gateways .ensures) (filled .with-none .ensures))
+    (index-told (counted .gateways .ensures) (start .pre .index), choking-works _ _ _ (start .pre) (counted .gateways .ensures) (filled .with-none .ensures))
 
 same-length-3 : tie.Need-same-length-3
 same-length-3 c = search needs

@@ -8,7 +8,7 @@ use Rattle.planner.specs.State.{soundState}
 use Rattle.planner.specs.Calls.{conditions, callRefusal}
 use Rattle.planner.proofs.Conditions.{unsound-number, sound-number, read-allowed}
 use Rattle.planner.proofs.Outcomes.{read-refused, read-accepted}
-use Rattle.planner.proofs.Next.{checked, sound-joining, leaders-placed, choke-placed}
+use Rattle.planner.proofs.Next.{checked, sound-joining, sound-index, leaders-placed, choke-placed}
 use borrow.Author.Needs.{needs}
 use Rattle.planner.proofs.Small.read.Statement.{statement}
 use Rattle.planner.proofs.Small.read.Tie as tie
@@ -59,7 +59,9 @@ slice-aggregate-choke-set-2 : tie.Need-slice-aggregate-choke-set-2
 slice-aggregate-choke-set-2 c = search needs
 
 choke-set-requires : tie.Need-choke-set-requires
-choke-set-requires c κs = search needs
+choke-set-requires c κs = let built = c .before .before .before in
+    let test = built .before .before .before .before .before .before .before .before .before .before in
+    sound-index (checked _ _ _ _ _ _ _ _ (test .before .is-sound .ensures) (test .if1 .left)) (built .index-of .ensures)
 
 same-length-3 : tie.Need-same-length-3
 same-length-3 c = search needs

@@ -1,6 +1,7 @@
 use Rattle.search.proofs.Seen.{set-some, set-places, set-written}
 use borrow.Author.Needs.{needs}
-use Rattle.search.proofs.States.{none-marked, marked-index}
+use Rattle.chains.proofs.LinkMore.{index-told}
+use Rattle.search.proofs.States.{none-marked}
 use Rattle.search.proofs.choke.write_set.Statement.{statement}
 use Rattle.search.proofs.choke.write_set.Tie as tie
 
@@ -19,7 +20,7 @@ slice-aggregate-walk-2 c = search needs
 walk-requires : tie.Need-walk-requires
 walk-requires c κs = let called = c .before .before .before .before .before .before .before .before in
     let start = called .before .before .before .before .before .before .before .before in
-    (marked-index (none-marked (start .pre .1 .space .unseen)) (start .pre .0), set-some (start .pre .1) (called .queue-unheld .ensures) (called .queue-unheld .kept .1 .1 .0))
+    (index-told (none-marked (start .pre .1 .space .unseen)) (start .pre .0), set-some (start .pre .1) (called .queue-unheld .ensures) (called .queue-unheld .kept .1 .1 .0))
 
 write-seen-requires : tie.Need-write-seen-requires
 write-seen-requires c κs = let walked = c .before .before .before .before .before .before .before in

@@ -1,8 +1,9 @@
 use Rattle.search.proofs.Rows.{table-count}
 use Rattle.search.proofs.Settling.{settle-some}
-use Rattle.search.proofs.States.{none-marked, marked-index}
+use Rattle.search.proofs.States.{none-marked}
 use Rattle.search.proofs.ReachedTests.{from-settles, from-marks}
 use borrow.Author.Needs.{needs}
+use Rattle.chains.proofs.LinkMore.{index-told}
 use Rattle.search.proofs.reached.walk_from.Statement.{statement}
 use Rattle.search.proofs.reached.walk_from.Tie as tie
 
@@ -36,7 +37,7 @@ slice-aggregate-walk-4 c = search needs
 walk-requires : tie.Need-walk-requires
 walk-requires c κs = let zeros = c .before .before .before .before .before .before .before in
     let start = zeros .before .before .before .before .before .before .before .before in
-    (marked-index (none-marked (start .pre .1 .unseen)) (start .pre .0), settle-some (from-settles (start .pre .1) (zeros .zeros .ensures) (zeros .before .gather .ensures)))
+    (index-told (none-marked (start .pre .1 .unseen)) (start .pre .0), settle-some (from-settles (start .pre .1) (zeros .zeros .ensures) (zeros .before .gather .ensures)))
 
 same-length : tie.Need-same-length
 same-length c = search needs

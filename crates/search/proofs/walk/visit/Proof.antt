@@ -29,8 +29,7 @@ neighbour-at-requires c κs = let turn = c .before in
 
 look-requires : tie.Need-look-requires Inv-loop μ-loop
 look-requires c κs = let turn = c .before .before .before .before .before .before in
-    let start = turn .before .before .before .before .before .before .before .before in
-    (
+    let start = turn .before .before .before .before .before .before .before .before in (
       visit-neighbour _ _ _ _ _ _ _ _ (start .pre .0) (start .pre .1) (turn .loop .inv .0) (c .before .before .before .before .before .loop-test .taken) (c .before .before .before .before .neighbour-at .ensures),
       visit-ready _ _ _ _ _ _ _ _ (start .pre .0) (start .pre .1) (turn .loop .inv .0),
     )

@@ -1,10 +1,10 @@
 use borrow.Author.Needs.{needs}
+use Rattle.chains.proofs.LinkMore.{index-told}
 use Prim.Native.Nat.{_-_}
 use mathlib.Core.Path.{refl}
 use lib.ListN.{length}
 use Rattle.packing.specs.Plant.{at}
 use Rattle.search.proofs.Noting.{NotesSo, notes-same, notes-then, notes-on}
-use Rattle.search.proofs.States.{marked-index}
 use Rattle.search.proofs.Turns.{Walking, walk-start, walk-below, walk-ready, walk-turn, walk-ends, walk-out}
 use Rattle.search.proofs.walk.walk.Statement.{statement}
 use Rattle.search.proofs.walk.walk.Tie as tie
@@ -27,7 +27,7 @@ slice-read-x c = search needs
 visit-requires : tie.Need-visit-requires Inv-loop μ-loop
 visit-requires c κs = let turn = c .before .before .before .before .before in
     let start = turn .before .before .before .before .before .before .before .before in
-    (marked-index (turn .before .loop .inv .0 .same .1) (start .pre .0), walk-ready _ _ _ _ _ _ (start .pre .1) (turn .before .loop .inv .0) (turn .loop-test .taken))
+    (index-told (turn .before .loop .inv .0 .same .1) (start .pre .0), walk-ready _ _ _ _ _ _ (start .pre .1) (turn .before .loop .inv .0) (turn .loop-test .taken))
 
 enum-known-w : tie.Need-enum-known-w Inv-loop μ-loop
 enum-known-w c = search needs
