@@ -62,7 +62,7 @@ module _ {n : ℕ} (limit : ℕ → ℕ) (ls : List ℕ) {hs : List ℕ} {v : �
         (λ u x f e.
         let (h, m, kept, _) = rw e at o in
         let same : shift n v f u x hs ≡ new = rw e at (past-settled (p .pair) (p .free) (p .new)) in
-        (h ∙ same, (m ∙ past-takings (p .pair) (p .free) (p .new) e, rw (← same) (kept (p .free .few) (p .free .holders) (past-fits (p .pair) (p .free) (p .new) e (p .fits) its) (p .table)))))
+        (h ∙ same, (m ∙ past-takings (p .pair) (p .free) (p .new) e, rw (← same) (kept (p .free .few) (p .free .holders) (p .none) (past-fits (p .pair) (p .free) (p .new) e (p .fits) its) (p .table)))))
         (λ q f e.
         let (h, m, _, same) = rw e at o in
         let still : new ≡ hs = past-left (p .pair) (p .feasible) (p .free) (p .new) e .0 in

@@ -245,19 +245,28 @@ where-packed (suc k) zero x p h = inr (refl, nobody k)
     nobody (suc j) = ap (λ (r : List ℕ). NONE ∷ r) (nobody j)
 where-packed (suc k) (suc d) x p h = by-bool (p x) (λ e. rw e (inl (omega arith, where-packed k d (suc x) p (omega arith)))) (λ e. rw e (where-packed (suc k) d (suc x) p (omega arith)))
 
-pub rows-packed : {n : ℕ} {hs : List ℕ} {rows : List (List ℕ)} → RowsOf n hs rows → n ≤ GATEWAYS → (u : ℕ) → Packed (rowAt rows u)
-unfolding Packed
-rows-packed {n} {hs} {rows} r few u =
-    by-bool (ltb u (length rows))
-    (λ e. let l : u < length rows = ltb-true _ _ e in
-    let b : u < GATEWAYS = omega (arith, ap length (r .is), front-in (length rows) (heldTable n hs), table-length n hs) in
-    rw (ap (λ (k : List (List ℕ)). rowAt k u) (r .is) ∙ getD-take (length rows) (heldTable n hs) u [] l ∙ table-row n hs u b ∙ held-padded n hs u) (where-packed HIGHEST n 0 (λ v. eqb (at hs v) u) (omega arith)))
-    (λ e. rw (List·getD-eq-default rows [] {n = u} (ltb-false _ _ e)) tt)
+rows-few : {n : ℕ} {hs : List ℕ} {rows : List (List ℕ)} → RowsOf n hs rows → length rows ≤ GATEWAYS
+rows-few {n} {hs} {rows} r = omega (arith, ap length (r .is), front-in (length rows) (heldTable n hs), table-length n hs)
   where
     front-in : (c : ℕ) (l : List (List ℕ)) → length (take c l) ≤ length l
     front-in zero l = omega arith
     front-in (suc c) [] = omega arith
     front-in (suc c) (a ∷ l) = omega (arith, front-in c l)
+
+pub rows-packed : {n : ℕ} {hs : List ℕ} {rows : List (List ℕ)} → RowsOf n hs rows → n ≤ GATEWAYS → (u : ℕ) → Packed (rowAt rows u)
+unfolding Packed
+rows-packed {n} {hs} {rows} r few u =
+    by-bool (ltb u (length rows))
+    (λ e. let l : u < length rows = ltb-true _ _ e in
+    rw (ap (λ (k : List (List ℕ)). rowAt k u) (r .is) ∙ getD-take (length rows) (heldTable n hs) u [] l ∙ table-row n hs u (omega (arith, rows-few r)) ∙ held-padded n hs u) (where-packed HIGHEST n 0 (λ v. eqb (at hs v) u) (omega arith)))
+    (λ e. rw (List·getD-eq-default rows [] {n = u} (ltb-false _ _ e)) tt)
+
+-- nobody leaves a row of one who has none
+pub rows-unheld : {n : ℕ} {hs : List ℕ} (x u : ℕ) (rows : List (List ℕ)) → GATEWAYS ≤ u → RowsOf n hs (exchangedRow x NONE u rows) → RowsOf n hs rows
+unfolding exchangedRow
+rows-unheld x u rows past r =
+    let row : List ℕ = exchanged x NONE (rowAt rows u) in
+    rw (set-out rows u row (omega (arith, rows-few r, length-set rows u row))) at r
 
 -- where nobody is to leave a row, the rows are as they are
 pub nobody-goes : (rows : List (List ℕ)) (u : ℕ) → Packed (rowAt rows u) → exchangedRow NONE NONE u rows ≡ rows

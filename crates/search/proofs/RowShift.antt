@@ -7,6 +7,7 @@ use native.Mathlib.Nat.{sub-zero}
 use native.Mathlib.Omega.{arith}
 use lib.Dec.{eqb}
 use lib.ListN.{length, set, length-set}
+use lib.Seq.{getD-set-other}
 use borrow.Author.Tests.{eqb-true, eq-eqb, ltb-true}
 use Rattle.packing.specs.Count.{pick}
 use Rattle.packing.specs.Plant.{NONE, GATEWAYS, HIGHEST, at}
@@ -17,7 +18,7 @@ use Rattle.search.specs.Pre.{takings, Placeable}
 use Rattle.search.specs.Table.{rowAt}
 use Rattle.search.specs.RowPre.{RowsOf, TakenFor, RowsFit, RowsKept, exchangedRow}
 use Rattle.search.proofs.RowExchange.{Packed}
-use Rattle.search.proofs.RowMoves.{rows-packed, nobody-goes, rows-handed}
+use Rattle.search.proofs.RowMoves.{rows-packed, nobody-goes, rows-handed, rows-unheld}
 use Rattle.search.proofs.Taken.{taken-other, taken-holds}
 use Rattle.search.proofs.Shifting.{Rounds, rounds-start, rounds-turn, rounds-done, rounds-end, Chain, chain-next, not-its-holder}
 use Rattle.search.proofs.Placing.{FoundFrom, walk-found}
@@ -26,6 +27,7 @@ use Rattle.search.proofs.Placing.{FoundFrom, walk-found}
 pub record RowRounds (n v u x : ℕ) (from hs₀ : List ℕ) (rows₀ : List (List ℕ)) (hs : List ℕ) (rows : List (List ℕ)) (taker taken gone k : ℕ) : Type 0 where
   pub rounds : Rounds n v u x from hs₀ hs taker taken k
   pub wide : length rows ≡ length rows₀
+  pub own : at hs v ≡ at hs₀ v
   pub kept : n ≤ GATEWAYS → n ≤ length hs₀ → RowsFit n n v from u x hs₀ → RowsOf n hs₀ rows₀
       → RowsFit (n - k) n v from taker taken hs × RowsOf n hs (exchangedRow gone NONE taker rows) × Packed (rowAt rows taker)
 
@@ -35,6 +37,7 @@ module _ (n v u x : ℕ) (from hs₀ : List ℕ) (rows₀ : List (List ℕ)) whe
       record {
         rounds = rounds-start n v u x from hs₀;
         wide = refl;
+        own = refl;
         kept = λ few long fits is. let packed = rows-packed is few u in (rw sub-zero fits, rw (nobody-goes rows₀ u packed) is, packed);
       }
 
@@ -58,38 +61,40 @@ module _ (n v u x : ℕ) (from hs₀ : List ℕ) (rows₀ : List (List ℕ)) whe
           record {
             rounds = rounds-turn n v u x from hs₀ (r .rounds) l (t .old) (t .holders) go next;
             wide = same ∙ r .wide;
+            own = rw (t .holders) (getD-set-other hs taken v taker 0 (λ q. go (sym q)) ∙ r .own);
             kept = λ few long fits is. let m = one-more few long fits is in (rw (next, t .old, t .holders) (m .2 go), m .0, m .1);
           }
 
-      pub row-rounds-done : {rows″ : List (List ℕ)} → taken ≡ v → rows″ ≡ exchangedRow taken NONE old rows'
-          → (hs' ≡ shift n v from u x hs₀) × ((k + 1 ≡ takings n v from u x hs₀) × RowsKept n v from u x hs₀ rows₀ rows″)
+      pub row-rounds-done : taken ≡ v → (hs' ≡ shift n v from u x hs₀) × ((k + 1 ≡ takings n v from u x hs₀) × RowsKept n v from u x hs₀ rows₀ rows')
       unfolding RowsKept
-      row-rounds-done done left =
+      row-rounds-done done =
           let e = rounds-done n v u x from hs₀ (r .rounds) l (t .holders) done in
-          (e .0, (e .1, λ few long fits is. rw (← e .0, left) (one-more few long fits is .0)))
+          (e .0, (e .1, λ few long none fits is. rw (← e .0) (rows-unheld taken old rows' (omega (arith, t .old ∙ ap (at hs) done ∙ r .own ∙ none)) (one-more few long fits is .0))))
 
-  pub row-rounds-end : {hs : List ℕ} {rows rows' : List (List ℕ)} {taker taken gone k : ℕ} → RowRounds n v u x from hs₀ rows₀ hs rows taker taken gone k → n ≤ k → rows' ≡ exchangedRow gone NONE taker rows
-      → (hs ≡ shift n v from u x hs₀) × ((k ≡ takings n v from u x hs₀) × RowsKept n v from u x hs₀ rows₀ rows')
-  unfolding RowsKept
-  row-rounds-end r l left =
+  -- there is no shift that fits and does not come to v
+  pub row-rounds-end : {hs : List ℕ} {rows : List (List ℕ)} {taker taken gone k : ℕ} → RowRounds n v u x from hs₀ rows₀ hs rows taker taken gone k → n ≤ k
+      → (hs ≡ shift n v from u x hs₀) × ((k ≡ takings n v from u x hs₀) × RowsKept n v from u x hs₀ rows₀ rows)
+  unfolding RowsKept RowsFit
+  row-rounds-end {k = k} r l =
       let e = rounds-end n v u x from hs₀ (r .rounds) l in
-      (e .0, (e .1, λ few long fits is. rw (← e .0, left) (r .kept few long fits is .1)))
+      let out : n - k ≡ 0 = omega arith in
+      (e .0, (e .1, λ few long none fits is. absurd (rw out at (r .kept few long fits is .0))))
 
 -- Along a chain each that is taken has a holder, but v. Who holds no more than a row has places, holds no more in any round: each taker has a place free when it takes.
 module _ (n : ℕ) (ls : List ℕ) (v : ℕ) (from : List ℕ) (inside : v < n) (Few : ℕ → Type 0) (below : (w : ℕ) → w < n → Few w) where
-  chain-fits : (fuel k : ℕ) (hs : List ℕ) (u x : ℕ) → n ≤ length hs → u < n → Chain n ls v from inside hs k x → ((w : ℕ) → Few w → holds n (at hs) w ≤ HIGHEST)
+  chain-fits : (fuel k : ℕ) (hs : List ℕ) (u x : ℕ) → k < fuel → n ≤ length hs → u < n → Chain n ls v from inside hs k x → ((w : ℕ) → Few w → holds n (at hs) w ≤ HIGHEST)
       → (at hs v < GATEWAYS → Few (at hs v)) → holds n (at hs) u < HIGHEST → held n (at hs) v ≡ false → at from u ≡ x → RowsFit fuel n v from u x hs
   unfolding RowsFit Chain
-  chain-fits zero k hs u x long l c few its free unheld seer = tt
-  chain-fits (suc fuel) zero hs u x long l c few its free unheld seer =
+  chain-fits zero k hs u x less long l c few its free unheld seer = absurd (omega arith)
+  chain-fits (suc fuel) zero hs u x less long l c few its free unheld seer =
       (rw c inside, λ q. few (at hs x) (rw c (its (rw c at q))), not-its-holder n ls v from inside hs zero u x l unheld seer (unfold Chain in c), λ go. absurd (go c))
-  chain-fits (suc fuel) (suc k) hs u x long l c few its free unheld seer =
+  chain-fits (suc fuel) (suc k) hs u x less long l c few its free unheld seer =
       let own : at (set hs x u) v ≡ at hs v = taken-other n hs x u long (c .1) v (λ e. c .0 (sym e)) in
       let old : at hs x < n = ltb-true _ _ (c .2) in (
         c .1,
         λ q. few (at hs x) (below (at hs x) old),
         not-its-holder n ls v from inside hs (suc k) u x l unheld seer (unfold Chain in c),
-        λ go. chain-fits fuel k (set hs x u) (at hs x) (at from (at hs x)) (rw length-set long) old (chain-next n ls v from inside hs x u k c)
+        λ go. chain-fits fuel k (set hs x u) (at hs x) (at from (at hs x)) (omega arith) (rw length-set long) old (chain-next n ls v from inside hs x u k c)
             (λ w f. within w (few w f)) (λ q. rw own (its (rw own at q))) freed (rw own unheld) refl,
       )
     where
@@ -111,7 +116,7 @@ module _
   where
     pub found-fits : {u x : ℕ} {from : List ℕ} → FoundFrom n limit ls hs v (p .inside) u x from → RowsFit n n v from u x hs
     found-fits {u} {x} {from} f =
-        chain-fits n ls v from (p .inside) (λ w. holds n (at hs) w ≤ HIGHEST) (p .within) n (f .steps) hs u x (p .holders) (f .below) (f .chain) (λ w q. q) its (omega (arith, f .free, most u (f .below))) (p .free) (f .seer)
+        chain-fits n ls v from (p .inside) (λ w. holds n (at hs) w ≤ HIGHEST) (p .within) n (f .steps) hs u x (f .few) (p .holders) (f .below) (f .chain) (λ w q. q) its (omega (arith, f .free, most u (f .below))) (p .free) (f .seer)
 
     pub found-rows : {u x : ℕ} {from : List ℕ} → walk n limit ls hs (v ∷ []) ≡ found u x from → RowsFit n n v from u x hs
     found-rows e = found-fits (walk-found limit ls p e)
@@ -123,6 +128,6 @@ module _
   where
     pub fits-read : (fuel : ℕ) (hs : List ℕ) (u x : ℕ) → S hs u x → RowsFit fuel n v from u x hs → RowsFit fuel n v past u x hs
     unfolding RowsFit
-    fits-read zero hs u x s f = tt
+    fits-read zero hs u x s f = f
     fits-read (suc fuel) hs u x s f =
         (f .0, f .1, f .2, λ other. let (same, next) = step hs u x s other in rw same (fits-read fuel (set hs x u) (at hs x) (at from (at hs x)) next (f .3 other)))

@@ -50,13 +50,13 @@ pub record TakenFor (x gone u : ℕ) (hs hs' : List ℕ) (rows rows' : List (Lis
   pub holders : hs' ≡ set hs x u
   pub table : rows' ≡ exchangedRow gone x u rows
 
--- In each round of a shift a gateway is taken, and its old holder is not the taker and holds no more than a row has places: so the row says all that the old holder holds.
+-- A shift that comes to v, in each round of which a gateway is taken, whose old holder is not the taker and holds no more than a row has places: so the row says all that the old holder holds.
 unfoldable pub RowsFit : (fuel n v : ℕ) (from : List ℕ) (u x : ℕ) (hs : List ℕ) → Type 0
-RowsFit zero n v from u x hs = Unit {0}
+RowsFit zero n v from u x hs = ⊥
 RowsFit (suc fuel) n v from u x hs =
     (x < n) × (at hs x < GATEWAYS → holds n (at hs) (at hs x) ≤ HIGHEST) × (at hs x ≡ u → ⊥) × ((x ≡ v → ⊥) → RowsFit fuel n v from (at hs x) (at from (at hs x)) (set hs x u))
 
--- a shift with such rounds leaves the rows of the holders after it, where they were those of the holders before it
+-- such a shift of v, which nobody held, leaves the rows of the holders after it, where they were those of the holders before it
 unfoldable pub RowsKept : (n v : ℕ) (from : List ℕ) (u x : ℕ) (hs : List ℕ) (rows rows' : List (List ℕ)) → Type 0
 RowsKept n v from u x hs rows rows' =
-    n ≤ GATEWAYS → n ≤ length hs → RowsFit n n v from u x hs → RowsOf n hs rows → RowsOf n (shift n v from u x hs) rows'
+    n ≤ GATEWAYS → n ≤ length hs → at hs v ≡ NONE → RowsFit n n v from u x hs → RowsOf n hs rows → RowsOf n (shift n v from u x hs) rows'

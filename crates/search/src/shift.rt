@@ -27,7 +27,7 @@ fn take_for(x: u16, gone: u16, u: u16, rows: &mut [Row], holders: &mut [u16]) ->
     old
 }
 
-// Returns how many were taken. The first taker lets nobody go; the last one that is taken leaves its old holder's row, if it had one.
+// Returns how many were taken. The first taker lets nobody go, and v, the last that is taken, was in nobody's row.
 pub(crate) fn shift_back(
     n: u16,
     v: u16,
@@ -48,7 +48,6 @@ pub(crate) fn shift_back(
     while k < n {
         let old = take_for(taken, gone, taker, rows, holders);
         if taken == v {
-            exchange_row(rows, old, taken, lists::NONE);
             return k + 1;
         }
         gone = taken;
@@ -56,6 +55,5 @@ pub(crate) fn shift_back(
         taken = lists::entry(from, old);
         k += 1;
     }
-    exchange_row(rows, taker, gone, lists::NONE);
     k
 }

@@ -17,9 +17,6 @@ loop-holds c = row-rounds-start _ _ _ _ _ _ _
 take-for-requires : tie.Need-take-for-requires Inv-loop μ-loop
 take-for-requires c κs = search needs
 
-exchange-row-requires : tie.Need-exchange-row-requires Inv-loop μ-loop
-exchange-row-requires c κs = search needs
-
 add-result : tie.Need-add-result Inv-loop μ-loop
 add-result c = search needs
 
@@ -30,11 +27,9 @@ same-length-2 : tie.Need-same-length-2 Inv-loop μ-loop
 same-length-2 c = search needs
 
 returns : tie.Need-returns Inv-loop μ-loop
-returns c = let left = c .before in
-    let done = left .before .before in
-    let called = done .before .before .before .before in
+returns c = let called = c .before .before .before .before in
     let turn = called .before .before .before in
-    row-rounds-done _ _ _ _ _ _ _ (turn .before .loop .inv) (turn .loop-test .taken) (called .take-for .ensures) (done .if1 .taken) (left .exchange-row .ensures)
+    row-rounds-done _ _ _ _ _ _ _ (turn .before .loop .inv) (turn .loop-test .taken) (called .take-for .ensures) (c .if1 .taken)
 
 entry-requires : tie.Need-entry-requires Inv-loop μ-loop
 entry-requires c κs = search needs
@@ -50,9 +45,6 @@ loop-again c = let called = c .before .before .before .before .before in
     let turn = called .before .before .before in
     row-rounds-turn _ _ _ _ _ _ _ (turn .before .loop .inv) (turn .loop-test .taken) (called .take-for .ensures) (called .take-for .kept .1 .1 .1 .0) (c .before .if1 .left) (c .entry .ensures)
 
-exchange-row-requires-2 : tie.Need-exchange-row-requires-2 Inv-loop μ-loop
-exchange-row-requires-2 c κs = search needs
-
 same-length-3 : tie.Need-same-length-3 Inv-loop μ-loop
 same-length-3 c = search needs
 
@@ -60,9 +52,7 @@ same-length-4 : tie.Need-same-length-4 Inv-loop μ-loop
 same-length-4 c = search needs
 
 returns-2 : tie.Need-returns-2 Inv-loop μ-loop
-returns-2 c = let left = c .before in
-    let out = left .before .before in
-    row-rounds-end _ _ _ _ _ _ _ (out .before .loop .inv) (out .loop-test .left) (left .exchange-row2 .ensures)
+returns-2 c = row-rounds-end _ _ _ _ _ _ _ (c .before .loop .inv) (c .loop-test .left)
 
 pub shift-back-spec : {M : Type 1} → statement M
 shift-back-spec =
@@ -72,7 +62,6 @@ shift-back-spec =
     μ-loop
     loop-holds
     take-for-requires
-    exchange-row-requires
     add-result
     same-length
     same-length-2
@@ -81,7 +70,6 @@ shift-back-spec =
     add-k
     loop-less
     loop-again
-    exchange-row-requires-2
     same-length-3
     same-length-4
     returns-2)
