@@ -9,8 +9,8 @@ use lib.Dec.{eqb}
 use lib.ListN.{set}
 use borrow.Author.Tests.{eqb-true, eq-eqb}
 use Rattle.packing.specs.Lists.{memberOf}
-use Rattle.packing.specs.Plant.{GATEWAYS, HIGHEST, at, linked}
-use Rattle.packing.specs.Holders.{holds, Feasible}
+use Rattle.packing.specs.Plant.{NONE, HIGHEST, at, linked}
+use Rattle.packing.specs.Holders.{Feasible}
 use Rattle.packing.specs.Moved.{moved}
 use Rattle.packing.proofs.Tests.{clash, or-cases, not-test}
 use Rattle.packing.proofs.Lists.{member-at}
@@ -62,9 +62,9 @@ module _ {n : ℕ} {limit : ℕ → ℕ} {ls hs : List ℕ} {left : ℕ → Bool
     past-takings = rw placed-shift (plain .takes ∙ found-moved limit ls p (plain .ends))
 
     -- .. and the rows are kept through the shift
-    pub past-fits : ((w : ℕ) → w < n → limit w ≤ HIGHEST) → (at hs v < GATEWAYS → holds n (at hs) (at hs v) ≤ HIGHEST) → RowsFit n n v past u x hs
-    past-fits most its =
-        fits-read n v (plain .from) past (Shiftable n v dead (plain .from) (deadHold n hs left dead)) (plain .reads) n hs u x (plain .shiftable) (found-rows ls hs p most its (plain .ends))
+    pub past-fits : ((w : ℕ) → w < n → limit w ≤ HIGHEST) → at hs v ≡ NONE → RowsFit n n v past u x hs
+    past-fits most none =
+        fits-read n v (plain .from) past (Shiftable n v dead (plain .from) (deadHold n hs left dead)) (plain .reads) n hs u x (plain .shiftable) (found-rows ls hs p most none (plain .ends))
 
   -- where it ran out, so did 01's
   past-unchanged : {queue past : List ℕ} → walkPast n limit ls hs (v ∷ []) dead ≡ more queue past → placedHolders n limit ls hs v ≡ hs

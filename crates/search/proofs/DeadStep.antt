@@ -8,8 +8,8 @@ use native.Mathlib.Omega.{arith}
 use lib.Dec.{eqb}
 use lib.ListN.{length}
 use borrow.Author.Tests.{eqb-true, eq-eqb}
-use Rattle.packing.specs.Plant.{GATEWAYS, HIGHEST, at}
-use Rattle.packing.specs.Holders.{held, holds}
+use Rattle.packing.specs.Plant.{at}
+use Rattle.packing.specs.Holders.{held}
 use Rattle.packing.specs.Moved.{moved}
 use Rattle.packing.proofs.Tests.{by-bool, or-r}
 use Rattle.packing.proofs.Moved.{moved-none}
@@ -38,10 +38,6 @@ module _ {n : ℕ} (limit : ℕ → ℕ) (ls : List ℕ) {hs : List ℕ} {v : �
   abbrev new : List ℕ
   new = placedHolders n limit ls hs v
 
-  -- v has no old holder
-  its : at hs v < GATEWAYS → holds n (at hs) (at hs v) ≤ HIGHEST
-  its l = absurd (omega (arith, p .none))
-
   -- v has a holder then, so that no more are left
   held-now : {u x : ℕ} {f : List ℕ} → walkPast n limit ls hs (v ∷ []) dead ≡ found u x f → held n (at new) v ≡ true
   held-now {u} {x} {f} w =
@@ -62,7 +58,7 @@ module _ {n : ℕ} (limit : ℕ → ℕ) (ls : List ℕ) {hs : List ℕ} {v : �
         (λ u x f e.
         let (h, m, kept, _) = rw e at o in
         let same : shift n v f u x hs ≡ new = rw e at (past-settled (p .pair) (p .free) (p .new)) in
-        (h ∙ same, (m ∙ past-takings (p .pair) (p .free) (p .new) e, rw (← same) (kept (p .free .few) (p .free .holders) (p .none) (past-fits (p .pair) (p .free) (p .new) e (p .fits) its) (p .table)))))
+        (h ∙ same, (m ∙ past-takings (p .pair) (p .free) (p .new) e, rw (← same) (kept (p .free .few) (p .free .holders) (p .none) (past-fits (p .pair) (p .free) (p .new) e (p .fits) (p .none)) (p .table)))))
         (λ q f e.
         let (h, m, _, same) = rw e at o in
         let still : new ≡ hs = past-left (p .pair) (p .feasible) (p .free) (p .new) e .0 in

@@ -1,13 +1,12 @@
 -- One pass over a row by which x leaves it and y joins it gives what two passes give: in the first x leaves, in the second y joins.
-use Prim.Native.Nat.{ℕ, zero, suc, _<_, _≤_}
+use Prim.Native.Nat.{ℕ, zero, suc, _<_}
 use mathlib.Core.Path.{_≡_, refl, sym, ap, _∙_}
 use mathlib.Core.Logic.{_⊎_, inl, inr, ⊎-elim}
-use mathlib.Core.Bool.{Bool, true, false}
 use mathlib.Core.List.{List, [], _∷_}
 use native.Mathlib.Omega.{arith}
 use lib.Dec.{eqb, ltb}
 use lib.ListN.{length, replicate, getD}
-use borrow.Author.Tests.{eqb-true, eqb-false, eq-eqb, ne-eqb, lt-ltb, le-ltb, ltb-true, ltb-false}
+use borrow.Author.Tests.{ne-eqb, lt-ltb, le-ltb}
 use Rattle.packing.specs.Plant.{NONE}
 use Rattle.packing.proofs.Tests.{by-bool}
 use Rattle.search.specs.RowPre.{raised, pushed, exchanged}

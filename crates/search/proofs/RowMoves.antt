@@ -6,7 +6,7 @@ use mathlib.Core.Bool.{Bool, true, false}
 use mathlib.Core.List.{List, [], _∷_, _++_}
 use native.Mathlib.Omega.{arith}
 use lib.Dec.{eqb, ltb}
-use lib.ListN.{length, set, take, replicate, getD, length-set, length-replicate, List·getD-eq-default}
+use lib.ListN.{length, set, take, replicate, getD, length-set, List·getD-eq-default}
 use lib.Seq.{set-set, set-out, set-comm, set-getD, getD-set-same, getD-set-other, getD-take, take-set-lt, take-set-le}
 use borrow.Author.Tests.{eqb-true, eqb-false, eq-eqb, ne-eqb, lt-ltb, le-ltb, ltb-true, ltb-false}
 use Rattle.packing.specs.Lists.{listWhere}

@@ -1,17 +1,17 @@
 -- The table through a shift: each round moves one gateway from one row to another. And that a search for v that found a place free gives a shift that keeps the table.
 use Prim.Native.Nat.{ℕ, zero, suc, _+_, _-_, _<_, _≤_}
 use mathlib.Core.Path.{_≡_, refl, sym, ap, _∙_}
-use mathlib.Core.Bool.{Bool, false}
+use mathlib.Core.Bool.{Bool}
 use mathlib.Core.List.{List, [], _∷_}
 use native.Mathlib.Nat.{sub-zero}
 use native.Mathlib.Omega.{arith}
 use lib.Dec.{eqb}
 use lib.ListN.{length, set, length-set}
 use lib.Seq.{getD-set-other}
-use borrow.Author.Tests.{eqb-true, eq-eqb, ltb-true}
+use borrow.Author.Tests.{eqb-true, eq-eqb, le-ltb, ltb-true}
 use Rattle.packing.specs.Count.{pick}
 use Rattle.packing.specs.Plant.{NONE, GATEWAYS, HIGHEST, at}
-use Rattle.packing.specs.Holders.{held, holds}
+use Rattle.packing.specs.Holders.{holds}
 use Rattle.packing.proofs.Tests.{by-bool}
 use Rattle.search.specs.Search.{found, walk, shift}
 use Rattle.search.specs.Pre.{takings, Placeable}
@@ -21,7 +21,7 @@ use Rattle.search.proofs.RowExchange.{Packed}
 use Rattle.search.proofs.RowMoves.{rows-packed, nobody-goes, rows-handed, rows-unheld}
 use Rattle.search.proofs.Taken.{taken-other, taken-holds}
 use Rattle.search.proofs.Shifting.{Rounds, rounds-start, rounds-turn, rounds-done, rounds-end, Chain, chain-next, not-its-holder}
-use Rattle.search.proofs.Placing.{FoundFrom, walk-found}
+use Rattle.search.proofs.Placing.{walk-found}
 
 -- After k rounds the rows are those of the holders, but that gone, whom the taker is to let go, still stands in its row; and the rounds that are left fit. At first nobody is to go.
 pub record RowRounds (n v u x : ℕ) (from hs₀ : List ℕ) (rows₀ : List (List ℕ)) (hs : List ℕ) (rows : List (List ℕ)) (taker taken gone k : ℕ) : Type 0 where
@@ -80,46 +80,42 @@ module _ (n v u x : ℕ) (from hs₀ : List ℕ) (rows₀ : List (List ℕ)) whe
       let out : n - k ≡ 0 = omega arith in
       (e .0, (e .1, λ few long none fits is. absurd (rw out at (r .kept few long fits is .0))))
 
--- Along a chain each that is taken has a holder, but v. Who holds no more than a row has places, holds no more in any round: each taker has a place free when it takes.
-module _ (n : ℕ) (ls : List ℕ) (v : ℕ) (from : List ℕ) (inside : v < n) (Few : ℕ → Type 0) (below : (w : ℕ) → w < n → Few w) where
-  chain-fits : (fuel k : ℕ) (hs : List ℕ) (u x : ℕ) → k < fuel → n ≤ length hs → u < n → Chain n ls v from inside hs k x → ((w : ℕ) → Few w → holds n (at hs) w ≤ HIGHEST)
-      → (at hs v < GATEWAYS → Few (at hs v)) → holds n (at hs) u < HIGHEST → held n (at hs) v ≡ false → at from u ≡ x → RowsFit fuel n v from u x hs
+-- Along a chain each that is taken has a holder, but v. Nobody holds more than a row has places, in any round: each taker has a place free when it takes.
+module _ (n : ℕ) (ls : List ℕ) (v : ℕ) (from : List ℕ) (inside : v < n) (few : n ≤ GATEWAYS) where
+  chain-fits : (fuel k : ℕ) (hs : List ℕ) (u x : ℕ) → k < fuel → n ≤ length hs → u < n → Chain n ls v from inside hs k x → ((w : ℕ) → w < n → holds n (at hs) w ≤ HIGHEST)
+      → holds n (at hs) u < HIGHEST → at hs v ≡ NONE → at from u ≡ x → RowsFit fuel n v from u x hs
   unfolding RowsFit Chain
-  chain-fits zero k hs u x less long l c few its free unheld seer = absurd (omega arith)
-  chain-fits (suc fuel) zero hs u x less long l c few its free unheld seer =
-      (rw c inside, λ q. few (at hs x) (rw c (its (rw c at q))), not-its-holder n ls v from inside hs zero u x l unheld seer (unfold Chain in c), λ go. absurd (go c))
-  chain-fits (suc fuel) (suc k) hs u x less long l c few its free unheld seer =
-      let own : at (set hs x u) v ≡ at hs v = taken-other n hs x u long (c .1) v (λ e. c .0 (sym e)) in
+  chain-fits zero k hs u x less long l c most free none seer = absurd (omega arith)
+  chain-fits (suc fuel) zero hs u x less long l c most free none seer =
+      (rw c inside, λ q. absurd (omega (arith, ap (at hs) c, none, q)), not-its-holder n ls v from inside hs zero u x l (le-ltb (at hs v) n (omega (arith, none))) seer (unfold Chain in c), λ go. absurd (go c))
+  chain-fits (suc fuel) (suc k) hs u x less long l c most free none seer =
       let old : at hs x < n = ltb-true _ _ (c .2) in (
         c .1,
-        λ q. few (at hs x) (below (at hs x) old),
-        not-its-holder n ls v from inside hs (suc k) u x l unheld seer (unfold Chain in c),
-        λ go. chain-fits fuel k (set hs x u) (at hs x) (at from (at hs x)) (omega arith) (rw length-set long) old (chain-next n ls v from inside hs x u k c)
-            (λ w f. within w (few w f)) (λ q. rw own (its (rw own at q))) freed (rw own unheld) refl,
+        λ q. most (at hs x) old,
+        not-its-holder n ls v from inside hs (suc k) u x l (le-ltb (at hs v) n (omega (arith, none))) seer (unfold Chain in c),
+        λ go. chain-fits fuel k (set hs x u) (at hs x) (at from (at hs x)) (omega arith) (rw length-set long) old (chain-next n ls v from inside hs x u k c) within freed
+            (taken-other n hs x u long (c .1) v (λ e. c .0 (sym e)) ∙ none) refl,
       )
     where
       one : (w : ℕ) → pick (eqb w w) 1 ≡ 1
       one w = ap (λ (b : Bool). pick b 1) (eq-eqb w w refl)
 
-      within : (w : ℕ) → holds n (at hs) w ≤ HIGHEST → holds n (at (set hs x u)) w ≤ HIGHEST
-      within w f = by-bool (eqb u w) (λ q. rw (← eqb-true u w q) (omega (arith, taken-holds n hs x u long (c .1) u, one u))) (λ q. omega (arith, taken-holds n hs x u long (c .1) w, ap (λ (b : Bool). pick b 1) q))
+      within : (w : ℕ) → w < n → holds n (at (set hs x u)) w ≤ HIGHEST
+      within w f =
+          by-bool (eqb u w) (λ q. rw (← eqb-true u w q) (omega (arith, taken-holds n hs x u long (c .1) u, one u)))
+          (λ q. omega (arith, most w f, taken-holds n hs x u long (c .1) w, ap (λ (b : Bool). pick b 1) q))
 
       freed : holds n (at (set hs x u)) (at hs x) < HIGHEST
       freed =
           by-bool (eqb u (at hs x)) (λ q. let same : u ≡ at hs x = eqb-true u (at hs x) q in omega (arith, taken-holds n hs x u long (c .1) (at hs x), one (at hs x), ap (λ (b : Bool). pick b 1) q, rw same at free))
-          (λ q. omega (arith, taken-holds n hs x u long (c .1) (at hs x), one (at hs x), ap (λ (b : Bool). pick b 1) q, few (at hs x) (below (at hs x) (ltb-true _ _ (c .2)))))
+          (λ q. omega (arith, taken-holds n hs x u long (c .1) (at hs x), one (at hs x), ap (λ (b : Bool). pick b 1) q, most (at hs x) (ltb-true _ _ (c .2))))
 
--- So it is for the shift of a search for v that found a place free, by whatever marks it found it: nobody has a limit above sixteen, and v's old holder, where it is a number below 1,024, holds no more either.
-module _
-    {n : ℕ} {limit : ℕ → ℕ} (ls hs : List ℕ) {v : ℕ} (p : Placeable n hs v) (most : (w : ℕ) → w < n → limit w ≤ HIGHEST)
-    (its : at hs v < GATEWAYS → holds n (at hs) (at hs v) ≤ HIGHEST)
-  where
-    pub found-fits : {u x : ℕ} {from : List ℕ} → FoundFrom n limit ls hs v (p .inside) u x from → RowsFit n n v from u x hs
-    found-fits {u} {x} {from} f =
-        chain-fits n ls v from (p .inside) (λ w. holds n (at hs) w ≤ HIGHEST) (p .within) n (f .steps) hs u x (f .few) (p .holders) (f .below) (f .chain) (λ w q. q) its (omega (arith, f .free, most u (f .below))) (p .free) (f .seer)
-
-    pub found-rows : {u x : ℕ} {from : List ℕ} → walk n limit ls hs (v ∷ []) ≡ found u x from → RowsFit n n v from u x hs
-    found-rows e = found-fits (walk-found limit ls p e)
+-- So it is for the shift of a search for v, which nobody holds, that found a place free, by whatever marks it found it: nobody has a limit above sixteen.
+module _ {n : ℕ} {limit : ℕ → ℕ} (ls hs : List ℕ) {v : ℕ} (p : Placeable n hs v) (most : (w : ℕ) → w < n → limit w ≤ HIGHEST) (none : at hs v ≡ NONE) where
+  pub found-rows : {u x : ℕ} {from : List ℕ} → walk n limit ls hs (v ∷ []) ≡ found u x from → RowsFit n n v from u x hs
+  found-rows {u} {x} {from} e =
+      let f = walk-found limit ls p e in
+      chain-fits n ls v from (p .inside) (p .few) n (f .steps) hs u x (f .few) (p .holders) (f .below) (f .chain) (p .within) (omega (arith, f .free, most u (f .below))) none (f .seer)
 
 -- .. and for the shift by other marks, where those that it reads are the same: S says so of each round
 module _

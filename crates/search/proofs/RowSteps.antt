@@ -10,7 +10,7 @@ use lib.Seq.{take-suc, take-suc-set, take-all, drop-cons, drop-set-lt, append-sn
 use borrow.Author.Tests.{eq-eqb, ne-eqb, lt-ltb, le-ltb}
 use Rattle.packing.specs.Plant.{NONE, at}
 use Rattle.search.specs.Table.{rowAt}
-use Rattle.search.specs.RowPre.{raised, pushed, exchanged, exchangedRow, movedRows, Taken, TakenFor}
+use Rattle.search.specs.RowPre.{raised, pushed, exchanged, exchangedRow, movedRows, Taken}
 use Rattle.search.proofs.Rows.{default-below}
 
 -- the number at a place, and 65535 past the end

@@ -1,6 +1,5 @@
 use borrow.Author.Needs.{needs}
 use Prim.Native.Nat.{_-_}
-use mathlib.Core.Path.{_∙_}
 use Rattle.search.proofs.RowShift.{RowRounds, row-rounds-start, row-rounds-turn, row-rounds-done, row-rounds-end}
 use Rattle.search.proofs.shift.shift_back.Statement.{statement}
 use Rattle.search.proofs.shift.shift_back.Tie as tie
