@@ -140,17 +140,16 @@ int flow_most(const struct plant *p, int k)
     return solve(&g, p, k);
 }
 
-/* What flows along an arc can be sent back. The arc back to the source has an odd number. */
+/* What flows along an arc can be sent back. The arcs from giver to taker, and each behind it the arc back, follow the source's. */
 int flow_holders(const struct plant *p, int *holder)
 {
     static struct network g;
     int most = solve(&g, p, p->n);
     for (int v = 0; v < p->n; v++)
         holder[v] = NOBODY;
-    for (int u = 0; u < p->n; u++)
-        for (int i = g.first[giving(u)]; i != NO_ARC; i = g.arc[i].next)
-            if (i % 2 == 0 && g.arc[i ^ 1].room > 0)
-                holder[(g.arc[i].to - taking(0)) / 2] = u;
+    for (int i = 2 * p->n; i < 2 * p->n + 4 * p->m; i += 2)
+        if (g.arc[i ^ 1].room > 0)
+            holder[(g.arc[i].to - taking(0)) / 2] = (g.arc[i ^ 1].to - giving(0)) / 2;
     return most;
 }
 

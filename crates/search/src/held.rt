@@ -125,7 +125,7 @@ fn push(row: &mut [u16], place: usize, x: u16, y: u16)
     }
 }
 
-// x leaves a row and y joins it, in one pass: a shift does both to each row that it comes to but the last.
+// x leaves a row and y joins it, in one pass: a shift does both to each row that it comes to but the first, which has a place free.
 fn exchange(row: &mut [u16], x: u16, y: u16)
     ensures { λ _. ⌜ now (row .exit) ≡ exchanged x y (now (row .entry)) ⌝ }
 {
