@@ -17,12 +17,11 @@ use Rattle.packing.proofs.Tests.{by-bool, clash, below-suc, and-l, not-i, not-t
 use Rattle.packing.proofs.Prefixes.{Among, order-place}
 use Rattle.search.specs.RowPre.{RowsOf}
 use Rattle.search.specs.ChokeSet.{inChoke}
-use Rattle.search.specs.Pre.{Placeable}
+use Rattle.search.specs.Pre.{PlantLists, Placeable}
 use Rattle.search.specs.Dead.{Dead, Past, DeadThen, leftThen}
 use Rattle.search.proofs.Dead.{dead-none}
 use Rattle.search.proofs.DeadChoke.{dead-choke}
-use Rattle.chains.specs.Index.{IndexFor}
-use Rattle.chains.proofs.LinkMore.{index-told}
+use Rattle.search.proofs.States.{lists-told}
 use Rattle.recursion.specs.Pre.{Fits}
 use Rattle.planner.specs.declared.Way.{Way}
 use Rattle.planner.specs.declared.Way.the-variants.{Queued, Recursive}
@@ -192,8 +191,8 @@ module _
         pub placed-place : j < length os
         placed-place = omega (arith, below, p .loaded .order-long)
 
-        pub placed-past : {n : ℕ} → n ≡ fileN file → IndexFor n ls next × Past n (at ts) ls hs v rows queue dead looked
-        placed-past e = (index-told e (p .loaded .index), subst (λ (n : ℕ). Past n (at ts) ls hs v rows queue dead looked) (sym e) past)
+        pub placed-past : {n : ℕ} → n ≡ fileN file → PlantLists n ts ls next × Past n (at ts) ls hs v rows queue dead looked
+        placed-past e = (lists-told e (record { index = p .loaded .index; limited = p .loaded .limits-long }), subst (λ (n : ℕ). Past n (at ts) ls hs v rows queue dead looked) (sym e) past)
 
         -- what place_one leaves
         module _

@@ -191,6 +191,7 @@ module _
           index = rw loaded-links (index-for (fileN file) (fileLinks file) (file-ends file (sym of ∙ fine)) (d fine .index));
           order-long = rw (d fine .ordered) (written-room (fileN file) (fileOrder file) order₀ (order-long file));
           order = λ i l. rw (d fine .ordered) (written-at (fileN file) (fileOrder file) order₀ (order-long file) i l);
+          limits-long = rw (d fine .limited) (written-room (fileN file) (fileLimits file) limits₀ (limits-long file));
           limits = λ u l. rw (d fine .limited) (written-at (fileN file) (fileLimits file) limits₀ (limits-long file) u l ∙ limits-at file u l);
         }
 

@@ -32,6 +32,7 @@ pub record Loaded (file ls next os ts : List ℕ) : Type 0 where
   pub index : IndexFor (fileN file) ls next
   pub order-long : fileN file ≤ length os
   pub order : (i : ℕ) → i < fileN file → at os i ≡ at (fileOrder file) i
+  pub limits-long : fileN file ≤ length ts
   pub limits : (u : ℕ) → u < fileN file → at ts u ≡ fileLimit file u
 
 -- .. and what k placings work on: holders of which none is one, their rows, a queue, marks of nobody, and room to note whom a search marks

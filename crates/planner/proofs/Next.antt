@@ -17,7 +17,7 @@ use Rattle.chains.specs.Index.{Index, IndexFor}
 use Rattle.chains.proofs.LinkMore.{joining-linked, index-for}
 use Rattle.search.specs.ChokeSet.{chokeByte, chokeWritten}
 use Rattle.search.specs.declared.Placed.{Placed}
-use Rattle.search.specs.Pre.{Placeable}
+use Rattle.search.specs.Pre.{PlantLists, Placeable}
 use Rattle.search.proofs.Tested.{chokeable-holds, choke-written}
 use Rattle.sound.specs.Sound.{isSound}
 use Rattle.sound.proofs.Meaning.{Sound, sound-means, means-sound}
@@ -64,6 +64,10 @@ sound-joining {n} {m = m} {ls = ls} sound = (omega (arith, length-take-le (2 * m
 pub sound-index : {n t m k : ℕ} {ls os hs ts next : List ℕ} → Sound n t m k ls os hs ts → Index (take (2 * m) ls) next → IndexFor n (take (2 * m) ls) next
 unfolding firstLinks
 sound-index {n} {m = m} {ls = ls} sound d = index-for n (take (2 * m) ls) (sound .ends) d
+
+-- .. beside a limit for each of them
+pub sound-lists : {n t m k : ℕ} {ls os hs ts next : List ℕ} → Sound n t m k ls os hs ts → Index (take (2 * m) ls) next → PlantLists n ts (take (2 * m) ls) next
+sound-lists sound d = record { index = sound-index sound d; limited = sound .limits-long }
 
 -- one with no holder is not held
 pub none-unheld : (n : ℕ) (hs : List ℕ) (v : ℕ) → n ≤ GATEWAYS → at hs v ≡ NONE → held n (at hs) v ≡ false

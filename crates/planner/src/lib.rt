@@ -5,7 +5,7 @@ mod refusals;
 use search::Placed;
 ghost use mathlib.Core.Path.{_≡_};
 ghost use Rattle.packing.specs.Plant.{at};
-ghost use Rattle.chains.specs.Index.{IndexFor};
+ghost use Rattle.search.specs.Pre.{PlantLists};
 ghost use Rattle.planner.specs.State.{stateOf};
 ghost use Rattle.planner.specs.Calls as calls;
 ghost use Rattle.planner.specs.Calls.{answerOf, openCall, call, placeAnswerOf, readLeaders, readChoke};
@@ -48,7 +48,7 @@ fn search_by(
     next: &[u16],
     holders: &mut [u16],
 ) -> Placed
-    requires { ⌜ IndexFor n (now links) (now next) ⌝ }
+    requires { ⌜ PlantLists n (now limits) (now links) (now next) ⌝ }
     ensures answer { λ r. ⌜ r ≡ answerBy way n (at (now (limits .entry))) (now (links .entry)) (now (holders .entry)) v ⌝ }
     ensures holders { λ _. ⌜ now (holders .exit) ≡ afterBy way n (at (now (limits .entry))) (now (links .entry)) (now (holders .entry)) v ⌝ }
 {

@@ -6,7 +6,6 @@ use mathlib.Core.Logic.{⊎-elim}
 use mathlib.Core.List.{List, [], _∷_}
 use native.Mathlib.Omega.{arith}
 use lib.Dec.{eqb}
-use lib.ListN.{length}
 use borrow.Author.Tests.{eqb-true, eq-eqb}
 use Rattle.packing.specs.Plant.{at}
 use Rattle.packing.specs.Holders.{held}
@@ -16,12 +15,12 @@ use Rattle.packing.proofs.Moved.{moved-none}
 use Rattle.search.specs.Search.{found, shift, settled, placedHolders}
 use Rattle.search.specs.RowPre.{RowsOf, RowsKept}
 use Rattle.search.specs.Pre.{takings, Settleable, Outcome}
-use Rattle.search.specs.Noted.{RoomToNote, takenBack, Notes}
+use Rattle.search.specs.Noted.{takenBack, Notable, Noted}
 use Rattle.search.specs.Dead.{walkPast, Past, leftThen, DeadThen}
 use Rattle.search.proofs.States.{by-state}
 use Rattle.search.proofs.Placing.{place-is}
 use Rattle.search.proofs.Dead.{past-going}
-use Rattle.search.proofs.Noting.{room-start}
+use Rattle.search.proofs.Noting.{notable-start}
 use Rattle.search.proofs.DeadPlacing.{past-settled, past-takings, past-fits, past-kept, past-left}
 
 -- a shift takes one at least
@@ -34,6 +33,10 @@ module _ {n : ℕ} (limit : ℕ → ℕ) (ls : List ℕ) {hs : List ℕ} {v : �
   -- the search may be made
   pub past-settleable : Settleable n hs v rows queue dead
   past-settleable = record { free = p .free; table = p .table; places = p .places; going = past-going (p .free) (p .pair .marks) }
+
+  -- .. and whom it marks be noted
+  pub past-notable : Notable looked 0 dead
+  past-notable = notable-start looked dead (omega (arith, p .room, p .pair .marks))
 
   abbrev new : List ℕ
   new = placedHolders n limit ls hs v
@@ -80,18 +83,10 @@ module _ {n : ℕ} (limit : ℕ → ℕ) (ls : List ℕ) {hs : List ℕ} {v : �
         left-more left x = by-bool (eqb x v) (λ q. rw (q, eqb-true x v q, p .free .free)) (λ q. rw q)
 
     -- v is kept: the marks of its search are taken back, ..
-    module _ {looked' : List ℕ} {c' : ℕ} (notes : Notes looked 0 dead looked' c' dead') where
-      room : RoomToNote looked 0 dead
-      room = room-start looked dead (omega (arith, p .room, p .pair .marks))
-
-      -- .. all of which are noted
-      pub past-noted : c' ≤ length looked'
-      unfolding RoomToNote
-      past-noted = omega (arith, notes room .room)
-
+    module _ {looked' : List ℕ} {c' : ℕ} (noted : Noted looked 0 dead looked' c' dead') where
       pub past-dead-kept : {dead'' : List ℕ} → (r ≡ 0 → ⊥) → dead'' ≡ takenBack c' looked' dead' → DeadThen n limit ls hs v dead new dead''
       unfolding Outcome DeadThen takenBack
       past-dead-kept some e =
           by-state (walkPast n limit ls hs (v ∷ []) dead)
-          (λ u x f w left out d. rw (e, notes room .back, fun-ext (left-same w left)) (past-kept d (p .feasible) (p .free) out w))
+          (λ u x f w left out d. rw (e, noted .back, fun-ext (left-same w left)) (past-kept d (p .feasible) (p .free) out w))
           (λ q f w. let (_, m, _, _) = rw w at o in absurd (some m))

@@ -17,11 +17,11 @@ use Rattle.search.specs.declared.Walked.{Walked}
 use Rattle.search.specs.declared.Walked.the-variants.{Found, RanOut}
 use Rattle.search.specs.Table.{rowAt}
 use Rattle.search.specs.Pre.{TableOf, ForSome, ForEach, Is, Ready, rowHasPlace, Joinable, Joined}
-use Rattle.search.specs.Noted.{NotedThen, Notes}
+use Rattle.search.specs.Noted.{NotedThen, Notable, Noted}
 use Rattle.search.proofs.Queue.{heldBy-length}
 use Rattle.search.proofs.Rows.{table-holds, table-place}
 use Rattle.search.proofs.States.{gateway-some, unseen-below, look-seen, look-free, look-full, look-going, going-room, visit-found}
-use Rattle.search.proofs.Noting.{notes-mark}
+use Rattle.search.proofs.Noting.{noted-room, noted-mark}
 use Rattle.search.proofs.Results.{found-state, more-state, more-within, found-is, more-is, some-then}
 
 -- The three ways of a look. The lent list of marks is from' once u is marked, k is u's entry, t is u's limit, and b says whether its row has a place.
@@ -50,9 +50,12 @@ module _
           rw (table-holds h (r .going .few) look-below)
           (omega (arith, r .places, length-take-le tail queue (r .within), heldBy-length n hs u, going-room (r .going) u x (r .gateway) unseen))
 
-      -- it is noted
-      pub look-notes : {looked looked' : List ℕ} {c c' : ℕ} {from' : List ℕ} → from' ≡ set from u x → NotedThen u looked c looked' c' → Notes looked c from looked' c' from'
-      look-notes mark then = notes-mark from u x unseen (gateway-some (r .going .few) (r .gateway)) mark then
+      -- there is room to note it, and it is noted
+      pub look-room : {looked : List ℕ} {c : ℕ} → Notable looked c from → c < length looked
+      look-room n = noted-room from u x unseen (gateway-some (r .going .few) (r .gateway)) n
+
+      pub look-notes : {looked looked' : List ℕ} {c c' : ℕ} {from' : List ℕ} → Notable looked c from → from' ≡ set from u x → NotedThen u looked c looked' c' → Noted looked c from looked' c' from'
+      look-notes n mark then = noted-mark from u x unseen (gateway-some (r .going .few) (r .gateway)) n mark then
 
       pub look-is-free : {t : ℕ} {b : Bool} {from' : List ℕ} → from' ≡ set from u x → t ≡ limit u → b ≡ rowHasPlace (rowAt rows u) t → b ≡ true
           → Is (Found u x) queue from' (look n limit hs x u (take tail queue) from)

@@ -6,30 +6,30 @@ use mathlib.Core.List.{List}
 use native.Mathlib.Numerals.{add-one}
 use native.Mathlib.Omega.{arith}
 use lib.Dec.{eqb}
-use lib.ListN.{length, set, length-set}
+use lib.ListN.{length, set, replicate, length-set, length-replicate}
 use lib.Seq.{ext-getD, getD-set-same, getD-set-other, set-set}
 use borrow.Author.Tests.{eqb-true, eqb-false, not-false}
 use Rattle.packing.specs.Count.{count}
-use Rattle.packing.specs.Plant.{NONE, at}
+use Rattle.packing.specs.Plant.{NONE, GATEWAYS, at}
 use Rattle.packing.proofs.Tests.{by-bool}
 use Rattle.packing.proofs.Sums.{count-bound}
 use Rattle.search.specs.Search.{seen}
-use Rattle.search.specs.Noted.{NotedThen, takenBack, unseenCount, RoomToNote, Notes}
+use Rattle.search.specs.Noted.{NotedThen, takenBack, unseenCount, Notable, Noted}
 use Rattle.search.proofs.States.{unseen-below, unseen-falls}
 
 -- nothing noted, and notes after notes
-pub notes-same : (looked : List ℕ) (c : ℕ) (from : List ℕ) → Notes looked c from looked c from
-notes-same looked c from room = record { room = room; back = refl }
+pub noted-same : {looked : List ℕ} {c : ℕ} {from : List ℕ} → Notable looked c from → Noted looked c from looked c from
+noted-same n = record { notable = n; back = refl }
 
-pub notes-then : {l₀ l₁ l₂ : List ℕ} {c₀ c₁ c₂ : ℕ} {f₀ f₁ f₂ : List ℕ} → Notes l₀ c₀ f₀ l₁ c₁ f₁ → Notes l₁ c₁ f₁ l₂ c₂ f₂ → Notes l₀ c₀ f₀ l₂ c₂ f₂
-notes-then first then room = let a = first room in let b = then (a .room) in record { room = b .room; back = b .back ∙ a .back }
+pub noted-then : {l₀ l₁ l₂ : List ℕ} {c₀ c₁ c₂ : ℕ} {f₀ f₁ f₂ : List ℕ} → Noted l₀ c₀ f₀ l₁ c₁ f₁ → Noted l₁ c₁ f₁ l₂ c₂ f₂ → Noted l₀ c₀ f₀ l₂ c₂ f₂
+noted-then a b = record { notable = b .notable; back = b .back ∙ a .back }
 
 -- .. in lists of one length, as a loop leaves them
-abbrev pub NotesSo : List ℕ → ℕ → List ℕ → List ℕ → ℕ → List ℕ → Type 0
-NotesSo l₀ c₀ f₀ l c f = (length l ≡ length l₀) × Notes l₀ c₀ f₀ l c f
+abbrev pub NotedSo : List ℕ → ℕ → List ℕ → List ℕ → ℕ → List ℕ → Type 0
+NotedSo l₀ c₀ f₀ l c f = (length l ≡ length l₀) × Noted l₀ c₀ f₀ l c f
 
-pub notes-on : {l₀ l l' : List ℕ} {c₀ c c' : ℕ} {f₀ f f' : List ℕ} → NotesSo l₀ c₀ f₀ l c f → length l' ≡ length l → Notes l c f l' c' f' → NotesSo l₀ c₀ f₀ l' c' f'
-notes-on so long more = (long ∙ so .0, notes-then (so .1) more)
+pub noted-on : {l₀ l l' : List ℕ} {c₀ c c' : ℕ} {f₀ f f' : List ℕ} → NotedSo l₀ c₀ f₀ l c f → length l' ≡ length l → Noted l c f l' c' f' → NotedSo l₀ c₀ f₀ l' c' f'
+noted-on so long more = (long ∙ so .0, noted-then (so .1) more)
 
 -- what stands behind the first c is not looked at
 back-front : (c : ℕ) (looked : List ℕ) (i u : ℕ) (from : List ℕ) → c ≤ i → takenBack c (set looked i u) from ≡ takenBack c looked from
@@ -62,18 +62,32 @@ module _ (from : List ℕ) (u x : ℕ) (e : seen from u ≡ false) (some : x ≡
   unfolding takenBack
   back-first looked c l = rw (getD-set-same looked c u 0 l, unset) (back-front c looked c u from (omega arith))
 
-  -- a look that marks u notes it
-  pub notes-mark : {looked looked' : List ℕ} {c c' : ℕ} {from' : List ℕ} → from' ≡ set from u x → NotedThen u looked c looked' c' → Notes looked c from looked' c' from'
-  unfolding NotedThen RoomToNote
-  notes-mark {looked} {looked'} {c} {c'} mark then room =
-      let l : c < length looked = omega (arith, room, fewer) in
-      let (note, one) = then l in
-      rw (mark, note, one) (record { room = rw length-set (omega (arith, room, fewer)); back = rw add-one (back-first looked c l) })
+  -- there is room for u, ..
+  pub noted-room : {looked : List ℕ} {c : ℕ} → Notable looked c from → c < length looked
+  noted-room n = omega (arith, n .room, fewer)
 
--- there is room at the start for all
-pub room-start : (looked from : List ℕ) → length from ≤ length looked → RoomToNote looked 0 from
-unfolding RoomToNote unseenCount
-room-start looked from l = omega (arith, count-bound (length from) (λ u. not (seen from u)))
+  -- .. and a look that marks it notes it
+  pub noted-mark : {looked looked' : List ℕ} {c c' : ℕ} {from' : List ℕ} → Notable looked c from → from' ≡ set from u x → NotedThen u looked c looked' c' → Noted looked c from looked' c' from'
+  noted-mark {looked} {looked'} {c} {c'} n mark (note, one) =
+      rw (mark, note, one)
+      (record {
+        notable = record {
+          inside = λ i l.
+              by-bool (eqb i c) (λ q. rw (length-set, eqb-true i c q, getD-set-same looked c u 0 (noted-room n)) below)
+              (λ q. let other = eqb-false i c q in rw (length-set, getD-set-other looked c i u 0 other) (n .inside i (omega arith)));
+          room = rw length-set (omega (arith, n .room, fewer));
+        };
+        back = rw add-one (back-first looked c (noted-room n));
+      })
+
+-- nobody noted yet, and room for all
+pub notable-start : (looked from : List ℕ) → length from ≤ length looked → Notable looked 0 from
+unfolding unseenCount
+notable-start looked from l = record { inside = λ i q. absurd (omega arith); room = omega (arith, count-bound (length from) (λ u. not (seen from u))) }
+
+-- .. in a list made for any plant
+pub notable-made : {n x : ℕ} {looked : List ℕ} (from : List ℕ) → length from ≡ n → n ≤ GATEWAYS → looked ≡ replicate GATEWAYS x → Notable looked 0 from
+notable-made {x = x} {looked} from e few made = notable-start looked from (omega (arith, e, few, ap length made ∙ length-replicate GATEWAYS x))
 
 -- the loop that takes back: what is left to take back gives what all give
 pub record TakingBack (looked : List ℕ) (c : ℕ) (from₀ from : List ℕ) (i : ℕ) : Type 0 where
@@ -89,6 +103,10 @@ module _ (looked : List ℕ) (c : ℕ) (from₀ : List ℕ) where
   unfolding takenBack
   back-turn {from} {from'} {i} {j} {u} t one is now =
       record { within = omega (arith, t .within); same = rw (now, length-set) (t .same); rest = rw (now, is) (rw one at (t .rest)) }
+
+  -- whose mark is taken back has one
+  pub back-place : {from : List ℕ} {i j : ℕ} → Notable looked c from₀ → TakingBack looked c from₀ from i → i ≡ suc j → at looked j < length from
+  back-place {j = j} n t one = rw (t .same) (n .inside j (omega (arith, t .within)))
 
   pub back-end : {from : List ℕ} {i : ℕ} → TakingBack looked c from₀ from i → i ≡ 0 → from ≡ takenBack c looked from₀
   unfolding takenBack

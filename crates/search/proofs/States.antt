@@ -15,13 +15,23 @@ use Rattle.packing.proofs.Tests.{by-bool, clash, and-l, and-r, and-i, not-i, if
 use Rattle.packing.proofs.Sums.{count-ext, count-split, count-mono, count-all, count-some}
 use Rattle.packing.proofs.Moved.{count-point}
 use Rattle.search.specs.Search.{Search, found, more, seen, heldBy, look, visit, turn, turns, walk}
-use Rattle.search.specs.Pre.{waiting, Going, Startable, Placeable}
+use Rattle.chains.specs.Index.{IndexFor}
+use Rattle.chains.proofs.LinkMore.{index-told}
+use Rattle.search.specs.Pre.{PlantLists, waiting, Going, Startable, Placeable}
 use Rattle.packing.proofs.Lists.{member-at}
 use Rattle.search.proofs.Queue.{append-at, heldBy-length, heldBy-out}
 
 -- a gateway is no NONE
 pub gateway-some : {n x : ℕ} → n ≤ GATEWAYS → x < n → x ≡ NONE → ⊥
 gateway-some few l e = omega arith
+
+-- a plant's lists, however the number of its gateways is told
+pub lists-told : {n k : ℕ} {limits ls next : List ℕ} → k ≡ n → PlantLists n limits ls next → PlantLists k limits ls next
+lists-told e p = record { index = index-told e (p .index); limited = omega (arith, e, p .limited) }
+
+-- .. and limits made for any plant serve it
+pub made-lists : {n k x : ℕ} {limits ls next : List ℕ} → k ≡ n → n ≤ GATEWAYS → limits ≡ replicate GATEWAYS x → IndexFor n ls next → PlantLists k limits ls next
+made-lists {x = x} e few made d = record { index = index-told e d; limited = omega (arith, e, few, ap length made ∙ length-replicate GATEWAYS x) }
 
 -- marks of nobody, one for each gateway
 pub none-marked : {n : ℕ} {from : List ℕ} → from ≡ replicate n NONE → length from ≡ n

@@ -8,9 +8,9 @@ use Rattle.packing.specs.Count.{count}
 use Rattle.packing.specs.Plant.{NONE, at}
 use Rattle.search.specs.Search.{seen}
 
--- one more noted behind the first c, where there is room
-unfoldable pub NotedThen : ℕ → List ℕ → ℕ → List ℕ → ℕ → Type 0
-NotedThen u looked c looked' c' = c < length looked → (looked' ≡ set looked c u) × (c' ≡ c + 1)
+-- one more noted behind the first c
+abbrev pub NotedThen : ℕ → List ℕ → ℕ → List ℕ → ℕ → Type 0
+NotedThen u looked c looked' c' = (looked' ≡ set looked c u) × (c' ≡ c + 1)
 
 -- the marks once those of the first c noted are taken back, the last of them first
 unfoldable pub takenBack : ℕ → List ℕ → List ℕ → List ℕ
@@ -21,15 +21,12 @@ takenBack (suc c) looked from = takenBack c looked (set from (at looked c) NONE)
 unfoldable pub unseenCount : List ℕ → ℕ
 unseenCount from = count (length from) (λ u. not (seen from u))
 
--- room to note all that have no mark yet, behind the first c
-unfoldable pub RoomToNote : List ℕ → ℕ → List ℕ → Type 0
-RoomToNote looked c from = c + unseenCount from ≤ length looked
+-- each of the first c noted has a mark to take back, and there is room behind them to note all that have no mark yet
+pub record Notable (looked : List ℕ) (c : ℕ) (from : List ℕ) : Type 0 where
+  pub inside : (i : ℕ) → i < c → at looked i < length from
+  pub room : c + unseenCount from ≤ length looked
 
 -- taken back, the marks are those that they were before
 pub record Noted (looked₀ : List ℕ) (c₀ : ℕ) (from₀ looked : List ℕ) (c : ℕ) (from : List ℕ) : Type 0 where
-  pub room : RoomToNote looked c from
+  pub notable : Notable looked c from
   pub back : takenBack c looked from ≡ takenBack c₀ looked₀ from₀
-
--- .. where there was room for all
-abbrev pub Notes : List ℕ → ℕ → List ℕ → List ℕ → ℕ → List ℕ → Type 0
-Notes looked₀ c₀ from₀ looked c from = RoomToNote looked₀ c₀ from₀ → Noted looked₀ c₀ from₀ looked c from

@@ -28,7 +28,7 @@ pub fn write_set(
 {
     let tail = queue_unheld(n, holders, queue);
     let limits = lists::marks::bytes(0);
-    let mut looked = [0u16; 0];
+    let mut looked = lists::marks::zeros();
     let mut count: usize = 0;
     walk(
         &limits,

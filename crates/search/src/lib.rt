@@ -17,12 +17,11 @@ ghost use mathlib.Core.Path.{_≡_};
 ghost use mathlib.Core.List.{[], _∷_};
 ghost use Rattle.packing.specs.Plant.{at};
 ghost use Rattle.packing.specs.Moved.{moved};
-ghost use Rattle.chains.specs.Index.{IndexFor};
 ghost use Rattle.search.specs.Search.{placeable, placedHolders, holdersAfter};
 ghost use Rattle.search.specs.Moved.{placeAnswer};
 ghost use Rattle.search.specs.Dead.{walkPast};
-ghost use Rattle.search.specs.Noted.{Notes};
-ghost use Rattle.search.specs.Pre.{Placeable, Settleable, Outcome};
+ghost use Rattle.search.specs.Noted.{Notable, Noted};
+ghost use Rattle.search.specs.Pre.{PlantLists, Placeable, Settleable, Outcome};
 
 // How a search ends or stands: at a gateway with a place free, looked at from another; or with so many queued.
 enum Walked {
@@ -50,9 +49,9 @@ fn settle(
     looked: &mut [u16],
     count: &mut usize,
 ) -> u16
-    requires { ⌜ IndexFor n (now links) (now next) × Settleable n (now holders) v (now rows) (now queue) (now from) ⌝ }
+    requires { ⌜ PlantLists n (now limits) (now links) (now next) × Notable (now looked) (now count) (now from) × Settleable n (now holders) v (now rows) (now queue) (now from) ⌝ }
     ensures outcome { λ r. ⌜ Outcome n v (now (holders .entry)) (walkPast n (at (now (limits .entry))) (now (links .entry)) (now (holders .entry)) (v ∷ []) (now (from .entry))) r (now (holders .exit)) (now (from .exit)) (now (rows .entry)) (now (rows .exit)) ⌝ }
-    ensures marks { λ _. ⌜ Notes (now (looked .entry)) (now (count .entry)) (now (from .entry)) (now (looked .exit)) (now (count .exit)) (now (from .exit)) ⌝ }
+    ensures marks { λ _. ⌜ Noted (now (looked .entry)) (now (count .entry)) (now (from .entry)) (now (looked .exit)) (now (count .exit)) (now (from .exit)) ⌝ }
 {
     queue[0] = v;
     let w = walk::walk(limits, links, next, rows, queue, 1, from, looked, count);
@@ -71,7 +70,7 @@ fn place_unheld(
     next: &[u16],
     holders: &mut [u16],
 ) -> u16
-    requires { ⌜ IndexFor n (now links) (now next) × Placeable n (now holders) v ⌝ }
+    requires { ⌜ PlantLists n (now limits) (now links) (now next) × Placeable n (now holders) v ⌝ }
     ensures holders { λ _. ⌜ now (holders .exit) ≡ placedHolders n (at (now (limits .entry))) (now (links .entry)) (now (holders .entry)) v ⌝ }
     ensures moved { λ r. ⌜ r ≡ moved n (at (now (holders .entry))) (at (placedHolders n (at (now (limits .entry))) (now (links .entry)) (now (holders .entry)) v)) ⌝ }
 {
@@ -79,7 +78,7 @@ fn place_unheld(
     gather(n, holders, &mut rows);
     let mut queue = lists::marks::zeros();
     let mut from = lists::marks::nones();
-    let mut looked = [0u16; 0];
+    let mut looked = lists::marks::zeros();
     let mut count: usize = 0;
     let end = n as usize;
     settle(
@@ -110,7 +109,7 @@ pub fn is_placeable(n: u16, v: u16, holders: &[u16]) -> bool
     n <= lists::entry(holders, v)
 }
 
-// Places v by a limit for each gateway, 0 past the list's end, with the index of the links. Answers whether v may be placed, and how many gateways have another holder afterwards; if it may not, nothing is changed.
+// Places v by a limit for each gateway, with the index of the links. Answers whether v may be placed, and how many gateways have another holder afterwards; if it may not, nothing is changed.
 pub fn place(
     n: u16,
     v: u16,
@@ -119,7 +118,7 @@ pub fn place(
     next: &[u16],
     holders: &mut [u16],
 ) -> Placed
-    requires { ⌜ IndexFor n (now links) (now next) ⌝ }
+    requires { ⌜ PlantLists n (now limits) (now links) (now next) ⌝ }
     ensures answer { λ r. ⌜ r ≡ placeAnswer n (at (now (limits .entry))) (now (links .entry)) (now (holders .entry)) v ⌝ }
     ensures holders { λ _. ⌜ now (holders .exit) ≡ holdersAfter n (at (now (limits .entry))) (now (links .entry)) (now (holders .entry)) v ⌝ }
 {

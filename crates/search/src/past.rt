@@ -4,8 +4,8 @@ use crate::noted::take_back;
 ghost use mathlib.Core.Path.{_≡_};
 ghost use Rattle.packing.specs.Moved.{moved};
 ghost use Rattle.packing.specs.Plant.{at};
-ghost use Rattle.chains.specs.Index.{IndexFor};
 ghost use Rattle.search.specs.Search.{placedHolders};
+ghost use Rattle.search.specs.Pre.{PlantLists};
 ghost use Rattle.search.specs.RowPre.{RowsOf};
 ghost use Rattle.search.specs.Dead.{Past, DeadThen};
 
@@ -22,7 +22,7 @@ pub fn place_past(
     dead: &mut [u16],
     looked: &mut [u16],
 ) -> u16
-    requires { ⌜ IndexFor n (now links) (now next) × Past n (at (now limits)) (now links) (now holders) v (now rows) (now queue) (now dead) (now looked) ⌝ }
+    requires { ⌜ PlantLists n (now limits) (now links) (now next) × Past n (at (now limits)) (now links) (now holders) v (now rows) (now queue) (now dead) (now looked) ⌝ }
     ensures holders { λ _. ⌜ now (holders .exit) ≡ placedHolders n (at (now (limits .entry))) (now (links .entry)) (now (holders .entry)) v ⌝ }
     ensures moved { λ r. ⌜ r ≡ moved n (at (now (holders .entry))) (at (placedHolders n (at (now (limits .entry))) (now (links .entry)) (now (holders .entry)) v)) ⌝ }
     ensures rows { λ _. ⌜ RowsOf n (placedHolders n (at (now (limits .entry))) (now (links .entry)) (now (holders .entry)) v) (now (rows .exit)) ⌝ }

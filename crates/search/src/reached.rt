@@ -27,7 +27,7 @@ fn walk_from(n: u16, v: u16, links: &[u16], next: &[u16], holders: &[u16], from:
     let mut queue = lists::marks::zeros();
     queue[0] = v;
     let limits = lists::marks::bytes(0);
-    let mut looked = [0u16; 0];
+    let mut looked = lists::marks::zeros();
     let mut count: usize = 0;
     walk(
         &limits,

@@ -2,7 +2,7 @@ use mathlib.Core.Path.{_∙_}
 use lib.ListN.{length-set}
 use Rattle.search.proofs.Settling.{settle-some, settle-kept, settle-left}
 use borrow.Author.Needs.{needs}
-use Rattle.chains.proofs.LinkMore.{index-told}
+use Rattle.search.proofs.States.{lists-told}
 use Rattle.search.proofs.settle.Statement.{statement}
 use Rattle.search.proofs.settle.Tie as tie
 
@@ -11,7 +11,7 @@ slice-write-queue c = search needs
 
 walk-requires : tie.Need-walk-requires
 walk-requires c κs = let start = c .before .before .before .before .before .before .before .before .before .before .before .before in
-    (index-told (start .pre .1 .going .marks) (start .pre .0), settle-some (start .pre .1))
+    (lists-told (start .pre .2 .going .marks) (start .pre .0), start .pre .1, settle-some (start .pre .2))
 
 enum-known-w : tie.Need-enum-known-w
 enum-known-w c = search needs
@@ -43,7 +43,7 @@ returns : tie.Need-returns
 returns c = let known = c .before .before .before .before .before .before .before .before in
     let called = known .before .before .before .before .before .before .before .before in
     let start = called .before .before .before .before .before .before .before .before .before .before .before .before .before in
-    (settle-kept _ _ (start .pre .1) (called .walk .ensures .0) _ (known .w .given .1) (c .before .before .before .shift-back .ensures), called .walk .ensures .1)
+    (settle-kept _ _ (start .pre .2) (called .walk .ensures .0) _ (known .w .given .1) (c .before .before .before .shift-back .ensures), called .walk .ensures .1)
 
 same-length-6 : tie.Need-same-length-6
 same-length-6 c = search needs
@@ -62,7 +62,7 @@ same-length-9 c = search needs
 returns-2 : tie.Need-returns-2
 returns-2 c = let called = c .before .before .before .before .before .before .before .before in
     let start = called .before .before .before .before .before .before .before .before .before .before .before .before .before in
-    (settle-left _ _ (start .pre .1) (called .walk .ensures .0) (c .enum-told .given .1), called .walk .ensures .1)
+    (settle-left _ _ (start .pre .2) (called .walk .ensures .0) (c .enum-told .given .1), called .walk .ensures .1)
 
 pub settle-spec : {M : Type 1} → statement M
 settle-spec =

@@ -7,7 +7,7 @@ use Rattle.planner.specs.State.{limitOf, soundState}
 use Rattle.planner.specs.Calls.{conditions, callRefusal, changed}
 use Rattle.planner.proofs.Conditions.{unsound-number, sound-number, place-full, place-next}
 use Rattle.planner.proofs.Outcomes.{place-refused, place-accepted}
-use Rattle.planner.proofs.Next.{checked, sound-joining, sound-index, next-placed, next-moved}
+use Rattle.planner.proofs.Next.{checked, sound-joining, sound-lists, next-placed, next-moved}
 use borrow.Author.Needs.{needs}
 use Rattle.planner.proofs.Small.place_by.Statement.{statement}
 use Rattle.planner.proofs.Small.place_by.Tie as tie
@@ -62,7 +62,7 @@ slice-aggregate-search-by-2 c = search needs
 search-by-requires : tie.Need-search-by-requires
 search-by-requires c κs = let built = c .before .before .before .before in
     let test = built .before .before in
-    sound-index (checked _ _ _ _ _ _ _ _ (test .before .before .is-sound .ensures) (test .before .if1 .left)) (built .index-of .ensures)
+    sound-lists (checked _ _ _ _ _ _ _ _ (test .before .before .is-sound .ensures) (test .before .if1 .left)) (built .index-of .ensures)
 
 add-t24 : tie.Need-add-t24
 add-t24 c = let test = c .before .before .before .before .before .before .before .before .before in

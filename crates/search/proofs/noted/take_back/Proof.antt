@@ -1,7 +1,7 @@
 use borrow.Author.Needs.{needs}
 use native.Mathlib.Omega.{arith}
 use mathlib.Core.Path.{refl}
-use Rattle.search.proofs.Noting.{TakingBack, back-start, back-turn, back-end}
+use Rattle.search.proofs.Noting.{TakingBack, back-start, back-place, back-turn, back-end}
 use Rattle.search.proofs.noted.take_back.Statement.{statement}
 use Rattle.search.proofs.noted.take_back.Tie as tie
 
@@ -21,16 +21,19 @@ mul-u : tie.Need-mul-u Inv-loop μ-loop
 mul-u c = search needs
 
 shared-slice-read-u : tie.Need-shared-slice-read-u Inv-loop μ-loop
-shared-slice-read-u c = omega (arith, c .before .before .before .before .before .pre, c .before .before .loop .inv .within, c .before .loop-test .taken)
+shared-slice-read-u c = omega (arith, c .before .before .before .before .before .pre .room, c .before .before .loop .inv .within, c .before .loop-test .taken)
 
-put-requires : tie.Need-put-requires Inv-loop μ-loop
-put-requires c κs = search needs
+unmark-requires : tie.Need-unmark-requires Inv-loop μ-loop
+unmark-requires c κs = let turn = c .before .before in
+    back-place _ _ _ (turn .before .before .before .before .pre) (turn .before .loop .inv) (omega (arith, turn .loop-test .taken))
 
 loop-less : tie.Need-loop-less Inv-loop μ-loop
 loop-less c = search needs
 
 loop-again : tie.Need-loop-again Inv-loop μ-loop
-loop-again c = back-turn _ _ _ (c .before .before .before .before .before .before .loop .inv) (omega (arith, c .before .before .before .before .before .loop-test .taken)) refl (c .before .before .put .ensures)
+loop-again c = let called = c .before .before in
+    let turn = called .before .before .before in
+    back-turn _ _ _ (turn .before .loop .inv) (omega (arith, turn .loop-test .taken)) refl (called .unmark .ensures)
 
 same-length : tie.Need-same-length Inv-loop μ-loop
 same-length c = c .before .loop .inv .same
@@ -48,7 +51,7 @@ take-back-spec =
     sub-i
     mul-u
     shared-slice-read-u
-    put-requires
+    unmark-requires
     loop-less
     loop-again
     same-length

@@ -1,16 +1,16 @@
-use Rattle.search.proofs.DeadStep.{past-settleable, past-done, past-noted, past-dead-left, past-dead-kept}
+use Rattle.search.proofs.DeadStep.{past-settleable, past-notable, past-done, past-dead-left, past-dead-kept}
 use borrow.Author.Needs.{needs}
 use Rattle.search.proofs.past.place_past.Statement.{statement}
 use Rattle.search.proofs.past.place_past.Tie as tie
 
 settle-requires : tie.Need-settle-requires
 settle-requires c κs = let start = c .before .before .before .before .before .before .before .before .before .before .before .before .before in
-    (start .pre .0, past-settleable _ _ (start .pre .1))
+    (start .pre .0, past-notable _ _ (start .pre .1), past-settleable _ _ (start .pre .1))
 
 take-back-requires : tie.Need-take-back-requires
 take-back-requires c κs = let called = c .before .before .before .before .before .before .before .before .before .before .before .before in
     let start = called .before .before .before .before .before .before .before .before .before .before .before .before .before .before in
-    past-noted _ _ (start .pre .1) _ _ _ _ (called .settle .ensures .0) (called .settle .ensures .1)
+    called .settle .ensures .1 .notable
 
 same-length : tie.Need-same-length
 same-length c = search needs

@@ -1,9 +1,9 @@
 use Rattle.search.proofs.Rows.{table-count}
 use Rattle.search.proofs.Settling.{settle-some}
-use Rattle.search.proofs.States.{none-marked}
+use Rattle.search.proofs.States.{none-marked, made-lists}
+use Rattle.search.proofs.Noting.{notable-made}
 use Rattle.search.proofs.ReachedTests.{from-settles, from-marks}
 use borrow.Author.Needs.{needs}
-use Rattle.chains.proofs.LinkMore.{index-told}
 use Rattle.search.proofs.reached.walk_from.Statement.{statement}
 use Rattle.search.proofs.reached.walk_from.Tie as tie
 
@@ -22,11 +22,14 @@ array-write-queue c = search needs
 bytes-requires : tie.Need-bytes-requires
 bytes-requires c κs = search needs
 
+zeros-requires-2 : tie.Need-zeros-requires-2
+zeros-requires-2 c κs = search needs
+
 slice-aggregate-walk : tie.Need-slice-aggregate-walk
 slice-aggregate-walk c = search needs
 
 slice-aggregate-walk-2 : tie.Need-slice-aggregate-walk-2
-slice-aggregate-walk-2 c = table-count _ _ (c .before .before .before .before .gather .ensures)
+slice-aggregate-walk-2 c = table-count _ _ (c .before .before .before .before .before .gather .ensures)
 
 slice-aggregate-walk-3 : tie.Need-slice-aggregate-walk-3
 slice-aggregate-walk-3 c = search needs
@@ -35,16 +38,20 @@ slice-aggregate-walk-4 : tie.Need-slice-aggregate-walk-4
 slice-aggregate-walk-4 c = search needs
 
 walk-requires : tie.Need-walk-requires
-walk-requires c κs = let zeros = c .before .before .before .before .before .before .before in
-    let start = zeros .before .before .before .before .before .before .before .before in
-    (index-told (none-marked (start .pre .1 .unseen)) (start .pre .0), settle-some (from-settles (start .pre .1) (zeros .zeros .ensures) (zeros .before .gather .ensures)))
+walk-requires c κs = let noting = c .before .before .before .before .before .before in
+    let zeros = noting .before .before in
+    let start = zeros .before .before .before .before .before .before .before .before in (
+      made-lists (none-marked (start .pre .1 .unseen)) (start .pre .1 .free .few) (noting .before .bytes .ensures) (start .pre .0),
+      notable-made _ (none-marked (start .pre .1 .unseen)) (start .pre .1 .free .few) (noting .zeros2 .ensures),
+      settle-some (from-settles (start .pre .1) (zeros .zeros .ensures) (zeros .before .gather .ensures)),
+    )
 
 same-length : tie.Need-same-length
 same-length c = search needs
 
 returns : tie.Need-returns
 returns c = let walked = c .before .before .before .before in
-    let made = walked .before .before .before .before .before .before .before in
+    let made = walked .before .before .before .before .before .before .before .before in
     let zeros = made .before in
     from-marks (zeros .before .before .before .before .before .before .before .before .pre .1) (zeros .zeros .ensures) (zeros .before .gather .ensures) _ _ (walked .walk .ensures .0) (made .bytes .ensures) (walked .walk .kept .1 .1 .1 .1 .1 .1 .0)
 
@@ -57,6 +64,7 @@ walk-from-spec =
     zeros-requires
     array-write-queue
     bytes-requires
+    zeros-requires-2
     slice-aggregate-walk
     slice-aggregate-walk-2
     slice-aggregate-walk-3

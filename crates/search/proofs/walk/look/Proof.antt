@@ -1,8 +1,8 @@
 use borrow.Author.Needs.{needs}
 use mathlib.Core.Path.{refl}
 use Rattle.packing.specs.Plant.{at}
-use Rattle.search.proofs.Noting.{notes-same}
-use Rattle.search.proofs.Looks.{look-is-seen, look-row, look-joins, look-notes, look-is-free, look-is-full}
+use Rattle.search.proofs.Noting.{noted-same}
+use Rattle.search.proofs.Looks.{look-is-seen, look-row, look-room, look-joins, look-notes, look-is-free, look-is-full}
 use borrow.Author.Needs.{needs}
 use Rattle.search.proofs.walk.look.Statement.{statement}
 use Rattle.search.proofs.walk.look.Tie as tie
@@ -14,7 +14,7 @@ slice-read-if1 : tie.Need-slice-read-if1
 slice-read-if1 c = search needs
 
 returns : tie.Need-returns
-returns c = (λ n hs t r. look-is-seen _ _ t r refl (c .if1 .taken), notes-same _ _ _)
+returns c = (λ n hs t r. look-is-seen _ _ t r refl (c .if1 .taken), noted-same (c .before .before .before .before .before .before .pre .2))
 
 mul-from : tie.Need-mul-from
 mul-from c = search needs
@@ -23,7 +23,9 @@ slice-write-from : tie.Need-slice-write-from
 slice-write-from c = search needs
 
 note-requires : tie.Need-note-requires
-note-requires c κs = search needs
+note-requires c κs = let left = c .before .before in
+    let start = left .before .before .before .before .before .before in
+    look-room (at (start .args .limits .now)) _ (start .pre .3 .table) (start .pre .3 .has) refl (left .if1 .left) (start .pre .2)
 
 mul-has-place : tie.Need-mul-has-place
 mul-has-place c = search needs
@@ -31,10 +33,10 @@ mul-has-place c = search needs
 shared-slice-element-has-place : tie.Need-shared-slice-element-has-place
 shared-slice-element-has-place c = let left = c .before .before .before .before .before in
     let start = left .before .before .before .before .before .before in
-    look-row (at (start .args .limits .now)) _ (start .pre .1 .table) (start .pre .1 .has) refl (left .if1 .left)
+    look-row (at (start .args .limits .now)) _ (start .pre .3 .table) (start .pre .3 .has) refl (left .if1 .left)
 
-byte-requires : tie.Need-byte-requires
-byte-requires c κs = search needs
+shared-slice-read-has-place : tie.Need-shared-slice-read-has-place
+shared-slice-read-has-place c = search needs
 
 has-place-requires : tie.Need-has-place-requires
 has-place-requires c κs = search needs
@@ -47,12 +49,11 @@ same-length-2 c = search needs
 
 returns-2 : tie.Need-returns-2
 returns-2 c = let place = c .before in
-    let limit = place .before in
-    let noted = limit .before .before .before .before .before in
+    let noted = place .before .before .before .before .before .before in
     let left = noted .before .before .before in
     let start = left .before .before .before .before .before .before in (
-      λ n hs t r. look-is-free _ _ t r refl (left .if1 .left) refl (limit .byte .ensures) (place .has-place .ensures) (c .if2 .taken),
-      look-notes (at (start .args .limits .now)) _ (start .pre .1 .table) (start .pre .1 .has) refl (left .if1 .left) refl (noted .note .ensures),
+      λ n hs t r. look-is-free _ _ t r refl (left .if1 .left) refl refl (place .has-place .ensures) (c .if2 .taken),
+      look-notes (at (start .args .limits .now)) _ (start .pre .3 .table) (start .pre .3 .has) refl (left .if1 .left) (start .pre .2) refl (noted .note .ensures),
     )
 
 mul-join : tie.Need-mul-join
@@ -61,12 +62,12 @@ mul-join c = search needs
 shared-slice-element-join : tie.Need-shared-slice-element-join
 shared-slice-element-join c = let left = c .before .before .before .before .before .before .before .before .before .before in
     let start = left .before .before .before .before .before .before in
-    look-row (at (start .args .limits .now)) _ (start .pre .1 .table) (start .pre .1 .has) refl (left .if1 .left)
+    look-row (at (start .args .limits .now)) _ (start .pre .3 .table) (start .pre .3 .has) refl (left .if1 .left)
 
 join-requires : tie.Need-join-requires
 join-requires c κs = let left = c .before .before .before .before .before .before .before .before .before .before .before .before .before in
     let start = left .before .before .before .before .before .before in
-    look-joins (at (start .args .limits .now)) _ (start .pre .1 .table) (start .pre .1 .has) refl (left .if1 .left)
+    look-joins (at (start .args .limits .now)) _ (start .pre .3 .table) (start .pre .3 .has) refl (left .if1 .left)
 
 same-length-3 : tie.Need-same-length-3
 same-length-3 c = search needs
@@ -81,12 +82,11 @@ returns-3 : tie.Need-returns-3
 returns-3 c = let joined = c .before .before in
     let full = joined .before .before .before .before in
     let place = full .before in
-    let limit = place .before in
-    let noted = limit .before .before .before .before .before in
+    let noted = place .before .before .before .before .before .before in
     let left = noted .before .before .before in
     let start = left .before .before .before .before .before .before in (
-      λ n hs t r. look-is-full _ _ t r refl (left .if1 .left) refl (limit .byte .ensures) (place .has-place .ensures) (full .if2 .left) (joined .join .ensures),
-      look-notes (at (start .args .limits .now)) _ (start .pre .1 .table) (start .pre .1 .has) refl (left .if1 .left) refl (noted .note .ensures),
+      λ n hs t r. look-is-full _ _ t r refl (left .if1 .left) refl refl (place .has-place .ensures) (full .if2 .left) (joined .join .ensures),
+      look-notes (at (start .args .limits .now)) _ (start .pre .3 .table) (start .pre .3 .has) refl (left .if1 .left) (start .pre .2) refl (noted .note .ensures),
     )
 
 pub look-spec : {M : Type 1} → statement M
@@ -101,7 +101,7 @@ look-spec =
     note-requires
     mul-has-place
     shared-slice-element-has-place
-    byte-requires
+    shared-slice-read-has-place
     has-place-requires
     same-length
     same-length-2

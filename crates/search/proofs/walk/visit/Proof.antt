@@ -3,35 +3,37 @@ use Prim.Native.Nat.{_-_}
 use mathlib.Core.Path.{refl}
 use native.Mathlib.Omega.{arith}
 use Rattle.packing.specs.Plant.{NONE, at}
-use Rattle.search.proofs.Noting.{NotesSo, notes-same, notes-then, notes-on}
+use Rattle.search.proofs.Noting.{NotedSo, noted-same, noted-then, noted-on}
 use Rattle.search.proofs.Looks.{Visiting, ready-below, visit-start, visit-ready, visit-places, visit-neighbour, visit-turn, visit-ends, visit-out}
 use Rattle.search.proofs.walk.visit.Statement.{statement}
 use Rattle.search.proofs.walk.visit.Tie as tie
 
 abbrev Inv-loop : tie.InvT-loop
-Inv-loop limits x links next rows queue₀ tail from₀ looked₀ count₀ end₀ e₀ queue from looked count end e = Visiting (at limits) x links rows queue₀ tail from₀ queue from end e × NotesSo looked₀ count₀ from₀ looked count from
+Inv-loop limits x links next rows queue₀ tail from₀ looked₀ count₀ end₀ e₀ queue from looked count end e = Visiting (at limits) x links rows queue₀ tail from₀ queue from end e × NotedSo looked₀ count₀ from₀ looked count from
 
 abbrev μ-loop : tie.MeasureT-loop
 μ-loop limits x links next rows queue₀ tail from₀ looked₀ count₀ end₀ e₀ queue from looked count end e = NONE - e
 
 first-end-requires : tie.Need-first-end-requires Inv-loop μ-loop
 first-end-requires c κs = let start = c .before .before .before .before .before .before in
-    (omega (arith, start .pre .0 .index .room), ready-below (start .pre .1))
+    (omega (arith, start .pre .0 .index .index .room), ready-below (start .pre .2))
 
 loop-holds : tie.Need-loop-holds Inv-loop μ-loop
 loop-holds c = let start = c .before .before .before .before .before .before .before in
-    (visit-start _ _ _ _ _ _ _ _ (start .pre .0) (start .pre .1) (c .first-end .ensures), (refl, notes-same _ _ _))
+    (visit-start _ _ _ _ _ _ _ _ (start .pre .0 .index) (start .pre .2) (c .first-end .ensures), (refl, noted-same (start .pre .1)))
 
 neighbour-at-requires : tie.Need-neighbour-at-requires Inv-loop μ-loop
 neighbour-at-requires c κs = let turn = c .before in
     let start = turn .before .before .before .before .before .before .before .before in
-    visit-places _ _ _ _ _ _ _ _ (start .pre .0) (start .pre .1) (turn .loop .inv .0) (c .loop-test .taken) .0
+    visit-places _ _ _ _ _ _ _ _ (start .pre .0 .index) (start .pre .2) (turn .loop .inv .0) (c .loop-test .taken) .0
 
 look-requires : tie.Need-look-requires Inv-loop μ-loop
 look-requires c κs = let turn = c .before .before .before .before .before .before in
     let start = turn .before .before .before .before .before .before .before .before in (
-      visit-neighbour _ _ _ _ _ _ _ _ (start .pre .0) (start .pre .1) (turn .loop .inv .0) (c .before .before .before .before .before .loop-test .taken) (c .before .before .before .before .neighbour-at .ensures),
-      visit-ready _ _ _ _ _ _ _ _ (start .pre .0) (start .pre .1) (turn .loop .inv .0),
+      visit-neighbour _ _ _ _ _ _ _ _ (start .pre .0 .index) (start .pre .2) (turn .loop .inv .0) (c .before .before .before .before .before .loop-test .taken) (c .before .before .before .before .neighbour-at .ensures),
+      omega (arith, turn .loop .inv .0 .same .1, start .pre .0 .limited),
+      turn .loop .inv .1 .1 .notable,
+      visit-ready _ _ _ _ _ _ _ _ (start .pre .0 .index) (start .pre .2) (turn .loop .inv .0),
     )
 
 enum-known-w : tie.Need-enum-known-w Inv-loop μ-loop
@@ -51,8 +53,8 @@ returns c = let called = c .before .before .before .before .before .before .befo
     let read = called .before .before .before .before .before in
     let turn = read .before in
     let start = turn .before .before .before .before .before .before .before .before .before in (
-      visit-ends _ _ _ _ _ _ _ _ (start .pre .0) (start .pre .1) (turn .before .loop .inv .0) (turn .loop-test .taken) (read .neighbour-at .ensures) (called .look .ensures .0) (c .before .w .given .1),
-      notes-then (turn .before .loop .inv .1 .1) (called .look .ensures .1),
+      visit-ends _ _ _ _ _ _ _ _ (start .pre .0 .index) (start .pre .2) (turn .before .loop .inv .0) (turn .loop-test .taken) (read .neighbour-at .ensures) (called .look .ensures .0) (c .before .w .given .1),
+      noted-then (turn .before .loop .inv .1 .1) (called .look .ensures .1),
     )
 
 enum-known-w-2 : tie.Need-enum-known-w-2 Inv-loop μ-loop
@@ -61,7 +63,7 @@ enum-known-w-2 c = search needs
 next-end-requires : tie.Need-next-end-requires Inv-loop μ-loop
 next-end-requires c κs = let turn = c .before .before .before .before .before .before .before .before .before .before .before .before .before .before .before in
     let start = turn .before .before .before .before .before .before .before .before .before in
-    visit-places _ _ _ _ _ _ _ _ (start .pre .0) (start .pre .1) (turn .before .loop .inv .0) (turn .loop-test .taken) .1
+    visit-places _ _ _ _ _ _ _ _ (start .pre .0 .index) (start .pre .2) (turn .before .loop .inv .0) (turn .loop-test .taken) .1
 
 loop-less : tie.Need-loop-less Inv-loop μ-loop
 loop-less c = let told = c .before in
@@ -69,7 +71,7 @@ loop-less c = let told = c .before in
     let read = called .before .before .before .before .before in
     let turn = read .before in
     let start = turn .before .before .before .before .before .before .before .before .before in
-    visit-turn _ _ _ _ _ _ _ _ (start .pre .0) (start .pre .1) (turn .before .loop .inv .0) (turn .loop-test .taken) (read .neighbour-at .ensures) (called .look .ensures .0) (told .before .w2 .given .1)
+    visit-turn _ _ _ _ _ _ _ _ (start .pre .0 .index) (start .pre .2) (turn .before .loop .inv .0) (turn .loop-test .taken) (read .neighbour-at .ensures) (called .look .ensures .0) (told .before .w2 .given .1)
     (called .look .kept .1 .1 .1 .1 .0, called .look .kept .1 .1 .1 .1 .1 .1 .0) (c .next-end .ensures) .1
 
 loop-again : tie.Need-loop-again Inv-loop μ-loop
@@ -78,9 +80,9 @@ loop-again c = let told = c .before in
     let read = called .before .before .before .before .before in
     let turn = read .before in
     let start = turn .before .before .before .before .before .before .before .before .before in (
-      visit-turn _ _ _ _ _ _ _ _ (start .pre .0) (start .pre .1) (turn .before .loop .inv .0) (turn .loop-test .taken) (read .neighbour-at .ensures) (called .look .ensures .0) (told .before .w2 .given .1)
+      visit-turn _ _ _ _ _ _ _ _ (start .pre .0 .index) (start .pre .2) (turn .before .loop .inv .0) (turn .loop-test .taken) (read .neighbour-at .ensures) (called .look .ensures .0) (told .before .w2 .given .1)
           (called .look .kept .1 .1 .1 .1 .0, called .look .kept .1 .1 .1 .1 .1 .1 .0) (c .next-end .ensures) .0,
-      notes-on (turn .before .loop .inv .1) (called .look .kept .1 .1 .1 .1 .1 .1 .1 .0) (called .look .ensures .1),
+      noted-on (turn .before .loop .inv .1) (called .look .kept .1 .1 .1 .1 .1 .1 .1 .0) (called .look .ensures .1),
     )
 
 same-length-4 : tie.Need-same-length-4 Inv-loop μ-loop
@@ -94,7 +96,7 @@ same-length-6 c = search needs
 
 returns-2 : tie.Need-returns-2 Inv-loop μ-loop
 returns-2 c = let start = c .before .before .before .before .before .before .before .before .before in
-    (visit-out _ _ _ _ _ _ _ _ (start .pre .0) (start .pre .1) (c .before .loop .inv .0) (c .loop-test .left), c .before .loop .inv .1 .1)
+    (visit-out _ _ _ _ _ _ _ _ (start .pre .0 .index) (start .pre .2) (c .before .loop .inv .0) (c .loop-test .left), c .before .loop .inv .1 .1)
 
 pub visit-spec : {M : Type 1} → statement M
 visit-spec =

@@ -1,22 +1,22 @@
 use borrow.Author.Needs.{needs}
-use Rattle.chains.proofs.LinkMore.{index-told}
+use Rattle.search.proofs.States.{lists-told}
 use Prim.Native.Nat.{_-_}
 use mathlib.Core.Path.{refl}
 use lib.ListN.{length}
 use Rattle.packing.specs.Plant.{at}
-use Rattle.search.proofs.Noting.{NotesSo, notes-same, notes-then, notes-on}
+use Rattle.search.proofs.Noting.{NotedSo, noted-same, noted-then, noted-on}
 use Rattle.search.proofs.Turns.{Walking, walk-start, walk-below, walk-ready, walk-turn, walk-ends, walk-out}
 use Rattle.search.proofs.walk.walk.Statement.{statement}
 use Rattle.search.proofs.walk.walk.Tie as tie
 
 abbrev Inv-loop : tie.InvT-loop
-Inv-loop limits links next rows queue₀ tail from₀ looked₀ count₀ end₀ head₀ queue from looked count end head = Walking (at limits) links rows queue₀ tail from₀ queue from end head × NotesSo looked₀ count₀ from₀ looked count from
+Inv-loop limits links next rows queue₀ tail from₀ looked₀ count₀ end₀ head₀ queue from looked count end head = Walking (at limits) links rows queue₀ tail from₀ queue from end head × NotedSo looked₀ count₀ from₀ looked count from
 
 abbrev μ-loop : tie.MeasureT-loop
 μ-loop limits links next rows queue₀ tail from₀ looked₀ count₀ end₀ head₀ queue from looked count end head = length queue₀ - head
 
 loop-holds : tie.Need-loop-holds Inv-loop μ-loop
-loop-holds c = (walk-start _ _ _ _ _ _ (c .before .before .before .before .before .before .pre .1), (refl, notes-same _ _ _))
+loop-holds c = (walk-start _ _ _ _ _ _ (c .before .before .before .before .before .before .pre .2), (refl, noted-same (c .before .before .before .before .before .before .pre .1)))
 
 mul-x : tie.Need-mul-x Inv-loop μ-loop
 mul-x c = search needs
@@ -27,7 +27,7 @@ slice-read-x c = search needs
 visit-requires : tie.Need-visit-requires Inv-loop μ-loop
 visit-requires c κs = let turn = c .before .before .before .before .before in
     let start = turn .before .before .before .before .before .before .before .before in
-    (index-told (turn .before .loop .inv .0 .same .1) (start .pre .0), walk-ready _ _ _ _ _ _ (start .pre .1) (turn .before .loop .inv .0) (turn .loop-test .taken))
+    (lists-told (turn .before .loop .inv .0 .same .1) (start .pre .0), turn .before .loop .inv .1 .1 .notable, walk-ready _ _ _ _ _ _ (start .pre .2) (turn .before .loop .inv .0) (turn .loop-test .taken))
 
 enum-known-w : tie.Need-enum-known-w Inv-loop μ-loop
 enum-known-w c = search needs
@@ -44,8 +44,8 @@ same-length-3 c = search needs
 returns : tie.Need-returns Inv-loop μ-loop
 returns c = let called = c .before .before .before .before .before .before .before .before .before in
     let turn = called .before .before .before .before .before .before in (
-      walk-ends _ _ _ _ _ _ (turn .before .before .before .before .before .before .before .before .pre .1) (turn .before .loop .inv .0) (turn .loop-test .taken) (called .visit .ensures .0) (c .before .w .given .1),
-      notes-then (turn .before .loop .inv .1 .1) (called .visit .ensures .1),
+      walk-ends _ _ _ _ _ _ (turn .before .before .before .before .before .before .before .before .pre .2) (turn .before .loop .inv .0) (turn .loop-test .taken) (called .visit .ensures .0) (c .before .w .given .1),
+      noted-then (turn .before .loop .inv .1 .1) (called .visit .ensures .1),
     )
 
 enum-known-w-2 : tie.Need-enum-known-w-2 Inv-loop μ-loop
@@ -53,7 +53,7 @@ enum-known-w-2 c = search needs
 
 add-head : tie.Need-add-head Inv-loop μ-loop
 add-head c = let turn = c .before .before .before .before .before .before .before .before .before .before .before .before .before .before .before in
-    search (needs, walk-below _ _ _ _ _ _ (turn .before .before .before .before .before .before .before .before .pre .1) (turn .before .loop .inv .0) (turn .loop-test .taken))
+    search (needs, walk-below _ _ _ _ _ _ (turn .before .before .before .before .before .before .before .before .pre .2) (turn .before .loop .inv .0) (turn .loop-test .taken))
 
 loop-less : tie.Need-loop-less Inv-loop μ-loop
 loop-less c = search needs
@@ -61,9 +61,9 @@ loop-less c = search needs
 loop-again : tie.Need-loop-again Inv-loop μ-loop
 loop-again c = let called = c .before .before .before .before .before .before .before .before .before in
     let turn = called .before .before .before .before .before .before in (
-      walk-turn _ _ _ _ _ _ (turn .before .before .before .before .before .before .before .before .pre .1) (turn .before .loop .inv .0) (turn .loop-test .taken) (called .visit .ensures .0) (c .before .w2 .given .1)
+      walk-turn _ _ _ _ _ _ (turn .before .before .before .before .before .before .before .before .pre .2) (turn .before .loop .inv .0) (turn .loop-test .taken) (called .visit .ensures .0) (c .before .w2 .given .1)
           (called .visit .kept .1 .1 .1 .1 .1 .0, called .visit .kept .1 .1 .1 .1 .1 .1 .1 .0),
-      notes-on (turn .before .loop .inv .1) (called .visit .kept .1 .1 .1 .1 .1 .1 .1 .1 .0) (called .visit .ensures .1),
+      noted-on (turn .before .loop .inv .1) (called .visit .kept .1 .1 .1 .1 .1 .1 .1 .1 .0) (called .visit .ensures .1),
     )
 
 same-length-4 : tie.Need-same-length-4 Inv-loop μ-loop
@@ -77,7 +77,7 @@ same-length-6 c = search needs
 
 returns-2 : tie.Need-returns-2 Inv-loop μ-loop
 returns-2 c = let start = c .before .before .before .before .before .before .before .before in
-    (walk-out _ _ _ _ _ _ (start .pre .1) (c .before .loop .inv .0) (c .loop-test .left), c .before .loop .inv .1 .1)
+    (walk-out _ _ _ _ _ _ (start .pre .2) (c .before .loop .inv .0) (c .loop-test .left), c .before .loop .inv .1 .1)
 
 pub walk-spec : {M : Type 1} → statement M
 walk-spec =
