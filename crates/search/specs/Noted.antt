@@ -21,7 +21,7 @@ takenBack (suc c) looked from = takenBack c looked (set from (at looked c) NONE)
 unfoldable pub unseenCount : List ℕ → ℕ
 unseenCount from = count (length from) (λ u. not (seen from u))
 
--- each of the first c noted has a mark to take back, and there is room behind them to note all that have no mark yet
+-- each of the first c noted has a place among the marks, and there is room behind them to note all that have no mark yet
 pub record Notable (looked : List ℕ) (c : ℕ) (from : List ℕ) : Type 0 where
   pub inside : (i : ℕ) → i < c → at looked i < length from
   pub room : c + unseenCount from ≤ length looked
