@@ -1,4 +1,6 @@
 // Functions on lists of numbers by gateway. What is past a list's end counts as 0, and what has no place is not written; only those of module fill ask for room, and counts::tally_into for zeros.
+#![tactic(auto)]
+
 pub mod counts;
 pub mod fill;
 pub mod marks;

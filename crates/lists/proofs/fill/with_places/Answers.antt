@@ -1,0 +1,14 @@
+use mathlib.Core.Path.{refl}
+use Rattle.packing.specs.Orders.{up_to}
+use Rattle.packing.proofs.Lists.{list-start, list-turn, list-end}
+use Rattle.lists.proofs.fill.with_places.Goals as goal
+
+pub loop-i-init : goal.loop-i-init
+loop-i-init c = list-start _ _ _
+
+pub loop-i-preserved : goal.loop-i-preserved
+loop-i-preserved c = list-turn _ _ _ c.requires.1 c.loop-i.invariant c.loop-i-test.true refl
+
+pub returns : goal.returns
+unfolding up_to
+returns c = list-end _ _ _ c.loop-i.invariant c.loop-i-test.false
