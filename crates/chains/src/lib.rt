@@ -1,4 +1,6 @@
 // The index of links: each gateway's links in order of arrival, as a chain. It goes through the far ends, the places at which the neighbours stand, so that a neighbour is read where the chain is.
+#![tactic(auto)]
+
 pub mod build;
 pub mod follow;
 
