@@ -1,4 +1,6 @@
 // Whether a record is sound (01, "The record"; refusal 26). Each list is passed over once or twice.
+#![tactic(auto)]
+
 pub mod held;
 pub mod links;
 mod marks;
