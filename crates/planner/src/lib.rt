@@ -13,7 +13,7 @@ ghost use Rattle.planner.specs.Ways.{after_by, answer_by};
 use search::Placed;
 
 // 01's small part: n gateways, limit T, m links, k placed.
-#[derive(Drop)]
+#[derive(Clone, Copy)]
 pub struct Small {
     pub n: u16,
     pub t: u8,
@@ -37,7 +37,7 @@ pub struct PlaceAnswer {
 }
 
 // The searches that find a holder for the next: 01's, by a queue, and the short one of 02, change 7.
-#[derive(Drop)]
+#[derive(Clone, Copy)]
 pub enum Way {
     Queued,
     Recursive,
