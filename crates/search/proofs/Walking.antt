@@ -68,7 +68,7 @@ module _
         (λ e most s.
         rw s
         (after_one x p from (set from u x) u us (visit n limit hs x us (more (queue ++ held_by n hs u) (set from u x))) (λ w. seen-kept from u x w e) (marked e)
-        (visit-after x p us (joined p queue from a x u (looks e) most) (omega (arith, length-append queue (held_by n hs u))) (get_or-append queue (held_by n hs u) 0 p inside ∙ seer) later)))
+        (visit-after {queue = queue ++ held_by n hs u} {from = set from u x} x p us (joined p queue from a x u (looks e) most) (omega (arith, length-append queue (held_by n hs u))) (get_or-append queue (held_by n hs u) 0 p inside ∙ seer) later)))
       where
         looks : seen from u ≡ false → LooksAt ls queue from p x u
         looks e = record { inside = inside; seer = seer; link = links u (or_l (eqb u u) (member_of us u) (eq-eqb u u refl)); unseen = e }

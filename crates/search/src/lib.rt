@@ -1,4 +1,6 @@
 // Finds a holder for a gateway (01, "Placing"), on plain lists and numbers. The choke set, which takes the same walk, is module choke; who the walk from one gateway reaches, module reached.
+#![tactic(auto)]
+
 pub mod bytes;
 pub mod choke;
 pub mod held;
