@@ -19,5 +19,4 @@ pub mod Accepted
 pub mod LinksTaken
 pub mod GatewayLimits
 pub mod Cut
-pub mod ReaderParts
 pub mod Examples

@@ -1,4 +1,6 @@
 // The plant file (01, "The plant file and the listing"; version 2: 02, change 8).
+#![tactic(auto)]
+
 pub mod bytes;
 mod checks;
 mod fill;

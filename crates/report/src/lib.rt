@@ -1,4 +1,6 @@
 // The listing's text (01, "The plant file and the listing").
+#![tactic(auto)]
+
 mod lines;
 mod listed;
 mod put;

@@ -4,7 +4,7 @@ ghost use Rattle.report.specs.Text.{covered_count};
 ghost use Rattle.report.specs.Pre.{is_listed};
 
 // The gateways that a line lists: the members of a leader, those alone, or the choke set.
-#[derive(Drop)]
+#[derive(Clone, Copy)]
 pub(crate) enum Which {
     Members(u16),
     Alone,

@@ -1,4 +1,6 @@
 // The leader list of a set of holders (01, "Reading", rules 1 to 5; rule 5 by 02, change 2), on plain lists and numbers.
+#![tactic(auto)]
+
 mod groups_of_two;
 mod partners;
 mod places;
