@@ -1,4 +1,6 @@
 // The short search (02, change 7): finds a holder for a gateway by two functions that call each other. At full depth a call of each stands for every two gateways, so they have few lists and no arrays of their own; only their contracts use n.
+#![tactic(auto)]
+
 ghost use Rattle.std.specs.Prelude.{◌≡◌, suc, ◌+◌, ◌*◌, take};
 ghost use Rattle.packing.specs.Plant.{at};
 ghost use Rattle.packing.specs.Moved.{moved};
