@@ -118,13 +118,13 @@ run-append s (c ∷ a) b = run-append (call s c).state a b
 pub run_agrees : {p : Told} {s : State} → Agrees p s → (calls : List Call) → Agrees (tell p calls) (run s calls)
 unfolding run tell
 run_agrees a [] = a
-run_agrees a (c ∷ calls) = run_agrees (call_agrees a c) calls
+run_agrees {p} {s} a (c ∷ calls) = run_agrees {p = tell_one p c} {s = (call s c).state} (call_agrees a c) calls
 
 pub same_numbers : {p : Told} {s : State} → Agrees p s → (calls : List Call) → run_numbers s calls ≡ told_numbers p calls
 unfolding run_numbers told_numbers
 same_numbers a [] = refl
 same_numbers {p} {s} a (c ∷ calls) =
-    ap (λ (e : ℕ). e ∷ run_numbers (call s c).state calls) (same_number a c) ∙ ap (λ (l : List ℕ). refuses p c ∷ l) (same_numbers (call_agrees a c) calls)
+    ap (λ (e : ℕ). e ∷ run_numbers (call s c).state calls) (same_number a c) ∙ ap (λ (l : List ℕ). refuses p c ∷ l) (same_numbers {p = tell_one p c} {s = (call s c).state} (call_agrees a c) calls)
 
 -- an accepted open begins it
 pub open_agrees : (n t : ℕ) (ls os hs ts : List ℕ) → open_refusal n t os hs ts ≡ 0 → Agrees (beginning n t (length ls)) (after_open n t ls os hs ts)

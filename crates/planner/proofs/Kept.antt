@@ -109,7 +109,7 @@ since : {p : Told} {s : State} → Agrees p s → (calls : List Call) (i : ℕ) 
 unfolding run
 since a [] i l = refl
 since {p} {s} a (c ∷ calls) i l =
-    (rw (order_stays p c (omega arith)) at (since (call_agrees a c) calls i (omega (arith, placed_rises p c)))) ∙ since_one a c i l
+    (rw (order_stays p c (omega arith)) at (since {p = tell_one p c} {s = (call s c).state} (call_agrees a c) calls i (omega (arith, placed_rises p c)))) ∙ since_one a c i l
 
 pub held_since : HeldSince
 unfolding HeldSince

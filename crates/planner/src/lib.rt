@@ -1,4 +1,6 @@
 // The calls of 01 on a record, a second placing call (02, change 7) and a call that sets a gateway's limit (change 8): the small part as a struct that goes in by value and comes back beside the refusal number, and four lent lists.
+#![tactic(auto)]
+
 pub mod members;
 mod refusals;
 
