@@ -1,4 +1,6 @@
 // Why a gateway is alone (02, change 5): a look at a record, at any k. It gives a Hall violator around a gateway that is placed and left, and its neighbours.
+#![tactic(auto)]
+
 ghost use Rattle.std.specs.Prelude.{◌≡◌, true, length};
 ghost use Rattle.chains.specs.Index.{IndexFor};
 ghost use Rattle.sound.specs.Searchable.{searchable};
