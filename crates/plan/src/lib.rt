@@ -1,4 +1,6 @@
 // The plan of a plant file, as lists of numbers (01, "The plant file and the listing"), also while the plant is being placed (02, change 1), and how many gateways it moves (02, change 4). Why a gateway is alone in it is module why.
+#![tactic(auto)]
+
 mod ask;
 mod placings;
 mod reading;
