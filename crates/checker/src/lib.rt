@@ -1,4 +1,6 @@
 // 02, change 6: checks a leader list and a choke list by any hand against a plant file.
+#![tactic(auto)]
+
 mod difference;
 mod groups;
 
