@@ -48,8 +48,7 @@ fn groups_by(file: &[u8], way: Way, placings: u32, out: &mut [u8]) -> u32
 }
 
 // The plan after so many placings.
-#[unsafe(no_mangle)]
-pub extern "C" fn plan_groups_after(file: &[u8], placings: u32, out: &mut [u8]) -> u32
+pub fn plan_groups_after(file: &[u8], placings: u32, out: &mut [u8]) -> u32
     ensures answer { result ≡ groups_after_refusal file.now placings (length out.old) }
     ensures out { out.new ≡ groups_after_out file.now placings out.old }
 {
@@ -57,8 +56,7 @@ pub extern "C" fn plan_groups_after(file: &[u8], placings: u32, out: &mut [u8]) 
 }
 
 // The daemon's one call: the plan after all placings.
-#[unsafe(no_mangle)]
-pub extern "C" fn plan_groups(file: &[u8], out: &mut [u8]) -> u32
+pub fn plan_groups(file: &[u8], out: &mut [u8]) -> u32
     ensures answer { result ≡ groups_refusal file.now (length out.old) }
     ensures out { out.new ≡ groups_out file.now out.old }
 {
@@ -66,8 +64,7 @@ pub extern "C" fn plan_groups(file: &[u8], out: &mut [u8]) -> u32
 }
 
 // The same by the short search.
-#[unsafe(no_mangle)]
-pub extern "C" fn plan_groups_recursive(file: &[u8], out: &mut [u8]) -> u32
+pub fn plan_groups_recursive(file: &[u8], out: &mut [u8]) -> u32
     ensures answer { result ≡ groups_refusal file.now (length out.old) }
     ensures out { out.new ≡ recursive_out file.now out.old }
 {
@@ -75,8 +72,7 @@ pub extern "C" fn plan_groups_recursive(file: &[u8], out: &mut [u8]) -> u32
 }
 
 // Why a gateway is alone in that plan: two sets of gateways.
-#[unsafe(no_mangle)]
-pub extern "C" fn why_alone(file: &[u8], gateway: u32, out: &mut [u8]) -> u32
+pub fn why_alone(file: &[u8], gateway: u32, out: &mut [u8]) -> u32
     ensures answer { result ≡ alone_refusal file.now gateway (length out.old) }
     ensures out { out.new ≡ alone_out file.now gateway out.old }
 {
@@ -96,8 +92,7 @@ pub extern "C" fn why_alone(file: &[u8], gateway: u32, out: &mut [u8]) -> u32
 }
 
 // Checks a leader list and a choke list by any hand. Nothing is written.
-#[unsafe(no_mangle)]
-pub extern "C" fn check_groups(file: &[u8], leaders: &[u8], choke: &[u8]) -> u32
+pub fn check_groups(file: &[u8], leaders: &[u8], choke: &[u8]) -> u32
     ensures { result ≡ groups_check file.now leaders.now choke.now }
 {
     let mut entries = lists::marks::zeros();
