@@ -1,6 +1,7 @@
 // The largest plant: 1,024 gateways, 8,192 links, each made by a call of link, placed to the end and read.
 use crate::{lines, parts};
 use planner::{Answer, Small};
+use std::io;
 
 // The i-th link of 8,192: each gateway to the eight after it.
 fn linked(
@@ -43,33 +44,54 @@ fn covered(leaders: &[u16]) -> u16 {
     lists::GATEWAYS - lists::counts::count_of(lists::GATEWAYS, leaders, lists::NONE)
 }
 
-fn one_more_link(s: Small, links: &mut [u16], order: &[u16], holders: &[u16], limits: &[u8]) {
-    lines::text(b"8192 links:");
-    lines::small(s);
-    lines::four(links, 16382);
+fn one_more_link(
+    rt: &impl Print,
+    s: Small,
+    links: &mut [u16],
+    order: &[u16],
+    holders: &[u16],
+    limits: &[u8],
+) -> io::Result<()> {
+    lines::text(rt, b"8192 links:")?;
+    lines::small(rt, s)?;
+    lines::four(rt, links, 16382)?;
     let r = s.link(links, order, holders, limits, 0, 512);
-    lines::answer(b"\none more link", r);
-    lines::four(links, 16382);
-    lines::end();
+    lines::answer(rt, b"\none more link", r)?;
+    lines::four(rt, links, 16382)?;
+    lines::end(rt)
 }
 
-fn one_more_placing(s: Small, links: &[u16], order: &[u16], holders: &mut [u16], limits: &[u8]) {
-    lines::text(b"1024 placed:");
-    lines::small(s);
+fn one_more_placing(
+    rt: &impl Print,
+    s: Small,
+    links: &[u16],
+    order: &[u16],
+    holders: &mut [u16],
+    limits: &[u8],
+) -> io::Result<()> {
+    lines::text(rt, b"1024 placed:")?;
+    lines::small(rt, s)?;
     let r = s.place(links, order, holders, limits);
-    lines::placed(b"\none more placing", r);
-    lines::end();
+    lines::placed(rt, b"\none more placing", r)?;
+    lines::end(rt)
 }
 
-fn show_read(s: Small, links: &[u16], order: &[u16], holders: &[u16], limits: &[u8]) {
+fn show_read(
+    rt: &impl Print,
+    s: Small,
+    links: &[u16],
+    order: &[u16],
+    holders: &[u16],
+    limits: &[u8],
+) -> io::Result<()> {
     let mut leaders = parts::large(lists::NONE);
     let mut choke = lists::marks::bytes(9);
     let r = s.read(links, order, holders, limits, &mut leaders, &mut choke);
-    lines::answer(b"read", r);
-    lines::text(b" | covered");
-    lines::number(covered(&leaders) as u64);
-    lines::four(&leaders, 1022);
-    lines::end();
+    lines::answer(rt, b"read", r)?;
+    lines::text(rt, b" | covered")?;
+    lines::number(rt, covered(&leaders) as u64)?;
+    lines::four(rt, &leaders, 1022)?;
+    lines::end(rt)
 }
 
 fn prepare(links: &mut [u16], order: &mut [u16], holders: &mut [u16], limits: &mut [u8]) -> Small {
@@ -84,22 +106,35 @@ fn prepare(links: &mut [u16], order: &mut [u16], holders: &mut [u16], limits: &m
     fill(opened.small, links, order, holders, limits)
 }
 
-fn finish(s: Small, links: &[u16], order: &[u16], holders: &mut [u16], limits: &[u8]) {
+fn finish(
+    rt: &impl Print,
+    s: Small,
+    links: &[u16],
+    order: &[u16],
+    holders: &mut [u16],
+    limits: &[u8],
+) -> io::Result<()> {
     let placed = place_all(s, links, order, holders, limits);
-    one_more_placing(placed, links, order, holders, limits);
-    show_read(placed, links, order, holders, limits);
+    one_more_placing(rt, placed, links, order, holders, limits)?;
+    show_read(rt, placed, links, order, holders, limits)
 }
 
-fn whole(links: &mut [u16], order: &mut [u16], holders: &mut [u16], limits: &mut [u8]) {
+fn whole(
+    rt: &impl Print,
+    links: &mut [u16],
+    order: &mut [u16],
+    holders: &mut [u16],
+    limits: &mut [u8],
+) -> io::Result<()> {
     let s = prepare(links, order, holders, limits);
-    one_more_link(s, links, order, holders, limits);
-    finish(s, links, order, holders, limits);
+    one_more_link(rt, s, links, order, holders, limits)?;
+    finish(rt, s, links, order, holders, limits)
 }
 
-pub(crate) fn run() {
+pub(crate) fn run(rt: &impl Print) -> io::Result<()> {
     let mut links = parts::large_links(9);
     let mut order = parts::large(9);
     let mut holders = parts::large(9);
     let mut limits = parts::large_bytes(9);
-    whole(&mut links, &mut order, &mut holders, &mut limits);
+    whole(rt, &mut links, &mut order, &mut holders, &mut limits)
 }

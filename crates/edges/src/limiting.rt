@@ -1,17 +1,18 @@
 // The call for one limit: its refusals in turn, and what it writes. The record: 4 gateways, no links, a limit of 3 for each and two places past them.
 use crate::{lines, parts};
 use planner::Small;
+use std::io;
 
 // The limits after it.
-fn show(limits: &[u8]) {
+fn show(rt: &impl Print, limits: &[u8]) -> io::Result<()> {
     let came = [3u16, 3, 3, 3, 7, 7];
     let mut numbers = came;
     parts::widen(limits, &mut numbers);
-    lines::after(&numbers, &came);
+    lines::after(rt, &numbers, &came)
 }
 
 // T, k, the limits' length, the gateway and the limit
-pub(crate) fn case(label: &[u8], a: &[u16]) {
+pub(crate) fn case(rt: &impl Print, label: &[u8], a: &[u16]) -> io::Result<()> {
     let links = [7u16; 2];
     let order = [0u16, 1, 2, 3];
     let holders = [lists::NONE; 4];
@@ -30,6 +31,6 @@ pub(crate) fn case(label: &[u8], a: &[u16]) {
         lists::entry(a, 5),
         parts::byte(a, 6),
     );
-    lines::answer(label, r);
-    show(&limits);
+    lines::answer(rt, label, r)?;
+    show(rt, &limits)
 }

@@ -1,9 +1,10 @@
 // Link: its refusals in turn. The record: links 0-1 and 1-2 of 4 gateways, T = 2, room for one link more and two places past it.
 use crate::{lines, parts};
 use planner::Small;
+use std::io;
 
 // n, m, k, the links' length and the two ends
-pub(crate) fn case(label: &[u8], a: &[u16]) {
+pub(crate) fn case(rt: &impl Print, label: &[u8], a: &[u16]) -> io::Result<()> {
     let came = [0u16, 1, 1, 2, 7, 7, 8, 8];
     let mut links = came;
     let order = [0u16, 1, 2, 3, 9];
@@ -23,6 +24,6 @@ pub(crate) fn case(label: &[u8], a: &[u16]) {
         lists::entry(a, 6),
         lists::entry(a, 7),
     );
-    lines::answer(label, r);
-    lines::after(&links, &came);
+    lines::answer(rt, label, r)?;
+    lines::after(rt, &links, &came)
 }

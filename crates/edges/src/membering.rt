@@ -2,28 +2,36 @@
 // No contract can speak of the lent list behind the part, so every entry is shown, and four that no case lends.
 use crate::{lines, parts};
 use planner::members;
+use std::io;
 
 // Prints the part and returns its length.
-pub(crate) fn show(leaders: &[u16], leader: u16, out: &mut [u16]) -> usize {
+pub(crate) fn show(
+    rt: &impl Print,
+    leaders: &[u16],
+    leader: u16,
+    out: &mut [u16],
+) -> io::Result<usize> {
     let part = members::members(leaders, leader, out);
-    lines::list(part);
-    part.len()
+    lines::list(rt, part)?;
+    Ok(part.len())
 }
 
 // the leader and the room
-pub(crate) fn case(label: &[u8], a: &[u16]) {
+pub(crate) fn case(rt: &impl Print, label: &[u8], a: &[u16]) -> io::Result<()> {
     let leaders = [0u16, 2, 2, 0, 0];
     let came = [9u16; 16];
     let mut out = came;
     let room = parts::place(a, 3);
     lines::refusal(
+        rt,
         label,
         members::members_refusal(&leaders, lists::entry(a, 2), room),
-    );
+    )?;
     show(
+        rt,
         &leaders,
         lists::entry(a, 2),
         parts::front_mut(&mut out, room),
-    );
-    lines::after(&out, &came);
+    )?;
+    lines::after(rt, &out, &came)
 }

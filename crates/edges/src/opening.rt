@@ -1,21 +1,22 @@
 // Open: its refusals in turn, and what it writes. Each list has two places more than the gateways need.
 use crate::{lines, parts};
 use planner::Small;
+use std::io;
 
 // The three lists after it; what came is 7 in each place.
-fn show(order: &[u16], holders: &[u16], limits: &[u8]) {
+fn show(rt: &impl Print, order: &[u16], holders: &[u16], limits: &[u8]) -> io::Result<()> {
     let came = [7u16; 6];
     let mut numbers = came;
     parts::widen(limits, &mut numbers);
     let same = parts::same(order, &came) && parts::same(holders, &came);
-    lines::list(order);
-    lines::list(holders);
-    lines::list(&numbers);
-    lines::kept(same && parts::same(&numbers, &came));
+    lines::list(rt, order)?;
+    lines::list(rt, holders)?;
+    lines::list(rt, &numbers)?;
+    lines::kept(rt, same && parts::same(&numbers, &came))
 }
 
 // n, T, and the lengths of the order, the holders and the limits
-pub(crate) fn case(label: &[u8], a: &[u16]) {
+pub(crate) fn case(rt: &impl Print, label: &[u8], a: &[u16]) -> io::Result<()> {
     let mut order = [7u16; 6];
     let mut holders = [7u16; 6];
     let mut limits = [7u8; 6];
@@ -28,22 +29,22 @@ pub(crate) fn case(label: &[u8], a: &[u16]) {
         parts::front_mut(&mut holders, parts::place(a, 5)),
         parts::front_bytes_mut(&mut limits, parts::place(a, 6)),
     );
-    lines::answer(label, r);
-    show(&order, &holders, &limits);
+    lines::answer(rt, label, r)?;
+    show(rt, &order, &holders, &limits)
 }
 
 // The four places where the gateways end, of each list.
-fn show_ends(order: &[u16], holders: &[u16], limits: &[u8]) {
+fn show_ends(rt: &impl Print, order: &[u16], holders: &[u16], limits: &[u8]) -> io::Result<()> {
     let mut numbers = parts::large(7);
     parts::widen(limits, &mut numbers);
-    lines::four(order, 1022);
-    lines::four(holders, 1022);
-    lines::four(&numbers, 1022);
-    lines::end();
+    lines::four(rt, order, 1022)?;
+    lines::four(rt, holders, 1022)?;
+    lines::four(rt, &numbers, 1022)?;
+    lines::end(rt)
 }
 
 // n, the length of the order and the holders, and the limits' length
-pub(crate) fn large(label: &[u8], a: &[u16]) {
+pub(crate) fn large(rt: &impl Print, label: &[u8], a: &[u16]) -> io::Result<()> {
     let mut order = parts::large(7);
     let mut holders = parts::large(7);
     let mut limits = parts::large_bytes(7);
@@ -57,6 +58,6 @@ pub(crate) fn large(label: &[u8], a: &[u16]) {
         parts::front_mut(&mut holders, len),
         parts::front_bytes_mut(&mut limits, parts::place(a, 4)),
     );
-    lines::answer(label, r);
-    show_ends(&order, &holders, &limits);
+    lines::answer(rt, label, r)?;
+    show_ends(rt, &order, &holders, &limits)
 }

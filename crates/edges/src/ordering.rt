@@ -1,9 +1,10 @@
 // Order: its refusals in turn. The record: 4 gateways, no links, two places past the order.
 use crate::{lines, parts};
 use planner::Small;
+use std::io;
 
 // n, k, how many numbers are told, and six numbers
-pub(crate) fn case(label: &[u8], a: &[u16]) {
+pub(crate) fn case(rt: &impl Print, label: &[u8], a: &[u16]) -> io::Result<()> {
     let came = [0u16, 1, 2, 3, 7, 7];
     let mut order = came;
     let links = [7u16; 2];
@@ -22,6 +23,6 @@ pub(crate) fn case(label: &[u8], a: &[u16]) {
         &limits,
         parts::front(parts::rest(a, 5), parts::place(a, 4)),
     );
-    lines::answer(label, r);
-    lines::after(&order, &came);
+    lines::answer(rt, label, r)?;
+    lines::after(rt, &order, &came)
 }

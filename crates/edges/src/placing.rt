@@ -1,9 +1,10 @@
 // Placing, in either way and in both by turns: its refusals, 01's listing step by step, and placings that move several holders.
 use crate::{lines, parts};
 use planner::{Small, Way};
+use std::io;
 
 // n, T and k of 01's listing, which is fully placed but for k; each limit 2
-pub(crate) fn case(label: &[u8], way: Way, a: &[u16]) {
+pub(crate) fn case(rt: &impl Print, label: &[u8], way: Way, a: &[u16]) -> io::Result<()> {
     let links = [0u16, 2, 0, 3, 0, 4, 1, 2];
     let order = [2u16, 3, 4, 0, 1];
     let came = [2u16, 2, 1, 0, 0, 9, 9, 9];
@@ -16,8 +17,8 @@ pub(crate) fn case(label: &[u8], way: Way, a: &[u16]) {
         k: lists::entry(a, 4),
     };
     let r = s.place_by(way, &links, &order, &mut holders, &limits);
-    lines::placed(label, r);
-    lines::after(&holders, &came);
+    lines::placed(rt, label, r)?;
+    lines::after(rt, &holders, &came)
 }
 
 // One way for the first placing, the other for the next, and so on.
@@ -30,6 +31,7 @@ fn in_turn(i: u16, one: Way, other: Way) -> Way {
 
 // One placing after the other, on 8 places of holders.
 pub(crate) fn place_each(
+    rt: &impl Print,
     label: &[u8],
     one: Way,
     other: Way,
@@ -38,21 +40,28 @@ pub(crate) fn place_each(
     order: &[u16],
     holders: &mut [u16],
     limits: &[u8],
-) {
+) -> io::Result<()> {
     let mut s = first;
     let mut i: u16 = 0;
     while i < 8 {
         let r = s.place_by(in_turn(i, one, other), links, order, holders, limits);
         s = r.small;
-        lines::placed(label, r);
-        lines::list(holders);
-        lines::end();
+        lines::placed(rt, label, r)?;
+        lines::list(rt, holders)?;
+        lines::end(rt)?;
         i += 1;
     }
+    Ok(())
 }
 
 // n, m, eight places of order and seven links
-pub(crate) fn steps(label: &[u8], one: Way, other: Way, a: &[u16]) {
+pub(crate) fn steps(
+    rt: &impl Print,
+    label: &[u8],
+    one: Way,
+    other: Way,
+    a: &[u16],
+) -> io::Result<()> {
     let mut holders = [lists::NONE; 8];
     let limits = [2u8; 8];
     let s = Small {
@@ -62,6 +71,7 @@ pub(crate) fn steps(label: &[u8], one: Way, other: Way, a: &[u16]) {
         k: 0,
     };
     place_each(
+        rt,
         label,
         one,
         other,
@@ -70,5 +80,5 @@ pub(crate) fn steps(label: &[u8], one: Way, other: Way, a: &[u16]) {
         parts::rest(a, 4),
         &mut holders,
         &limits,
-    );
+    )
 }

@@ -1,11 +1,12 @@
 // The script of cases: gone through line by line, its numbers read, each call made.
-ghost use Rattle.std.specs.Prelude.{◌<◌, ◌≤◌, length};
+ghost use Rattle.std.specs.Prelude.{◌<◌, ◌≤◌, IfOk, length};
 
 use crate::{
     asking, each_call, full, limiting, linking, membering, membering_large, opening, ordering,
     placing, reading, soundness, star,
 };
 use planner::Way;
+use std::io;
 
 // The first place from a place on that has a byte, or the end.
 fn until(file: &[u8], start: usize, stop: u8) -> usize
@@ -57,63 +58,65 @@ fn read(text: &[u8], numbers: &mut [u16]) {
 }
 
 // The first entry is of no use. The second says what is called, and the call's own numbers follow. The largest plant has labels of its own.
-fn call(label: &[u8], a: &[u16]) {
+fn call(rt: &impl Print, label: &[u8], a: &[u16]) -> io::Result<()> {
     let which = lists::entry(a, 1);
     match which {
-        1 => opening::case(label, a),
-        2 => opening::large(label, a),
-        3 => linking::case(label, a),
-        4 => ordering::case(label, a),
-        5 => placing::case(label, Way::Queued, a),
-        6 => placing::steps(label, Way::Queued, Way::Queued, a),
-        7 => reading::case(label, a),
-        8 => membering::case(label, a),
-        9 => soundness::case(label, a),
-        10 => soundness::large(label, lists::entry(a, 2), 0),
-        11 => soundness::large(label, 4, lists::entry(a, 2)),
-        12 => membering_large::case(label, a),
-        13 => membering_large::most(label, a),
-        15 => reading::steps(label, a),
-        16 => asking::case(label, a),
-        17 => asking::steps(label, a),
-        18 => placing::case(label, Way::Recursive, a),
-        19 => placing::steps(label, Way::Recursive, Way::Recursive, a),
-        20 => placing::steps(label, Way::Queued, Way::Recursive, a),
-        21 => placing::steps(label, Way::Recursive, Way::Queued, a),
-        22 => limiting::case(label, a),
-        23 => each_call::case(label, a),
-        24 => star::placings(label, Way::Queued, a),
-        25 => star::placings(label, Way::Recursive, a),
-        26 => star::reads(label, a),
-        27 => star::asks(label, a),
-        _ => full::run(),
+        1 => opening::case(rt, label, a)?,
+        2 => opening::large(rt, label, a)?,
+        3 => linking::case(rt, label, a)?,
+        4 => ordering::case(rt, label, a)?,
+        5 => placing::case(rt, label, Way::Queued, a)?,
+        6 => placing::steps(rt, label, Way::Queued, Way::Queued, a)?,
+        7 => reading::case(rt, label, a)?,
+        8 => membering::case(rt, label, a)?,
+        9 => soundness::case(rt, label, a)?,
+        10 => soundness::large(rt, label, lists::entry(a, 2), 0)?,
+        11 => soundness::large(rt, label, 4, lists::entry(a, 2))?,
+        12 => membering_large::case(rt, label, a)?,
+        13 => membering_large::most(rt, label, a)?,
+        15 => reading::steps(rt, label, a)?,
+        16 => asking::case(rt, label, a)?,
+        17 => asking::steps(rt, label, a)?,
+        18 => placing::case(rt, label, Way::Recursive, a)?,
+        19 => placing::steps(rt, label, Way::Recursive, Way::Recursive, a)?,
+        20 => placing::steps(rt, label, Way::Queued, Way::Recursive, a)?,
+        21 => placing::steps(rt, label, Way::Recursive, Way::Queued, a)?,
+        22 => limiting::case(rt, label, a)?,
+        23 => each_call::case(rt, label, a)?,
+        24 => star::placings(rt, label, Way::Queued, a)?,
+        25 => star::placings(rt, label, Way::Recursive, a)?,
+        26 => star::reads(rt, label, a)?,
+        27 => star::asks(rt, label, a)?,
+        _ => full::run(rt)?,
     }
+    Ok(())
 }
 
-fn case(label: &[u8], text: &[u8]) {
+fn case(rt: &impl Print, label: &[u8], text: &[u8]) -> io::Result<()> {
     let mut numbers = [0u16; 26];
     read(text, &mut numbers);
-    call(label, &numbers);
+    call(rt, label, &numbers)
 }
 
 // The line that starts at a place. Returns where the next one starts.
-fn line(file: &[u8], start: usize) -> usize
+fn line(rt: &impl Print, file: &[u8], start: usize) -> io::Result<usize>
     requires { start < length file.now }
-    ensures from { start < result }
-    ensures within { result ≤ length file.now }
+    ensures from { IfOk result (λ next. start < next) }
+    ensures within { IfOk result (λ next. next ≤ length file.now) }
 {
     let bar = until(file, start, b'|');
     let end = until(file, bar, b'\n');
-    case(&file[start..bar], &file[bar..end]);
+    case(rt, &file[start..bar], &file[bar..end])?;
     if end < file.len() {
-        return end + 1;
+        return Ok(end + 1);
     }
-    end
+    Ok(end)
 }
 
-pub(crate) fn run(file: &[u8]) {
+pub(crate) fn run(rt: &impl Print, file: &[u8]) -> io::Result<()> {
     let mut i: usize = 0;
     while i < file.len() {
-        i = line(file, i);
+        i = line(rt, file, i)?;
     }
+    Ok(())
 }

@@ -1,55 +1,57 @@
 // Prints what the planner gave.
-use libc::STDOUT_FILENO;
+use std::io;
 
-fn text(t: &[u8]) {
-    io::write_all(STDOUT_FILENO, t);
+fn text(rt: &impl Print, t: &[u8]) -> io::Result<()> {
+    rt.write_all(t)
 }
 
-fn number(n: u64) {
-    io::print_decimal(STDOUT_FILENO, n);
+fn number(rt: &impl Print, n: u64) -> io::Result<()> {
+    rt.print(n)
 }
 
-pub(crate) fn refusal(call: &[u8], refusal: u32) {
-    text(call);
-    text(b": refused ");
-    number(refusal as u64);
-    text(b"\n");
+pub(crate) fn refusal(rt: &impl Print, call: &[u8], refusal: u32) -> io::Result<()> {
+    text(rt, call)?;
+    text(rt, b": refused ")?;
+    number(rt, refusal as u64)?;
+    text(rt, b"\n")
 }
 
-fn gateway(v: usize, leader: u16) {
-    text(b"gateway ");
-    number(v as u64);
-    text(b": leader ");
-    number(leader as u64);
-    text(b"\n");
+fn gateway(rt: &impl Print, v: usize, leader: u16) -> io::Result<()> {
+    text(rt, b"gateway ")?;
+    number(rt, v as u64)?;
+    text(rt, b": leader ")?;
+    number(rt, leader as u64)?;
+    text(rt, b"\n")
 }
 
 // A line a gateway.
-pub(crate) fn leaders(list: &[u16]) {
+pub(crate) fn leaders(rt: &impl Print, list: &[u16]) -> io::Result<()> {
     let mut v: usize = 0;
     while v < list.len() {
-        gateway(v, list[v]);
+        gateway(rt, v, list[v])?;
         v += 1;
     }
+    Ok(())
 }
 
-fn member(v: u16) {
-    text(b" ");
-    number(v as u64);
+fn member(rt: &impl Print, v: u16) -> io::Result<()> {
+    text(rt, b" ")?;
+    number(rt, v as u64)
 }
 
-fn each(list: &[u16]) {
+fn each(rt: &impl Print, list: &[u16]) -> io::Result<()> {
     let mut i: usize = 0;
     while i < list.len() {
-        member(list[i]);
+        member(rt, list[i])?;
         i += 1;
     }
+    Ok(())
 }
 
-pub(crate) fn members(leader: u16, list: &[u16]) {
-    text(b"members of ");
-    number(leader as u64);
-    text(b":");
-    each(list);
-    text(b"\n");
+pub(crate) fn members(rt: &impl Print, leader: u16, list: &[u16]) -> io::Result<()> {
+    text(rt, b"members of ")?;
+    number(rt, leader as u64)?;
+    text(rt, b":")?;
+    each(rt, list)?;
+    text(rt, b"\n")
 }
