@@ -1,5 +1,5 @@
 -- What the program reads of plant.plt.
-use Rattle.std.specs.Prelude.{ℕ, ◌+◌, ◌≡◌, List, ℤ, negsuc, take}
+use Rattle.std.specs.Prelude.{ℕ, ◌+◌, ◌≡◌, List, OnErr, Result, take}
 use Rattle.plant_file.specs.PlantFile.{LONGEST}
 use Rattle.listing.specs.Listed.{file_text}
 
@@ -7,6 +7,6 @@ use Rattle.listing.specs.Listed.{file_text}
 unfoldable pub SameWhenCut : Type 0
 SameWhenCut = (file : List ℕ) → file_text (take (LONGEST + 1) file) ≡ file_text file
 
--- "a file that can't be opened counts as one of 0 bytes": a negative descriptor is of no file
-abbrev pub NoneIfNotOpened : ℤ → ℕ → Type 0
-NoneIfNotOpened fd count = (k : ℕ) → fd ≡ negsuc k → count ≡ 0
+-- "a file that can't be opened counts as one of 0 bytes": an opened file, or the error of one that can't be opened
+abbrev pub NoneIfNotOpened : {A E : Type 0} → Result A E → ℕ → Type 0
+NoneIfNotOpened opened count = OnErr opened (count ≡ 0)

@@ -1,11 +1,15 @@
 // The listing program: lists the plan of plant.plt in its working folder (01, "The plant file and the listing").
+#![tactic(auto)]
+
 mod text;
 
-ghost use Rattle.std.specs.Prelude.{◌≡◌, ◌+◌, ◌≤◌, length};
+ghost use Rattle.std.specs.Prelude.{◌≡◌, ◌+◌, ◌≤◌, length, take};
+ghost use Rattle.std.specs.Io.KnownBytes.{Consumes};
 ghost use Rattle.plant_file.specs.PlantFile.{LONGEST};
 ghost use Rattle.listing.specs.Reading.{NoneIfNotOpened};
 
-use libc::STDOUT_FILENO;
+use std::fs::{self, Files};
+use std::io::{self, Read};
 
 // One byte more than the longest plant file, so that a longer one is refused for its length.
 fn room() -> [u8; 36875]
@@ -14,29 +18,46 @@ fn room() -> [u8; 36875]
     [0u8; 36875]
 }
 
-// Reads the file of a descriptor up to the room there is, and returns how many bytes. A negative descriptor is of a file that can't be opened, which counts as one of 0 bytes.
-fn read(fd: i32, file: &mut [u8]) -> usize
-    ensures none { NoneIfNotOpened fd result }
+// Reads until the room is full, the file ends or a read fails, and returns how many bytes it put at the front.
+fn read_full<R: Read>(reader: &mut R, file: &mut [u8]) -> usize
+    ensures room { result ≤ length file.new }
+    ensures bytes { Consumes (R.remaining reader.old) (R.remaining reader.new) (take result file.new) }
+{
+    let mut done: usize = 0;
+    while done < file.len() {
+        match reader.read(&mut file[done..]) {
+            Ok(0) => break,
+            Ok(count) => done += count,
+            Err(_) => break,
+        }
+    }
+    done
+}
+
+// Reads an opened file up to the room there is, and returns how many bytes. One that can't be opened counts as one of 0 bytes.
+fn read<R: Read + Drop>(opened: io::Result<R>, file: &mut [u8]) -> usize
+    ensures none { NoneIfNotOpened opened result }
     ensures room { result ≤ length file.new }
 {
-    if fd < 0 {
-        return 0;
+    match opened {
+        Ok(reader) => {
+            let mut reader = reader;
+            read_full(&mut reader, file)
+        }
+        Err(_) => 0,
     }
-    let count = io::read_full(fd, file);
-    libc::close(fd);
-    count
 }
 
-fn load(file: &mut [u8]) -> usize
+fn load(rt: &impl Files, file: &mut [u8]) -> usize
     ensures { result ≤ length file.new }
 {
-    read(os::open_read(b"plant.plt"), file)
+    read(fs::open(rt, "plant.plt"), file)
 }
 
-fn main() {
+fn main(rt: HostRuntime) -> io::Result<()> {
     let mut file = room();
-    let count = load(&mut file);
+    let count = load(&rt, &mut file);
     let mut out = text::room();
     let end = text::write(&file[..count], &mut out);
-    io::write_all(STDOUT_FILENO, &out[..end]);
+    rt.write_all(&out[..end])
 }
