@@ -1,19 +1,22 @@
-# Sourced by tests/run, tests/bench and scripts/list, in the repository's root: builds what is missing.
+# Sourced by tests/run, tests/bench, scripts/list and scripts/archive, in the repository's root: builds what is missing.
 
 library=target/staticlib/libdaemon.a
-program=target/bin/listing
+program=crates/listing/out/listing
 
-# whether a file is missing or older than something in crates/
+# whether a file is missing or older than something in crates/, what rt makes there aside
 stale() {
-    [ ! -e "$1" ] || [ -n "$(find crates crates.txt -newer "$1" -print -quit)" ]
+    [ ! -e "$1" ] || [ -n "$(find crates crates.txt -path 'crates/*/out' -prune -o \( -path 'crates/*/*' -o -path crates.txt \) -newer "$1" -print -quit)" ]
 }
 
+# in the crate's folder: proves what is not proved yet, and writes the archive or the program to out/
 build_library() {
-    if stale "$library"; then rt staticlib daemon; fi
+    stale "$library" || return 0
+    (cd crates/daemon_c && rt lib) && mkdir -p target/staticlib && cp crates/daemon_c/out/libdaemon_c.a "$library"
 }
 
 build_program() {
-    if stale "$program"; then rt check listing && touch -c "$program"; fi
+    stale "$program" || return 0
+    (cd crates/listing && rt run) && touch -c "$program"
 }
 
 # compiles the given C files with all that they share: target/tests/NAME for NAME.c

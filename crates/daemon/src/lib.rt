@@ -1,4 +1,4 @@
-// The calls from C: the plan of a plant file as one list of bytes (01, "The plant file and the listing"), also while the plant is being placed (02, change 1), with the number moved (02, change 4); why a gateway is alone (02, change 5); the checker of lists by any hand (02, change 6); and the plan by the short search (02, change 7).
+// The answers to C, as bytes; daemon_c has the calls under C's names. The plan of a plant file as one list of bytes (01, "The plant file and the listing"), also while the plant is being placed (02, change 1), with the number moved (02, change 4); why a gateway is alone (02, change 5); the checker of lists by any hand (02, change 6); and the plan by the short search (02, change 7).
 #![tactic(auto)]
 
 mod bytes;

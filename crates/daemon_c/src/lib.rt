@@ -1,4 +1,4 @@
-// The calls from C: those of the crate daemon, under their names. A slice comes as a pointer and then a length.
+// The calls from C: those of the crate daemon, under their names and with their promises. C lends a slice as a pointer and then a length. A crate is a library or a static library, so that these stand apart from daemon, on which listing rests too.
 #![tactic(auto)]
 
 ghost use Rattle.std.specs.Prelude.{◌≡◌, length};

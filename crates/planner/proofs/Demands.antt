@@ -22,7 +22,7 @@ use Rattle.stars.specs.Stars.{leader_list}
 use Rattle.search.specs.ChokeSet.{in_choke, choke_byte}
 use Rattle.planner.specs.Refusals.{open_refusal}
 use Rattle.planner.specs.State.{State, limit_of}
-use Rattle.planner.specs.Calls.{Call, order, read, call_refusal, call, read_leaders, read_choke}
+use Rattle.planner.specs.Calls.{Call, read, call_refusal, call, read_leaders, read_choke}
 use Rattle.planner.specs.Told.{Told, beginning, refuses}
 use Rattle.planner.specs.Claims.{told_by, made_by, leaders_read, choke_read, GroupingTold, SameNumbers, OnceRead, DemandThree, DemandThreeOf, MostCovered, MostCoveredOf, DemandTwo, DemandTwoOf, AnyRead, SoFarRead, ReadAnyTime, EarlierLeadsRead, EarlierLeadsPairs}
 use Rattle.planner.proofs.Tells.{onward}

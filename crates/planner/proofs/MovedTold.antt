@@ -3,7 +3,7 @@ use Prim.Native.Nat.{ℕ, ◌<◌}
 use mathlib.Core.Path.{sym, ◌∙◌}
 use mathlib.Core.List.{List}
 use native.Mathlib.Omega.{arith}
-use Rattle.packing.specs.Plant.{at, linked}
+use Rattle.packing.specs.Plant.{linked}
 use Rattle.packing.proofs.Below.{fewest-limits}
 use Rattle.planner.specs.State.{limit_of}
 use Rattle.planner.specs.Calls.{place, call}

@@ -9,7 +9,7 @@ use lib.ListN.{length}
 use borrow.Author.Tests.{eqb-true, eq-eqb}
 use Rattle.packing.specs.Lists.{list_where}
 use Rattle.packing.specs.Plant.{NONE, at}
-use Rattle.packing.specs.Grouping.{follows, members_of, is_alone, covered}
+use Rattle.packing.specs.Grouping.{follows, members_of, is_alone}
 use Rattle.packing.proofs.Lists.{list_where-length, lists_where}
 use Rattle.packing.proofs.Groupings.{follows_is, follows_means}
 use Rattle.packing.proofs.Sums.{count_bound}

@@ -1,6 +1,6 @@
 use mathlib.Core.Path.{ap, ◌∙◌, refl}
 use native.Mathlib.Omega.{arith}
-use lib.ListN.{length, take}
+use lib.ListN.{length}
 use Rattle.recursion.proofs.Promises.{working_below, working_row}
 use Rattle.recursion.proofs.Finding.{finding_start, finding_places, finding_passed, finding_less, finding_works, finding_next, finding_found, finding_on, finding_out}
 use Rattle.recursion.proofs.+find_holder_free_place.Goals.{find_holder-then-entry+else-k-ne0, find_holder-else-entry}

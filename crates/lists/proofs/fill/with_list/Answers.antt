@@ -1,5 +1,4 @@
 use mathlib.Core.Path.{refl}
-use Rattle.packing.specs.Plant.{at}
 use Rattle.packing.proofs.Lists.{list-is, list-start, list-turn, list-end}
 use Rattle.lists.proofs.fill.with_list.Goals as goal
 

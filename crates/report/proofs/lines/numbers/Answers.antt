@@ -1,4 +1,3 @@
-use Rattle.report.specs.Pre.{is_listed}
 use Rattle.report.proofs.Puts.{put_kept, grown_start, grown_end}
 use Rattle.report.proofs.Digits.{listed_grows}
 use Rattle.report.proofs.LineParts.{numbers_turn, numbers_near}

@@ -1,6 +1,5 @@
 use native.Mathlib.Omega.{arith}
 use Rattle.packing.proofs.Lists.{list-start, list-turn}
-use Rattle.stars.specs.Stars.{rule_five}
 use Rattle.stars.proofs.Tables.{list-rest, list-whole}
 use Rattle.stars.proofs.PartnerPass.{turned-five}
 use Rattle.stars.proofs.groups_of_two.turn_entries.Goals as goal

@@ -1,6 +1,5 @@
 use native.Mathlib.Omega.{arith}
 use Rattle.packing.proofs.Lists.{list-start, list-turn}
-use Rattle.stars.specs.Stars.{leader_of}
 use Rattle.stars.proofs.Tables.{list-whole}
 use Rattle.stars.proofs.reading.leaders_of.Goals as goal
 
