@@ -27,7 +27,7 @@ first_run_folder() {
     rm -rf "$first"
     mkdir -p "$first/tests" "$first/crates/listing" "$first/rt" || return
     cp -R scripts data "$first" && cp tests/build.sh "$first/tests" || return
-    printf '%s\n' '# crates' 'low:' 'mid: low' 'other: low' 'listing: mid' >"$first/crates.txt"
+    printf '%s\n' '# crates' 'low:' 'mid: low' 'other: low' 'listing: mid io libc' >"$first/crates.txt"
     printf '%s\n' '#!/bin/sh' 'touch ../../called' 'echo "fn low::f: proved"' \
         'echo "crate low: modules loaded=1 checked=1"' 'echo "logic=proved functions=1"' \
         'echo "fn mid::f: proved" >&2' 'echo "crate mid: modules loaded=2 checked=1"' 'echo "logic=proved functions=1"' \

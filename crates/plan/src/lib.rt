@@ -49,7 +49,7 @@ fn number_of(refused: u32, file: &[u8], placings: u32, leaders: &[u16], choke: &
 }
 
 // The refusal's number, or 0 for accepted, and how many gateways the placings move, 0 on refusal.
-#[derive(Drop)]
+#[derive(Clone, Copy)]
 pub struct Planned {
     pub refusal: u32,
     pub moved: u32,

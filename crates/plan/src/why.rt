@@ -5,7 +5,7 @@ ghost use Rattle.plan.specs.Why.{file_why, first_written, second_written};
 use crate::ask::ask_whole;
 
 // The refusal's number, or 0 for accepted, and how many gateways each set has, 0 on refusal.
-#[derive(Drop)]
+#[derive(Clone, Copy)]
 pub struct Why {
     pub refusal: u32,
     pub first: u16,

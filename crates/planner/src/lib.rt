@@ -24,14 +24,14 @@ pub struct Small {
 }
 
 // The refusal's number, or 0 for accepted, and the small part after the call.
-#[derive(Drop)]
+#[derive(Clone, Copy)]
 pub struct Answer {
     pub refusal: u32,
     pub small: Small,
 }
 
 // The same of a placing, with the number of gateways that have another holder after it.
-#[derive(Drop)]
+#[derive(Clone, Copy)]
 pub struct PlaceAnswer {
     pub refusal: u32,
     pub small: Small,

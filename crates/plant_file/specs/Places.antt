@@ -14,7 +14,7 @@ pub record Places (file : List ℕ) : Type 0 where
   pub two_each : length (file_links file) ≡ 2 * file_m file
   pub first : (i : ℕ) → i < file_m file → first_end (file_links file) i ≡ at file (10 + 4 * i) + 256 * at file (11 + 4 * i)
   pub second : (i : ℕ) → i < file_m file → second_end (file_links file) i ≡ at file (12 + 4 * i) + 256 * at file (13 + 4 * i)
-  pub one_each_lem : length (file_order file) ≡ file_n file
+  pub one_each : length (file_order file) ≡ file_n file
   pub order : (i : ℕ) → i < file_n file → at (file_order file) i ≡ at file (10 + 4 * file_m file + 2 * i) + 256 * at file (11 + 4 * file_m file + 2 * i)
   pub kind : (v : ℕ) → v < file_n file → kind_byte file v ≡ at file (10 + 4 * file_m file + 2 * file_n file + 2 * v)
   pub limit_byte_at : (v : ℕ) → v < file_n file → limit_byte file v ≡ at file (11 + 4 * file_m file + 2 * file_n file + 2 * v)

@@ -5,14 +5,14 @@ ghost use Rattle.plant_file.specs.Reader.{link_at, next_index};
 use crate::bytes::{number_at, number_in};
 
 // The file, and the index of its next link.
-#[derive(Drop)]
+#[derive(Clone, Copy)]
 pub struct Reader<'a> {
     pub src: &'a [u8],
     pub at: usize,
 }
 
 // A link's two ends, or the end of the links.
-#[derive(Drop)]
+#[derive(Clone, Copy)]
 pub enum Step {
     Link(u16, u16),
     End,

@@ -31,7 +31,7 @@ enum Walked {
 }
 
 // Whether v may be placed, and how many gateways have another holder afterwards.
-#[derive(Drop)]
+#[derive(Clone, Copy)]
 pub struct Placed {
     pub done: bool,
     pub moved: u16,

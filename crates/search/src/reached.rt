@@ -10,7 +10,7 @@ use crate::held::{empty_rows, gather};
 use crate::walk::walk;
 
 // Whether the sets were written, and how many gateways each has.
-#[derive(Drop)]
+#[derive(Clone, Copy)]
 pub struct Reached {
     pub done: bool,
     pub queued: u16,

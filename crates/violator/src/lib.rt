@@ -11,7 +11,7 @@ ghost use Rattle.violator.specs.WhyPlaced.{placed_counts, placed_first, placed_s
 use planner::Small;
 
 // The refusal's number, or 0 for accepted, the small part as it came, and how many gateways each set has, 0 on refusal.
-#[derive(Drop)]
+#[derive(Clone, Copy)]
 pub struct WhyAnswer {
     pub refusal: u32,
     pub small: Small,
@@ -20,7 +20,7 @@ pub struct WhyAnswer {
 }
 
 // The same without the small part.
-#[derive(Drop)]
+#[derive(Clone, Copy)]
 pub struct WhyCounts {
     pub refusal: u32,
     pub first: u16,
