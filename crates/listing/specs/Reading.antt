@@ -7,6 +7,6 @@ use Rattle.listing.specs.Listed.{file_text}
 unfoldable pub SameWhenCut : Type 0
 SameWhenCut = (file : List ℕ) → file_text (take (LONGEST + 1) file) ≡ file_text file
 
--- "a file that can't be opened counts as one of 0 bytes": an opened file, or the error of one that can't be opened
+-- "a file that can't be opened counts as one of 0 bytes": where opening it gave an error, no byte is counted
 abbrev pub NoneIfNotOpened : {A E : Type 0} → Result A E → ℕ → Type 0
 NoneIfNotOpened opened count = OnErr opened (count ≡ 0)
