@@ -92,6 +92,7 @@ extern "C" {
  * 25 to 100 microseconds for 1,024 gateways with some thousand links, under a millisecond on most plants
  * of 8,192 links. Where many links end at the same gateways a link that stands there already is looked
  * for along chains that are long; the slowest of thousands of plants tried took under 4 milliseconds.
+ * (Times were measured on one machine, with a library that an older kit had built.)
  *
  * The plant file: "PLT", version, n, T, m, then m links of two ends, then the n numbers of the order; in
  * version 2 then a pair of bytes for each gateway, from gateway 0 on: its kind and its limit byte. T has one

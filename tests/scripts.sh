@@ -69,6 +69,18 @@ failed_first_run_names_the_log() {
         [ "$(tail -n 1 "$first/said")" = 'logic=not-proved functions=1' ]
 }
 
+# the archive is named, and nothing else printed
+script_names_the_archive() {
+    [ "$(scripts/archive 2>/dev/null)" = "$library" ] && [ -s "$library" ]
+}
+
+failed_archive_says_so() {
+    first_run_folder unproved 1 && mkdir "$first/crates/daemon_c" || return
+    PATH=$first/rt:$PATH "$first/scripts/archive" >"$first/printed" 2>"$first/said" && return 1
+    [ ! -s "$first/printed" ] && [ ! -e "$first/$library" ] && [ -e "$first/called" ] &&
+        [ "$(tail -n 1 "$first/said")" = 'scripts/archive: the archive could not be built' ]
+}
+
 # arguments that are refused before anything is built: the status, what is said, the arguments
 refused_at_once() {
     local status=$1 words=$2
@@ -163,6 +175,8 @@ run_script_tests() {
     run_one 'scripts/list, no name' refused_at_once 1 'scripts/list: : no such file' ''
     run_one 'scripts/list, a folder' refused_at_once 1 'scripts/list: data: a folder, not a plant file' data
     run_one 'scripts/list, two files' refused_at_once 2 'usage: scripts/list [FILE]' data/sample.plt data/sample.plt
+    run_one 'scripts/archive' script_names_the_archive
+    run_one 'a scripts/archive that fails' failed_archive_says_so
     run_one 'scripts/pack with the sample' script_packs_the_sample
     run_one 'scripts/pack with own limits' script_packs_own_limits
     run_one 'scripts/list with own limits' script_lists_own_limits
