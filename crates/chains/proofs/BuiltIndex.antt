@@ -44,11 +44,11 @@ module _ (ls : List ℕ) (x : ℕ) where
   -- x's first far end from link i on is that of x's first link from link i on
   next-is : (m i e : ℕ) → 2 * m ≤ length ls → length ls ≤ 2 * m + 1 → length ls ≤ ENDS → i ≤ m → FirstOrNone ls (2 * m) x (2 * i) e → NextEnd ls x i e
   next-is m i e p q few l =
-      ⊎_elim (λ a. record { rest = skip_to i m l p a.1 ∙ past ls (2 * m) x q ∙ sym (past ls (2 * (e / 2)) x (omega (arith, a.0, few))); end = inl a.0 })
+      ⊎_elim (λ a. record { rest = skip_to i m l p a.1 ∙ past ls (2 * m) x q ∙ sym (past ls (2 * (e / 2)) x (omega (arith, a.0, few))); end = λ there. absurd (there a.0) })
       (λ f.
       let on : i ≤ e / 2 = omega (arith, f.from) in
       let inside : 2 * (e / 2) + 1 < length ls = omega (arith, f.below) in
-      record { rest = skip_to i (e / 2) on (omega (arith, inside)) (λ k a b. f.before k a (omega (arith, b))); end = inr (f.from, record { inside = inside; near = f.near }) })
+      record { rest = skip_to i (e / 2) on (omega (arith, inside)) (λ k a b. f.before k a (omega (arith, b))); end = λ _. (f.from, record { inside = inside; near = f.near }) })
 
   -- a link has x as its second end only, so that its second place is no far end of x
   past-mate : (e i : ℕ) {j : ℕ} → (at ls (2 * i) ≡ x → ⊥) → FirstOrNone ls e x (2 * i + 1) j → FirstOrNone ls e x (2 * (i + 1)) j

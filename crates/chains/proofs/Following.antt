@@ -4,11 +4,15 @@ use borrow.Author.Tests.{eqb-false}
 use Rattle.packing.specs.Plant.{NONE, GATEWAYS, at, other_end, neighbours}
 use Rattle.packing.proofs.Tests.{by_bool}
 use Rattle.packing.proofs.Flat.{pair-at, pair_end}
-use Rattle.chains.specs.Index.{root_of, mate, FarEnd, Index}
+use Rattle.chains.specs.Index.{root_of, mate, FarEnd, NextEnd, Index}
 
 -- a chain is at its end, or at a far end of x
 abbrev pub Standing : List ℕ → ℕ → ℕ → Type 0
 Standing ls x e = (e ≡ NONE) ⊎ FarEnd ls x e
+
+-- .. as a chain stands once it has gone on
+pub at_end : {ls : List ℕ} {x i e : ℕ} → NextEnd ls x i e → (e ≡ NONE) ⊎ ((2 * i ≤ e) × FarEnd ls x e)
+at_end {e = e} n = by_bool (eqb e NONE) (λ q. inl (eqb-true e NONE q)) (λ q. inr (n.end (eqb-false e NONE q)))
 
 -- no links are left past the end
 pub past : (ls : List ℕ) (i x : ℕ) → length ls ≤ i + 1 → neighbours (drop i ls) x ≡ []
@@ -47,14 +51,14 @@ link_across ls x e h =
 module _ {ls next : List ℕ} (d : Index ls next) {x : ℕ} (below : x < GATEWAYS) where
   -- the first far end
   pub chain_first : (neighbours ls x ≡ neighbours (drop (2 * (at next (root_of (length next) x) / 2)) ls) x) × Standing ls x (at next (root_of (length next) x))
-  chain_first = let n = d.first x below in (n.rest, ⊎_elim inl (λ k. inr k.1) n.end)
+  chain_first = let n = d.first x below in (n.rest, ⊎_elim inl (λ k. inr k.1) (at_end n))
 
   -- from one far end to the next
   pub chain_next : {e : ℕ} → FarEnd ls x e
       → (neighbours (drop (2 * (e / 2)) ls) x ≡ at ls e ∷ neighbours (drop (2 * (at next e / 2)) ls) x) × Standing ls x (at next e) × (e < at next e)
   chain_next {e} h =
       let n = d.later x e below h in
-      (link_across ls x e h ∙ ap (λ (l : List ℕ). at ls e ∷ l) n.rest, ⊎_elim inl (λ k. inr k.1) n.end, ⊎_elim (λ q. rw q (omega (arith, h.inside, d.room, d.few))) (λ k. omega (arith, k.0)) n.end)
+      (link_across ls x e h ∙ ap (λ (l : List ℕ). at ls e ∷ l) n.rest, ⊎_elim inl (λ k. inr k.1) (at_end n), ⊎_elim (λ q. rw q (omega (arith, h.inside, d.room, d.few))) (λ k. omega (arith, k.0)) (at_end n))
 
   -- the end of the chain
   pub chain-end : {e : ℕ} → e ≡ NONE → neighbours (drop (2 * (e / 2)) ls) x ≡ []

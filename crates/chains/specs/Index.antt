@@ -1,7 +1,7 @@
 -- The index of links, by which a gateway's links are found without a pass over all links. It says nothing new: all of it is about `neighbours`.
 -- Link i has its two ends at places 2i and 2i + 1 of the list of links, ls. The index next has a place for each end, and its last 1,024 places are the roots of the gateways' chains.
 -- The chain of x goes through the far ends of its links, at which its neighbours stand. Its root has the place of the first, and the place of each has that of the next; 65535 for none.
-use Rattle.std.specs.Prelude.{◌≡◌, ℕ, ◌+◌, ◌-◌, ◌*◌, ◌/◌, ◌%◌, ◌<◌, ◌≤◌, ◌⊎◌, List, length, drop}
+use Rattle.std.specs.Prelude.{◌≡◌, ℕ, ◌+◌, ◌-◌, ◌*◌, ◌/◌, ◌%◌, ◌<◌, ◌≤◌, ◌≢◌, List, length, drop}
 use Rattle.packing.specs.Plant.{NONE, GATEWAYS, at, neighbours}
 
 -- the most places of an index
@@ -28,7 +28,7 @@ pub record FarEnd (ls : List ℕ) (x e : ℕ) : Type 0 where
 -- e is the place of x's first far end from link i on, or 65535 where there is none: the links between the two give x no neighbour
 pub record NextEnd (ls : List ℕ) (x i e : ℕ) : Type 0 where
   pub rest : neighbours (drop (2 * i) ls) x ≡ neighbours (drop (2 * (e / 2)) ls) x
-  pub end : (e ≡ NONE) ⊎ ((2 * i ≤ e) × FarEnd ls x e)
+  pub end : e ≢ NONE → (2 * i ≤ e) × FarEnd ls x e
 
 -- next is the index of the links ls
 pub record Index (ls next : List ℕ) : Type 0 where

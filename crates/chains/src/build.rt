@@ -1,42 +1,24 @@
 // Building the index, link by link. last has the place of the index where each gateway's next far end is to be written: its root at first, then the place of its last far end, so that an empty chain is no case apart.
-ghost use Rattle.std.specs.Prelude.{◌≡◌, ◌+◌, ◌*◌, ◌<◌, ◌≤◌, length, replicate, slice_set};
+ghost use Rattle.std.specs.Prelude.{◌≡◌, ◌+◌, ◌*◌, ◌<◌, ◌≤◌, length, slice_set};
 ghost use Rattle.packing.specs.Lists.{list_of};
 ghost use Rattle.packing.specs.Plant.{NONE, GATEWAYS, ENDS, at};
-ghost use Rattle.chains.specs.Index.{SLOTS, SMALL, root_of, Index};
+ghost use Rattle.chains.specs.Index.{SLOTS, root_of, Index};
 ghost use Rattle.chains.specs.Build.{Joining, Built, Ready, Adding};
 
-use crate::{SLOTS, SMALL};
+use crate::SLOTS;
 use lists::PLACES;
-
-// The index of no links.
-pub fn empty_index() -> [u16; SLOTS]
-    ensures { result ≡ replicate SLOTS NONE }
-{
-    [lists::NONE; SLOTS]
-}
-
-// .. with places for few.
-pub fn small_index() -> [u16; SMALL]
-    ensures { result ≡ replicate SMALL NONE }
-{
-    [lists::NONE; SMALL]
-}
 
 // The last places of empty chains in an index of so many places: the roots.
 pub fn with_roots(slots: usize, last: &mut [u16])
     requires { (GATEWAYS ≤ slots) × (slots ≤ SLOTS) × (length last.old ≡ GATEWAYS) }
     ensures { last.new ≡ list_of GATEWAYS (root_of slots) }
 {
-    let mut root = (slots - PLACES) as u16;
-    let mut x: usize = 0;
-    while x < PLACES {
-        last[x] = root;
-        root += 1;
-        x += 1;
+    for x in 0..PLACES {
+        last[x] = (slots - PLACES + x) as u16;
     }
 }
 
-// Hangs an end to the chain of x.
+// Hangs an end to the chain of x. The two lists stay two parameters: a method on a struct that holds them could exchange what is lent in it, so that each contract would have to say that it does not.
 fn hang(x: u16, end: u16, next: &mut [u16], last: &mut [u16])
     requires { (x < length last.old) × (at last.old x < length next.old) }
     ensures next { next.new ≡ slice_set next.old (at last.old x) end }
@@ -76,13 +58,11 @@ pub fn index_of(links: &[u16]) -> [u16; SLOTS]
     requires { (length links.now ≤ ENDS) × Joining links.now }
     ensures { Index links.now result }
 {
-    let mut next = empty_index();
-    let mut last = lists::marks::zeros();
+    let mut next = [lists::NONE; SLOTS];
+    let mut last = [0u16; PLACES];
     with_roots(SLOTS, &mut last);
-    let mut m: u16 = 0;
-    while 2 * (m as usize) + 1 < links.len() {
+    for m in 0..(links.len() / 2) as u16 {
         hang_link(links, m, &mut next, &mut last);
-        m += 1;
     }
     next
 }

@@ -9,6 +9,7 @@ fn is_there(links: &[u16], next: &[u16], x: u16, y: u16) -> bool
     ensures { result ≡ linked links.now x y }
 {
     let mut e = crate::first_end(next, x);
+    // along the chain: no index is counted
     while e != lists::NONE {
         if crate::neighbour_at(links, e) == y {
             return true;
@@ -24,9 +25,10 @@ fn shorter(degrees: &[u16], a: u16, b: u16) -> u16
     ensures { (result ≡ a) ⊎ (result ≡ b) }
 {
     if degrees[b as usize] < degrees[a as usize] {
-        return b;
+        b
+    } else {
+        a
     }
-    a
 }
 
 // Whether a and b are linked, by the shorter chain. One call for both, so that which it is costs no jump.
@@ -43,5 +45,5 @@ pub fn lengthen(degrees: &mut [u16], x: u16)
     requires { x < length degrees.old }
 {
     let place = x as usize;
-    degrees[place] = std::num::wrapping_add_u16(degrees[place], 1);
+    degrees[place] = degrees[place].wrapping_add(1);
 }

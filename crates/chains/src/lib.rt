@@ -22,7 +22,7 @@ pub fn first_end(next: &[u16], x: u16) -> u16
     next[next.len() - lists::PLACES + (x as usize)]
 }
 
-// The neighbour at place e of a chain.
+// The neighbour at place e of a chain. Its body is next_end's too: the two names say of which list the place is read.
 pub fn neighbour_at(links: &[u16], e: u16) -> u16
     requires { e < length links.now }
     ensures { result ≡ at links.now e }

@@ -1,4 +1,4 @@
-// Functions on lists of numbers by gateway. What is past a list's end counts as 0, and what has no place is not written; only those of module fill ask for room, and counts::tally_into for zeros.
+// Functions on lists of numbers by gateway. What is past a list's end counts as 0, and what has no place is not written; only those of module fill ask for room, counts::tally_into for zeros, and counts::count_where for a test that may be called.
 #![tactic(auto)]
 
 pub mod counts;
@@ -29,24 +29,17 @@ pub const ENDS: usize = 16384;
 pub fn entry(list: &[u16], i: u16) -> u16
     ensures { result ≡ at list.now i }
 {
-    let place = i as usize;
-    if list.len() <= place {
-        return 0;
-    }
-    list[place]
+    list.get(i as usize).copied().unwrap_or(0)
 }
 
-// The byte at i, and 0 past the end.
+// The byte at i, and 0 past the end. One generic word for both would be this library chain again.
 pub fn byte(list: &[u8], i: usize) -> u8
     ensures { result ≡ at list.now i }
 {
-    if list.len() <= i {
-        return 0;
-    }
-    list[i]
+    list.get(i).copied().unwrap_or(0)
 }
 
-// Writes x at i, where there is such a place.
+// Writes x at i, where there is such a place. By get_mut it does not prove: of a slice its contract does not say what the list holds afterwards.
 pub fn put(list: &mut [u16], i: u16, x: u16)
     ensures { list.new ≡ set list.old i x }
 {

@@ -1,36 +1,6 @@
-// Lists with a place for each gateway, to count or mark in.
-ghost use Rattle.std.specs.Prelude.{◌≡◌, cond, eqb, set, replicate};
-ghost use Rattle.packing.specs.Plant.{GATEWAYS, ENDS, NONE, at};
-
-use crate::{ENDS, PLACES};
-
-// Each entry 0.
-pub fn zeros() -> [u16; PLACES]
-    ensures { result ≡ replicate GATEWAYS 0 }
-{
-    [0u16; PLACES]
-}
-
-// Each entry 0, with two places for each link.
-pub fn ends() -> [u16; ENDS]
-    ensures { result ≡ replicate ENDS 0 }
-{
-    [0u16; ENDS]
-}
-
-// Each entry 65535.
-pub fn nones() -> [u16; PLACES]
-    ensures { result ≡ replicate GATEWAYS NONE }
-{
-    [crate::NONE; PLACES]
-}
-
-// Each byte x.
-pub fn bytes(x: u8) -> [u8; PLACES]
-    ensures { result ≡ replicate GATEWAYS x }
-{
-    [x; PLACES]
-}
+// Lists with a place for each gateway, to mark in. Marks are u16s and no bools: stars::leaders keeps them in the list lent for the leaders, and linked_entries (sound) and Treed (stars), on which theorems rest, are of numbers.
+ghost use Rattle.std.specs.Prelude.{◌≡◌, cond, eqb, set};
+ghost use Rattle.packing.specs.Plant.{at};
 
 // Whether v is marked.
 pub fn is_marked(list: &[u16], v: u16) -> bool

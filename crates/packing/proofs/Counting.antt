@@ -6,6 +6,7 @@ use native.Mathlib.Nat.{add-zero, le_antisymm}
 use native.Mathlib.Numerals.{add-one}
 use native.Mathlib.Omega.{arith}
 use lib.Dec.{eqb}
+use Rattle.std.specs.Int.{from_bool}
 use Rattle.packing.specs.Count.{pick, sum, count}
 use Rattle.packing.proofs.Sums.{count-suc, count_longer}
 
@@ -25,6 +26,11 @@ pub pick-few : (b : Bool) {x : ℕ} → x ≡ pick b 1 → x ≤ 1
 pick-few true e = omega arith
 pick-few false e = omega arith
 
+-- .. so too where the library makes the number
+pub from-pick : (b : Bool) → from_bool b ≡ pick b 1
+from-pick true = refl
+from-pick false = refl
+
 module _ (n : ℕ) (p : ℕ → Bool) where
   pub tally_start : Tallied n p 0 0
   unfolding count sum
@@ -32,6 +38,9 @@ module _ (n : ℕ) (p : ℕ → Bool) where
 
   pub tally_turn : {k x w : ℕ} → Tallied n p k w → w < n → x ≡ pick (p w) 1 → Tallied n p (k + x) (w + 1)
   tally_turn {k} {x} {w} t h e = record { upto = omega arith; few = omega (arith, t.few, pick-few (p w) e); counted = rw (t.counted, e, add-one w, count-suc) }
+
+  pub tally_from : {k x w : ℕ} {b : Bool} → Tallied n p k w → w < n → x ≡ from_bool b → b ≡ p w → Tallied n p (k + x) (w + 1)
+  tally_from {b = b} t h e f = tally_turn t h (e ∙ from-pick b ∙ ap (λ (b : Bool). pick b 1) f)
 
   pub tally_more : {k w : ℕ} {b : Bool} → Tallied n p k w → w < n → b ≡ p w → b ≡ true → Tallied n p (k + 1) (w + 1)
   tally_more t h e f = tally_turn t h (ap (λ (b : Bool). pick b 1) (sym f ∙ e))

@@ -1,8 +1,10 @@
 -- The mathematics of star packings, by subject.
 pub mod Tests
+pub mod Ranges
 pub mod Sums
 pub mod Counting
 pub mod Flat
+pub mod Chunks
 pub mod Lists
 pub mod Refusals
 pub mod Turns

@@ -6,5 +6,4 @@ pub mod PassResults
 pub mod Meaning
 pub mod Facts
 pub mod Orders
-pub mod Lookup
 pub mod Searchable

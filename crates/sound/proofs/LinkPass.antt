@@ -1,18 +1,20 @@
 -- A pass over the links that marks each gateway with a link of some kind: its invariant, one turn, and its end. p says which links count, seen from the gateway.
-use Prim.Native.Nat.{ℕ, ◌+◌, ◌<◌, ◌≤◌}
+use Prim.Native.Nat.{ℕ, ◌+◌, ◌*◌, ◌/◌, ◌<◌, ◌≤◌}
 use mathlib.Core.Path.{◌≡◌, refl, sym, ap, ◌∙◌}
 use mathlib.Core.Logic.{⊎_elim}
 use mathlib.Core.Bool.{Bool, true, false, cond, ◌&&◌, ◌||◌, or-true, or-false, false≢true}
 use mathlib.Core.List.{List, [], ◌∷◌}
 use native.Mathlib.Omega.{arith}
 use lib.Dec.{eqb}
-use lib.ListN.{length, drop}
+use lib.ListN.{length, get_or, drop}
 use borrow.Author.Tests.{eqb-true, eq-eqb}
 use Rattle.packing.specs.Count.{pick}
 use Rattle.packing.specs.Lists.{list_of}
 use Rattle.packing.specs.Plant.{GATEWAYS, at, joins, linked}
 use Rattle.packing.proofs.Tests.{and_l, and_r, and_i, or_l, or_r, or_cases, iff_test}
 use Rattle.packing.proofs.Lists.{list-by, list_of_ext}
+use Rattle.std.specs.Simd.{first_chunks}
+use Rattle.packing.proofs.Chunks.{chunk-in, chunk_first, chunk_second}
 use Rattle.packing.proofs.Flat.{pair-at, pair_end}
 use Rattle.lists.proofs.Marked.{marked-entry, marked-length}
 use Rattle.sound.specs.Marks.{Zeros, linked_where, noted, entry_is, linked_entries}
@@ -62,6 +64,9 @@ bit_of false x e = e
 marked-or : (b : Bool) (x : ℕ) → eqb (cond b 1 x) 1 ≡ (eqb x 1 || b)
 marked-or true x = sym (or-true (eqb x 1))
 marked-or false x = sym (or-false _)
+
+pub twice_more : (i : ℕ) → 2 * (i + 1) ≡ 2 * i + 2
+twice_more i = omega arith
 
 module _ (p : ℕ → ℕ → Bool) (ls marks₀ : List ℕ) where
   -- the loop's invariant: what was marked so far, with what the links from i on add, is what all links give
@@ -115,6 +120,12 @@ module _ (p : ℕ → ℕ → Bool) (ls marks₀ : List ℕ) where
           shuffle : (m x y l : Bool) → (m || x || y || l) ≡ (m || (x || y || l))
           shuffle true x y l = refl
           shuffle false x y l = refl
+
+  -- .. where it is one of the library's chunks
+  pub pass_chunk : {marks marks' marks'' : List ℕ} {chunks : List (List ℕ)} {i : ℕ} → Passed marks (2 * i) → chunks ≡ first_chunks 2 (length ls / 2) ls → length chunks ≡ length ls / 2 → i < length chunks
+      → marks' ≡ noted p marks (at (get_or chunks i []) 0) (at (get_or chunks i []) 1) → marks'' ≡ noted p marks' (at (get_or chunks i []) 1) (at (get_or chunks i []) 0) → Passed marks'' (2 * (i + 1))
+  pass_chunk {marks} {marks'} {marks''} {chunks} {i} w e k h f g =
+      rw (twice_more i) (pass_turn w (chunk-in chunks ls k h) (rw (chunk_first ls e k h, chunk_second ls e k h) at f) (rw (chunk_first ls e k h, chunk_second ls e k h) at g))
 
   pub pass_end : {marks : List ℕ} {i : ℕ} → Passed marks i → length ls ≤ i + 1 → (v : ℕ) → v < length marks → at marks v ≡ pick (linked_where p ls v) 1
   pass_end {marks} {i} w h v q =

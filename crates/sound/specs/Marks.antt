@@ -1,9 +1,8 @@
 -- What a pass over the links keeps in its marks, and what it leaves.
-use Rattle.std.specs.Prelude.{ℕ, ◌<◌, ◌≡◌, Bool, false, cond, ◌&&◌, ◌||◌, List, [], ◌∷◌, eqb, length, set}
+use Rattle.std.specs.Prelude.{ℕ, ◌≡◌, Bool, false, cond, ◌&&◌, ◌||◌, List, [], ◌∷◌, eqb, set}
 use Rattle.packing.specs.Count.{pick}
 use Rattle.packing.specs.Lists.{list_of}
 use Rattle.packing.specs.Plant.{GATEWAYS, at, linked}
-use Rattle.sound.specs.Sound.{ends_sound}
 
 -- an array that nothing was marked in
 unfoldable pub Zeros : List ℕ → Type 0
@@ -22,11 +21,6 @@ noted p marks v u = cond (p v u) (set marks v 1) marks
 -- u is v's entry in a list, as its holder is in the list of holders
 unfoldable pub entry_is : List ℕ → ℕ → ℕ → Bool
 entry_is l v u = eqb (at l v) u
-
--- the links were passed over: whether their ends are sound, and each gateway marked whose holder is linked to it
-pub record LinksPassed (n : ℕ) (ls hs marks : List ℕ) (r : Bool) : Type 0 where
-  pub ends : r ≡ ends_sound n ls
-  pub marked : (v : ℕ) → v < length marks → eqb (at marks v) 1 ≡ linked ls v (at hs v)
 
 -- 1 for each of the first 1,024 gateways that is linked to its entry in a list, else 0
 unfoldable pub linked_entries : List ℕ → List ℕ → List ℕ

@@ -5,42 +5,31 @@ ghost use Rattle.sound.specs.Marks.{linked_entries};
 
 use crate::marks::note;
 use lists::PLACES;
-use lists::marks::zeros;
-use lists::tests::{both, either};
 
 // Whether the link a-b joins x and y, either way round.
 fn is_joining(a: u16, b: u16, x: u16, y: u16) -> bool
     ensures { result ≡ joins a b x y }
 {
-    either(both(a == x, b == y), both(a == y, b == x))
+    a == x && b == y || a == y && b == x
 }
 
 // Whether x and y are linked by a list of two numbers for each link.
 pub fn is_linked(links: &[u16], x: u16, y: u16) -> bool
     ensures { result ≡ linked links.now x y }
 {
-    let mut i: usize = 0;
-    while i + 1 < links.len() {
-        if is_joining(links[i], links[i + 1], x, y) {
-            return true;
-        }
-        i += 2;
-    }
-    false
+    let (pairs, _) = links.as_chunks::<2>();
+    pairs.iter().any(|&[a, b]| is_joining(a, b, x, y))
 }
 
 // 1 for each gateway that is linked to its entry in a list, else 0.
 pub fn linked_entries(links: &[u16], list: &[u16]) -> [u16; PLACES]
     ensures { result ≡ linked_entries links.now list.now }
 {
-    let mut marks = zeros();
-    let mut i: usize = 0;
-    while i + 1 < links.len() {
-        let a = links[i];
-        let b = links[i + 1];
+    let mut marks = [0u16; PLACES];
+    let (pairs, _) = links.as_chunks::<2>();
+    for &[a, b] in pairs {
         note(a, b, list, &mut marks);
         note(b, a, list, &mut marks);
-        i += 2;
     }
     marks
 }

@@ -1,19 +1,13 @@
-// The steps of the pass over the links: the test of a link's ends, and a mark of a gateway whose holder is linked to it.
+// The steps of the passes over the links: the test of a link's ends, and a mark of a gateway whose holder is linked to it.
 ghost use Rattle.std.specs.Prelude.{◌≡◌, not, ◌&&◌, eqb, ltb};
 ghost use Rattle.sound.specs.Marks.{noted, entry_is};
 
 use lists::entry;
 
-pub(crate) fn ends_sound(n: u16, a: u16, b: u16) -> bool
+pub(crate) fn are_ends(n: u16, a: u16, b: u16) -> bool
     ensures { result ≡ (not (eqb a b) && ltb a n && ltb b n) }
 {
-    if a == b {
-        return false;
-    }
-    if n <= a {
-        return false;
-    }
-    b < n
+    a != b && a < n && b < n
 }
 
 // Marks v, where u is its holder and v has a place among the marks.

@@ -13,7 +13,7 @@ use borrow.Author.Tests.{eqb-true, eqb-false, ltb-true, ltb-false, not-true}
 use Rattle.packing.specs.Plant.{NONE, at}
 use Rattle.packing.proofs.Tests.{by_bool, below_suc, clash, not_test}
 use Rattle.stars.specs.Stars.{back, on_cycle, leads_in_trees, begins, cut, leads}
-use Rattle.stars.specs.Pre.{Treed, Unmet, Rounded, Broken, Led, Reading, Read, goes_with, marked}
+use Rattle.stars.specs.Pre.{Treed, Unmet, Rounded, Broken, Led, Reading, goes_with, marked}
 use Rattle.stars.specs.declared.rounds.Round.{Round}
 use Rattle.stars.proofs.Tables.{Refilled}
 use Rattle.stars.proofs.Cycles.{back_add, round-back, cycle_below, cycle_back, cycle_return}
@@ -54,14 +54,6 @@ reading_on {v = v} r l t =
       leading = r.leading;
       next = r.next;
       blank = r.blank;
-    }
-
-pub reading_end : {n : ℕ} {hs : List ℕ} {v : ℕ} {ds ls xs : List ℕ} → Reading n hs v ds ls xs → n ≤ v → Read n hs ls xs
-reading_end r h =
-    record {
-      few = r.few;
-      leading = λ x l. r.leading x l ∙ rw (r.met x (omega arith));
-      next = λ x l. r.next x l (r.met x (omega arith));
     }
 
 -- v is not marked: its cycle is not read

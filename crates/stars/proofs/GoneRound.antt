@@ -70,10 +70,6 @@ module _ {n : ℕ} {hs ds : List ℕ} {v : ℕ} (ls : List ℕ) (m : Unmet n hs 
       pub rounding_less : {es' : List ℕ} → es' ≡ set es u 1 → count n (λ x. not (marked es' x)) < count n (λ x. not (marked es x))
       rounding_less f = omega (arith, fewer f)
 
-      -- the arcs are fewer than the gateways
-      pub rounding_few : i < n
-      rounding_few = omega (arith, r.left, fewer {es' = set es u 1} refl)
-
       pub rounding_turn : {es' : List ℕ} {k : Bool} {start' u' : ℕ} → es' ≡ set es u 1 → k ≡ marked ls u → start' ≡ cond k u start → u' ≡ at hs u → Rounding n hs ls ds v es' start' (i + 1) u'
       unfolding back
       rounding_turn {es'} {k} {start'} {u'} f g c d =

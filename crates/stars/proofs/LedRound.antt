@@ -70,7 +70,7 @@ module _ {n : ℕ} {hs ls : List ℕ} {s arcs : ℕ} (p : Broken n hs ls s arcs)
         not_first zero q = absurd (apart q)
         not_first (suc k) q = omega arith
 
-    module _ {k free : Bool} {u' : ℕ} {ms' : List ℕ} (h : i < arcs) (e : k ≡ marked ms u) (f : free ≡ (eqb u s || k)) (d : u' ≡ at hs u) (g : ms' ≡ cond (not free) (set ms u' 1) ms) where
+    module _ {free : Bool} {u' : ℕ} {ms' : List ℕ} (h : i < arcs) (f : free ≡ (eqb u s || marked ms u)) (d : u' ≡ at hs u) (g : ms' ≡ cond (not free) (set ms u' 1) ms) where
       there : u' ≡ back n hs (i + 1) s
       there = back-arc n hs i s below r.here d
 
@@ -83,8 +83,8 @@ module _ {n : ℕ} {hs ls : List ℕ} {s arcs : ℕ} (p : Broken n hs ls s arcs)
       -- its holder leads where u is not free: neither s nor one that leads
       holder-leads : free ≡ false → leads n hs u' ≡ true
       holder-leads t =
-          let apart : u ≡ s → ⊥ = eqb-false u s (or_false_l (eqb u s) k (sym f ∙ t)) in
-          let quiet : leads n hs u ≡ false = quiet_here apart (sym e ∙ or_false_r (eqb u s) k (sym f ∙ t)) in
+          let apart : u ≡ s → ⊥ = eqb-false u s (or_false_l (eqb u s) (marked ms u) (sym f ∙ t)) in
+          let quiet : leads n hs u ≡ false = quiet_here apart (or_false_r (eqb u s) (marked ms u) (sym f ∙ t)) in
           (leads_child n hs few u' beyond).1 (u, below, sym d, kept-arc apart quiet, quiet)
 
       -- .. and only there, if it does not lead in the trees
@@ -92,7 +92,7 @@ module _ {n : ℕ} {hs ls : List ℕ} {s arcs : ℕ} (p : Broken n hs ls s arcs)
       not_free t still =
           let both : (not (cut n hs u) && not (leads n hs u)) ≡ true = sym (cycle_leads n hs few u' u beyond below (rw r.here (met-on i)) (sym d) still) ∙ t in
           not_test free (λ q. by_bool (eqb u s) (λ w. clash _ (rw (← eqb-true u s w) at p.stops) (not-true _ (and_l _ _ both)))
-          (λ w. clash (leads n hs u) (marked-leads (sym e ∙ rw w at (sym f ∙ q))) (not-true _ (and_r (not (cut n hs u)) _ both))))
+          (λ w. clash (leads n hs u) (marked-leads (rw w at (sym f ∙ q))) (not-true _ (and_r (not (cut n hs u)) _ both))))
         where
           marked-leads : marked ms u ≡ true → leads n hs u ≡ true
           marked-leads w = rw (← r.here) at (r.sound i (rw r.here at w))

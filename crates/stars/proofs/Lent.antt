@@ -1,23 +1,14 @@
 -- The lists lent for the leader list: what their test says, and what it takes.
-use Prim.Native.Nat.{ℕ, ◌<◌, ◌≤◌}
+use Prim.Native.Nat.{ℕ, ◌≤◌}
 use mathlib.Core.Path.{◌≡◌, sym, ◌∙◌}
 use mathlib.Core.Bool.{Bool, true, false, not}
 use mathlib.Core.List.{List, ◌++◌}
 use lib.ListN.{length, drop}
-use borrow.Author.Tests.{leb-true, le-leb, lt-leb, not-true, not-false}
+use borrow.Author.Tests.{leb-true, le-leb, not-true, not-false}
 use Rattle.packing.specs.Lists.{list_of, written, fits, Lent}
 use Rattle.packing.specs.Plant.{GATEWAYS}
 use Rattle.packing.proofs.Tests.{tests}
 use Rattle.stars.specs.Stars.{leader_list, leaders_fit, leaders_written}
-
--- the test, by the order's length and then the others
-pub short_order : (n order holders out : ℕ) → order < n → false ≡ leaders_fit n order holders out
-unfolding leaders_fit
-short_order n order holders out l = rw (lt-leb n order l)
-
-pub long_order : (n order holders out : ℕ) {b : Bool} → n ≤ order → b ≡ fits n holders out → b ≡ leaders_fit n order holders out
-unfolding leaders_fit
-long_order n order holders out l e = rw (le-leb n order l) e
 
 -- what it says of n and of the list that is written
 pub lent : (n order holders out : ℕ) {b : Bool} → b ≡ leaders_fit n order holders out → not b ≡ false → (n ≤ GATEWAYS) × (n ≤ out)

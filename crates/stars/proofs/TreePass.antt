@@ -1,47 +1,24 @@
 -- The pass that takes gateways, each as soon as it can: it takes all that hang in trees, and so finds who leads by rule 1.
 use Prim.Native.Nat.{ℕ, ◌+◌, ◌-◌, ◌<◌, ◌≤◌}
 use mathlib.Core.Path.{◌≡◌, refl, sym, ap, ◌∙◌}
-use mathlib.Core.Bool.{Bool, true, false, not, cond, ◌&&◌, and_comm}
+use mathlib.Core.Bool.{Bool, true, false, not, ◌&&◌, and_comm}
 use mathlib.Core.List.{List}
 use native.Mathlib.Omega.{arith}
 use lib.Dec.{eqb, ltb}
-use lib.ListN.{length, set, replicate, length-replicate}
-use borrow.Author.Tests.{eqb-true, eqb-false, eq-eqb, ltb-true, lt-ltb, le-ltb, not-true}
+use lib.ListN.{length}
+use borrow.Author.Tests.{eqb-true, eqb-false, eq-eqb, ltb-true, lt-ltb, not-true}
 use Rattle.packing.specs.Count.{count}
-use Rattle.packing.specs.Lists.{tally_of, written}
 use Rattle.packing.specs.Plant.{GATEWAYS, NONE, at}
 use Rattle.packing.proofs.Tests.{by_bool, clash, and_l, and_r, and_i, not_i, not_test}
 use Rattle.packing.proofs.Sums.{count_ext, count-some, count_none}
-use Rattle.packing.proofs.Lists.{written-whole}
 use Rattle.lists.proofs.Tallies.{tally_at, counted-long}
 use Rattle.stars.specs.Stars.{on_cycle}
-use Rattle.stars.specs.Pre.{Cleared, Taken, Waited, Waiting, Treed, is_next, marked}
+use Rattle.stars.specs.Pre.{Taken, Waited, Waiting, Treed, is_next, marked}
 use Rattle.stars.proofs.Tables.{Blank, blank}
 use Rattle.stars.proofs.Cycles.{cycle_holder}
 use Rattle.stars.proofs.Upwards.{upwards}
 use Rattle.stars.proofs.Leads.{trees_broken, lead-only}
 use Rattle.stars.proofs.Peeling.{Peeled, awaited, taken_here, taken_other, waits_other, peel_more, peel_less}
-
--- The test of whether one can be taken.
-module _ (n : ℕ) (ws ts : List ℕ) {u : ℕ} where
-  pub next_past : n ≤ u → false ≡ is_next n ws ts u
-  unfolding is_next
-  next_past l = rw (le-ltb u n l)
-
-  pub next_tests : {b m r : Bool} → u < n → b ≡ eqb (at ws u) 0 → m ≡ marked ts u → r ≡ (b && not m) → r ≡ is_next n ws ts u
-  unfolding is_next
-  next_tests l e f g = rw (lt-ltb u n l, ← e, ← f) g
-
--- One is taken, as the code does it: its holder is a gateway that waits for it, or none.
-pub take_waited : {n : ℕ} {hs ws : List ℕ} {u h k : ℕ} → Waited n hs ws u → h ≡ at hs u → h < n → k ≡ at ws h → 1 ≤ k
-take_waited w e l f = rw (f, e) (w.some (rw e at l))
-
-module _ {n : ℕ} {hs : List ℕ} {u h : ℕ} {ts ts' : List ℕ} (e : ts' ≡ set ts u 1) (f : h ≡ at hs u) where
-  pub take-held : {ws ws' ls ls' : List ℕ} {k : ℕ} {b : Bool} → h < n → k ≡ at ws h → ws' ≡ set ws h (k - 1) → b ≡ marked ls u → ls' ≡ cond (not b) (set ls h 1) ls → Taken n hs u ws ts ls ws' ts' ls' h
-  take-held l c d m q = record { holder = f; taken = e; waits = rw (← f, lt-ltb h n l, ← c) d; leading = rw (← f, lt-ltb h n l, ← m) q }
-
-  pub take-root : (ws ls : List ℕ) → n ≤ h → Taken n hs u ws ts ls ws ts' ls h
-  take-root ws ls l = record { holder = f; taken = e; waits = rw (← f, le-ltb h n l); leading = rw (← f, le-ltb h n l) }
 
 -- The pass: none up to v can be taken but u, at which it stands.
 pub record Passing (n : ℕ) (hs ws ts ls : List ℕ) (v u : ℕ) : Type 0 where
@@ -49,11 +26,6 @@ pub record Passing (n : ℕ) (hs ws ts ls : List ℕ) (v u : ℕ) : Type 0 where
   pub upto : v ≤ n
   pub end : n ≤ v → n ≤ u
   pub passed : (x : ℕ) → x < n → x ≤ v → (x ≡ u → ⊥) → at ws x ≡ 0 → marked ts x ≡ true
-
--- the lists once the marks are cleared and those held are counted
-pub cleared_waiting : {n : ℕ} {hs ws ts ls ws' ts' : List ℕ} → Cleared n ws ts ls → ts' ≡ written n (replicate n 0) ts → ws' ≡ tally_of n hs → Waiting n hs ws' ts' ls
-cleared_waiting {n} {ts = ts} s e f =
-    record { few = s.few; waits = f; taken = e ∙ written-whole n (replicate n 0) ts (length-replicate n 0) (omega (arith, s.long)); leading = s.leading }
 
 pub waiting-long : {n : ℕ} {hs ws ts ls : List ℕ} → Waiting n hs ws ts ls → GATEWAYS ≡ length ws
 waiting-long {n} {hs} s = counted-long n hs (record { upto = omega arith; is = s.waits })

@@ -16,13 +16,11 @@ fn leads_pair(places: &[u16], a: u16, b: u16) -> bool
     entry(places, a) <= entry(places, b)
 }
 
+#[tactic(auto, unfolding(crate::specs::Stars::pair_leader))]
 fn pair_leader(places: &[u16], a: u16, b: u16) -> u16
     ensures { result ≡ pair_leader (not_later (at places.now)) a b }
 {
-    if leads_pair(places, a, b) {
-        return a;
-    }
-    b
+    if leads_pair(places, a, b) { a } else { b }
 }
 
 // The entry that was u, once in a group of two the one that leads the pair leads.
@@ -44,11 +42,9 @@ fn turn_entries(n: u16, places: &[u16], partners: &[u16], groups: &mut [u16])
     requires { (n ≤ GATEWAYS) × (Partners n n (at groups.old) partners.now) × (n ≡ length groups.old) }
     ensures { groups.new ≡ list_of n (rule_five (not_later (at places.now)) n (at groups.old)) }
 {
-    let mut v: u16 = 0;
-    while v < n {
+    for v in 0..n {
         let place = v as usize;
         groups[place] = rule_five(n, places, partners, groups[place]);
-        v += 1;
     }
 }
 

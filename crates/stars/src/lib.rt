@@ -14,9 +14,7 @@ ghost use Rattle.packing.specs.Plant.{GATEWAYS};
 ghost use Rattle.stars.specs.Stars.{leader_of, leader_list, leaders_fit, leaders_written};
 ghost use Rattle.stars.specs.Pre.{Cleared};
 
-use lists::marks::zeros;
-
-// Each gateway's leader by rules 1 to 4: first in the trees, then on the cycles. Lists serve twice, so that few are cleared: groups first marks who hangs in a tree, and waits later says with whom the first of a cycle goes.
+// Each gateway's leader by rules 1 to 4: first in the trees, then on the cycles. Lists serve twice, so that few are cleared: groups first marks who hangs in a tree, and waits later says with whom the first of a cycle goes. So no one struct could name them for all three steps.
 fn write_groups(n: u16, holders: &[u16], waits: &mut [u16], leading: &mut [u16], groups: &mut [u16])
     requires { Cleared n waits.old groups.old leading.old }
     ensures { groups.new ≡ list_of n (leader_of n holders.now) }
@@ -31,20 +29,18 @@ fn write_leaders(n: u16, order: &[u16], holders: &[u16], out: &mut [u16])
     requires { (n ≤ GATEWAYS) × (n ≡ length out.old) }
     ensures { out.new ≡ list_of n (leader_list n order.now holders.now) }
 {
-    let mut first = zeros();
-    let mut second = zeros();
+    let mut first = [0u16; lists::PLACES];
+    let mut second = [0u16; lists::PLACES];
     write_groups(n, holders, &mut first, &mut second, out);
     groups_of_two::turn_pairs(n, order, &mut first, &mut second, out);
 }
 
+#[tactic(auto, unfolding(crate::specs::Stars::leaders_fit))]
 // Whether n is in range and each list, by its length, has n entries.
 fn is_lent(n: u16, order: usize, holders: usize, out: usize) -> bool
     ensures { result ≡ leaders_fit n order holders out }
 {
-    if order < n as usize {
-        return false;
-    }
-    sound::is_fitting(n, holders, out)
+    n as usize <= order && sound::is_fitting(n, holders, out)
 }
 
 // Writes the leader list to the first n places of out, and answers whether n and the lengths fit; if not, nothing is changed.

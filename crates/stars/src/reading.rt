@@ -12,10 +12,7 @@ use lists::{NONE, entry};
 fn gateway_or_none(n: u16, u: u16) -> u16
     ensures { result ≡ cond (ltb u n) u NONE }
 {
-    if u < n {
-        return u;
-    }
-    NONE
+    if u < n { u } else { NONE }
 }
 
 // v's leader: itself, the next on its cycle, or its holder.
@@ -44,10 +41,8 @@ pub(crate) fn leaders_of(
     requires { (Read n holders.now leading.now nexts.now) × (n ≡ length groups.old) }
     ensures { groups.new ≡ list_of n (leader_of n holders.now) }
 {
-    let mut v: u16 = 0;
-    while v < n {
+    for v in 0..n {
         let place = v as usize;
         groups[place] = leader_of(n, holders, nexts, leading, v);
-        v += 1;
     }
 }

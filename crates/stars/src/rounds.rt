@@ -3,26 +3,15 @@ ghost use Rattle.std.specs.Prelude.{◌≡◌, false, cond, ◌+◌, ◌<◌, le
 ghost use Rattle.packing.specs.Plant.{GATEWAYS};
 ghost use Rattle.stars.specs.Pre.{Broken, Led, Read, Reading, Rounded, Treed, Unmet, marked};
 
-use lists::fill::with_none;
+use lists::fill::with_value;
 use lists::marks::{is_marked, mark_if};
-use lists::tests::either;
-use lists::{entry, put};
+use lists::{NONE, entry, put};
 
 // A cycle: the gateway on it at which its reading starts, and how many arcs it has.
-#[derive(Drop)]
+#[derive(Clone, Copy)]
 struct Round {
     start: u16,
     arcs: u16,
-}
-
-// a where first is true, else b.
-fn choose(first: bool, a: u16, b: u16) -> u16
-    ensures { result ≡ cond first a b }
-{
-    if first {
-        return a;
-    }
-    b
 }
 
 // Goes round v's cycle and marks it. Its reading starts at one that leads or, where none does, at v.
@@ -33,9 +22,12 @@ fn go_round(n: u16, holders: &[u16], leading: &[u16], read: &mut [u16], v: u16) 
     let mut start = v;
     let mut arcs: u16 = 0;
     let mut u = v;
+    // along the cycle until it comes round: no index is counted
     while !is_marked(read, u) {
         put(read, u, 1);
-        start = choose(is_marked(leading, u), u, start);
+        if is_marked(leading, u) {
+            start = u;
+        }
         u = entry(holders, u);
         arcs += 1;
     }
@@ -43,19 +35,17 @@ fn go_round(n: u16, holders: &[u16], leading: &[u16], read: &mut [u16], v: u16) 
 }
 
 // Goes round the cycle from its start, the arc into which is cut: each other on it that does not lead is led by its holder. Returns the next after the start.
-fn lead_round(n: u16, holders: &[u16], leading: &mut [u16], start: u16, arcs: u16) -> u16
-    requires { Broken n holders.now leading.old start arcs }
-    ensures { Led n holders.now leading.old leading.new start result }
+fn lead_round(n: u16, holders: &[u16], leading: &mut [u16], round: Round) -> u16
+    requires { Broken n holders.now leading.old round.start round.arcs }
+    ensures { Led n holders.now leading.old leading.new round.start result }
 {
-    let mut last = start;
-    let mut u = start;
-    let mut i: u16 = 0;
-    while i < arcs {
-        let free = either(u == start, is_marked(leading, u));
+    let mut last = round.start;
+    let mut u = round.start;
+    for _ in 0..round.arcs {
+        let free = u == round.start || is_marked(leading, u);
         last = u;
         u = entry(holders, u);
         mark_if(!free, leading, u);
-        i += 1;
     }
     last
 }
@@ -73,10 +63,8 @@ fn read_cycle(
     ensures { Reading n holders.now (v + 1) read.new leading.new nexts.new }
 {
     let round = go_round(n, holders, leading, read, v);
-    let start = round.start;
-    let arcs = round.arcs;
-    let next = lead_round(n, holders, leading, start, arcs);
-    put(nexts, start, next);
+    let next = lead_round(n, holders, leading, round);
+    put(nexts, round.start, next);
 }
 
 // Reads the cycles in turn, by marks of those in trees and of those who lead by rule 1: marks who leads by rules 1 to 4. Writes to nexts with whom each goes that does not lead and whose arc is cut; 65535 for the others that do not lead.
@@ -90,12 +78,10 @@ pub(crate) fn read_cycles(
     requires { (Treed n holders.now read.old leading.old) × (GATEWAYS ≡ length nexts.old) }
     ensures { Read n holders.now leading.new nexts.new }
 {
-    with_none(n as usize, nexts);
-    let mut v: u16 = 0;
-    while v < n {
+    with_value(n as usize, NONE, nexts);
+    for v in 0..n {
         if !is_marked(read, v) {
             read_cycle(n, holders, read, leading, nexts, v);
         }
-        v += 1;
     }
 }

@@ -3,19 +3,16 @@ ghost use Rattle.std.specs.Prelude.{◌≡◌};
 ghost use Rattle.stars.specs.Pre.{Cleared, Taken, Treed, Waited, Waiting, is_next};
 
 use lists::counts::tally_into;
-use lists::fill::with_number;
+use lists::fill::with_value;
 use lists::marks::{is_marked, mark_if};
-use lists::tests::both;
 use lists::{entry, put};
 
+#[tactic(auto, unfolding(crate::specs::Pre::is_next))]
 // Whether u may be taken: it is a gateway, waits for none that it holds, and is not taken yet.
 fn is_next(n: u16, waits: &[u16], taken: &[u16], u: u16) -> bool
     ensures { result ≡ is_next n waits.now taken.now u }
 {
-    if n <= u {
-        return false;
-    }
-    both(entry(waits, u) == 0, !is_marked(taken, u))
+    u < n && entry(waits, u) == 0 && !is_marked(taken, u)
 }
 
 // Takes u: its holder waits for one fewer, and leads if u does not. Returns the holder.
@@ -47,6 +44,7 @@ fn peel(n: u16, holders: &[u16], waits: &mut [u16], taken: &mut [u16], leading: 
 {
     let mut v: u16 = 0;
     let mut u: u16 = 0;
+    // goes on from one taken to its holder, so that v stays in some turns
     while v < n {
         if is_next(n, waits, taken, u) {
             u = take(n, holders, u, waits, taken, leading);
@@ -68,7 +66,7 @@ pub(crate) fn lead_trees(
     requires { Cleared n waits.old trees.old leading.old }
     ensures { Treed n holders.now trees.new leading.new }
 {
-    with_number(n as usize, 0, trees);
+    with_value(n as usize, 0, trees);
     tally_into(n, holders, waits);
     peel(n, holders, waits, trees, leading);
 }

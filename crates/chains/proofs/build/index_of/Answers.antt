@@ -1,4 +1,4 @@
-use Rattle.std.proofs.Common.{length, ap, ◌∙◌, arith}
+use Rattle.std.proofs.Common.{refl, arith}
 use lib.ListN.{length-replicate}
 use Rattle.packing.specs.Plant.{NONE}
 use Rattle.chains.specs.Index.{SLOTS}
@@ -7,13 +7,10 @@ use Rattle.chains.proofs.LinkMore.{built-start, next_ready}
 use Rattle.chains.proofs.build.index_of.Goals as goal
 
 pub loop-m-init : goal.loop-m-init
-loop-m-init c = (built-start _ SLOTS (omega (arith, c.requires.0)) (omega arith) c.empty_index-next.ensures c.with_roots.ensures, ap length c.empty_index-next.ensures ∙ length-replicate SLOTS NONE)
+loop-m-init c = (built-start _ SLOTS (omega (arith, c.requires.0)) (omega arith) refl c.with_roots.ensures, length-replicate SLOTS NONE)
 
 pub hang_link-requires : goal.hang_link-requires
-hang_link-requires c = next_ready _ _ c.requires.1 c.loop-m.invariant.0 c.loop-m-test.true
-
-pub loop-m-preserved : goal.loop-m-preserved
-loop-m-preserved c = (c.hang_link.ensures, omega arith)
+hang_link-requires c = next_ready _ _ c.requires.1 c.loop-m.invariant.0 (omega arith)
 
 pub returns : goal.returns
-returns c = built-whole _ _ c.loop-m.invariant.0 c.loop-m-test.false
+returns c = built-whole _ _ c.loop-m.invariant.0 (omega arith)

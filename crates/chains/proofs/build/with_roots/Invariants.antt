@@ -1,11 +1,7 @@
-use Rattle.std.proofs.Common.{◌≡◌, ◌-◌}
 use Rattle.packing.specs.Plant.{GATEWAYS}
 use Rattle.packing.proofs.Lists.{Listed}
 use Rattle.chains.specs.Index.{root_of}
 use Rattle.chains.proofs.build.with_roots.Given as goal
 
 abbrev pub invariant-loop-x : goal.invariant-loop-x
-invariant-loop-x l = Listed GATEWAYS (root_of l.slots) l.initial.last l.last l.x × (l.root ≡ root_of l.slots l.x)
-
-abbrev pub decreases-loop-x : goal.decreases-loop-x
-decreases-loop-x l = GATEWAYS - l.x
+invariant-loop-x l = Listed GATEWAYS (root_of l.slots) l.initial.last l.last l.x

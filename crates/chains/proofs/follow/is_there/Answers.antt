@@ -1,29 +1,16 @@
 use Rattle.std.proofs.Common.{arith}
-use Rattle.chains.proofs.Finding.{sought_start, sought_places, sought_found, sought_turn, sought_less, sought_end}
+use Rattle.chains.proofs.Finding.{sought_start, sought_found, sought_turn, sought_less, sought_end}
 use Rattle.chains.proofs.follow.is_there.Goals as goal
-
-pub first_end-e-requires : goal.first_end-e-requires
-first_end-e-requires c = (omega (arith, c.requires.0.room), c.requires.1)
 
 pub loop-e-init : goal.loop-e-init
 loop-e-init c =
     let asked = c.requires in
     sought_start _ _ _ _ asked.0 asked.1 c.first_end-e.ensures
 
-pub neighbour_at-requires : goal.neighbour_at-requires
-neighbour_at-requires c =
-    let asked = c.requires in
-    (sought_places _ _ _ _ asked.0 asked.1 c.loop-e.invariant c.loop-e-test.true).0
-
 pub returns-then-neighbour_at-y : goal.returns-then-neighbour_at-y
 returns-then-neighbour_at-y c =
     let asked = c.requires in
     sought_found _ _ _ _ asked.0 asked.1 c.loop-e.invariant c.loop-e-test.true c.neighbour_at.ensures c.if-neighbour_at-y.true
-
-pub next_end-e-requires : goal.next_end-e-requires
-next_end-e-requires c =
-    let asked = c.requires in
-    (sought_places _ _ _ _ asked.0 asked.1 c.loop-e.invariant c.loop-e-test.true).1
 
 pub loop-e-smaller : goal.loop-e-smaller
 loop-e-smaller c =

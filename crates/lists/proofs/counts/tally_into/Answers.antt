@@ -1,5 +1,5 @@
 use native.Mathlib.Omega.{arith}
-use Rattle.lists.proofs.Tallies.{counted_start, counted-few, counted_same, counted-turn, counted-end}
+use Rattle.lists.proofs.Tallies.{counted_start, counted-few, counted-turn}
 use Rattle.lists.proofs.counts.tally_into.Goals as goal
 
 pub loop-i-init : goal.loop-i-init
@@ -10,9 +10,3 @@ overflow_add-k c = omega (arith, counted-few _ _ _ c.loop-i.invariant c.entry-k.
 
 pub loop-i-preserved : goal.loop-i-preserved
 loop-i-preserved c = counted-turn _ _ c.loop-i.invariant c.loop-i-test.true c.entry-x.ensures c.entry-k.ensures c.put.ensures
-
-pub shape_of-counts : goal.shape_of-counts
-shape_of-counts c = counted_same _ _ c.requires c.loop-i.invariant
-
-pub returns : goal.returns
-returns c = counted-end _ _ c.loop-i.invariant c.loop-i-test.false

@@ -1,5 +1,6 @@
-use Rattle.sound.proofs.Searchable.{within_tallied}
+use mathlib.Core.Path.{refl, ◌∙◌}
+use Rattle.sound.proofs.PassResults.{within-common}
 use Rattle.sound.proofs.held.is_within.Goals as goal
 
 pub returns : goal.returns
-returns c = within_tallied _ _ _ c.requires c.tally-loads.ensures c.bytes-limits.ensures c.loads_within.ensures
+returns c = c.holders_within.ensures ∙ within-common _ _ _ _ c.requires refl

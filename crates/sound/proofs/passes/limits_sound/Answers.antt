@@ -1,17 +1,9 @@
-use mathlib.Core.Path.{refl, ap, ◌∙◌}
-use Rattle.packing.specs.Count.{all}
-use Rattle.packing.proofs.Tests.{all_more, all_end}
-use Rattle.sound.specs.Sound.{is_limit, limits_sound}
 use borrow.Author.Rules.{rules}
+use mathlib.Core.Path.{refl}
+use Rattle.packing.proofs.Ranges.{range_all}
+use Rattle.sound.specs.Sound.{limits_sound}
 use Rattle.sound.proofs.passes.limits_sound.Goals as goal
-
-pub loop-v-init : goal.loop-v-init
-unfolding all
-loop-v-init c = (search rules, refl)
-
-pub loop-v-preserved : goal.loop-v-preserved
-loop-v-preserved c = (search rules, all_more _ _ _ _ _ c.loop-v.invariant.1 (c.is_limit.ensures ∙ ap is_limit c.byte.ensures) c.both-ok.ensures)
 
 pub returns : goal.returns
 unfolding limits_sound
-returns c = all_end _ _ _ _ c.loop-v.invariant.0 c.loop-v-test.false c.loop-v.invariant.1
+returns c = range_all _ _ refl c.all.ensures.ran (λ x b q k. search rules)

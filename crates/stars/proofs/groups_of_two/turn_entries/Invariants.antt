@@ -1,5 +1,4 @@
 -- The entries below v are rewritten, and those from v on are as before.
-use Prim.Native.Nat.{◌-◌}
 use Rattle.packing.specs.Plant.{at}
 use Rattle.packing.proofs.Lists.{Listed}
 use Rattle.stars.specs.Stars.{not_later, rule_five}
@@ -7,6 +6,3 @@ use Rattle.stars.proofs.groups_of_two.turn_entries.Given as goal
 
 abbrev pub invariant-loop-v : goal.invariant-loop-v
 invariant-loop-v l = Listed l.n (rule_five (not_later (at l.places)) l.n (at l.initial.groups)) l.initial.groups l.groups l.v
-
-abbrev pub decreases-loop-v : goal.decreases-loop-v
-decreases-loop-v l = l.n - l.v

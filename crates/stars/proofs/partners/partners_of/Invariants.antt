@@ -1,11 +1,7 @@
 -- Of each leader it is known which of the first w are its members.
-use Prim.Native.Nat.{◌-◌}
 use Rattle.packing.specs.Plant.{at}
 use Rattle.stars.proofs.PartnerPass.{Pairing}
 use Rattle.stars.proofs.partners.partners_of.Given as goal
 
 abbrev pub invariant-loop-w : goal.invariant-loop-w
 invariant-loop-w l = Pairing l.n (at l.groups) l.partners l.w
-
-abbrev pub decreases-loop-w : goal.decreases-loop-w
-decreases-loop-w l = l.n - l.w

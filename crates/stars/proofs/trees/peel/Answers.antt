@@ -1,6 +1,4 @@
-use mathlib.Core.Path.{sym, ◌∙◌}
-use Rattle.stars.proofs.Tables.{blank}
-use Rattle.stars.proofs.TreePass.{waiting-long, passing_start, passing_waited, passing_take, passing_less, passing_on, passing_end}
+use Rattle.stars.proofs.TreePass.{passing_start, passing_waited, passing_take, passing_less, passing_on, passing_end}
 use Rattle.stars.proofs.trees.peel.Goals as goal
 
 pub loop-v-init : goal.loop-v-init
@@ -17,12 +15,6 @@ loop-v-preserved-then-is_next c = passing_take c.loop-v.invariant c.loop-v-test.
 
 pub loop-v-preserved : goal.loop-v-preserved
 loop-v-preserved c = passing_on c.loop-v.invariant c.loop-v-test.true c.is_next.ensures c.if-is_next.false
-
-pub shape_of-waits : goal.shape_of-waits
-shape_of-waits c = sym c.loop-v.invariant.peeled.waits-long ∙ waiting-long c.requires
-
-pub shape_of-taken : goal.shape_of-taken
-shape_of-taken c = sym c.loop-v.invariant.peeled.taken-long ∙ (blank c.requires.taken).long
 
 pub returns : goal.returns
 returns c = passing_end c.loop-v.invariant c.loop-v-test.false
