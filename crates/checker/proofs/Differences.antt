@@ -1,6 +1,6 @@
 -- The difference of a choke list: by the marks of the gateways that have a link to one outside the set, and by the definition.
-use Prim.Native.Nat.{ℕ, ◌+◌, ◌*◌, ◌<◌, ◌≤◌}
-use mathlib.Core.Path.{◌≡◌, refl, sym, ap, ◌∙◌}
+use Prim.Native.Nat.{ℕ, ◌+◌, ◌*◌, ◌/◌, ◌<◌, ◌≤◌}
+use mathlib.Core.Path.{◌≡◌, refl, ap, ◌∙◌}
 use mathlib.Core.Logic.{⊎_elim}
 use mathlib.Core.Bool.{Bool, true, false, not, cond, ◌&&◌, ◌||◌}
 use mathlib.Core.List.{List}
@@ -8,8 +8,11 @@ use native.Mathlib.Nat.{le_antisymm}
 use native.Mathlib.Numerals.{add-one}
 use native.Mathlib.Omega.{arith}
 use lib.Dec.{eqb}
-use lib.ListN.{set}
-use borrow.Author.Tests.{not-true, not-false}
+use lib.ListN.{length, set, get_or}
+use Rattle.std.specs.Simd.{first_chunks}
+use Rattle.checker.proofs.Pairs.{pair-first, pair-second}
+use mir.Val.{bool_byte}
+use borrow.Author.Tests.{not-true}
 use Rattle.packing.specs.Count.{pick, sum, count, sum_over, all}
 use Rattle.packing.specs.Plant.{GATEWAYS, NONE, at, linked}
 use Rattle.packing.specs.Choke.{stranded, is_difference}
@@ -18,15 +21,29 @@ use Rattle.packing.proofs.Sums.{count_ext}
 use Rattle.packing.proofs.Counting.{pick_test}
 use Rattle.packing.proofs.Lists.{list_of-at}
 use Rattle.sound.specs.Marks.{linked_where, noted}
-use Rattle.sound.proofs.LinkPass.{where_found, where_linked}
+use Rattle.sound.proofs.LinkPass.{Passed, pass_turn, where_found, where_linked}
 use Rattle.sound.proofs.Meaning.{ends_mean}
 use Rattle.checker.specs.Check.{in_set, alone_count}
 use Rattle.checker.specs.Pre.{Checkable, outward, outward_marks}
 
 -- a link to a gateway outside the set marks its end
-pub outward-noted : (choke marks : List ℕ) (v u : ℕ) {b : Bool} {new : List ℕ} → b ≡ not (in_set choke u) → new ≡ cond b (set marks v 1) marks → new ≡ noted (outward choke) marks v u
+outward-noted : (choke marks : List ℕ) (v u : ℕ) {b : Bool} {new : List ℕ} → b ≡ not (in_set choke u) → new ≡ cond b (set marks v 1) marks → new ≡ noted (outward choke) marks v u
 unfolding noted outward
 outward-noted choke marks v u here h = h ∙ rw here
+
+-- .. both ends of a link
+pub outward-turn : (choke links marks₀ d : List ℕ) (i : ℕ) {marks first second : List ℕ} {pairs : List (List ℕ)} {p q : Bool} → Passed (outward choke) links marks₀ marks (2 * i)
+    → pairs ≡ first_chunks 2 (length links / 2) links → i < length links / 2
+    → p ≡ not (in_set choke (get_or (get_or pairs i d) 1 0)) → first ≡ cond p (set marks (get_or (get_or pairs i d) 0 0) 1) marks
+    → q ≡ not (in_set choke (get_or (get_or pairs i d) 0 0)) → second ≡ cond q (set first (get_or (get_or pairs i d) 1 0) 1) first
+    → Passed (outward choke) links marks₀ second (2 * (i + 1))
+outward-turn choke links marks₀ d i {marks} {first} {pairs = pairs} w e h a b c f =
+    let one : get_or (get_or pairs i d) 0 0 ≡ at links (2 * i) = pair-first links i d e h in
+    let two : get_or (get_or pairs i d) 1 0 ≡ at links (2 * i + 1) = pair-second links i d e h in
+    rw twice (pass_turn (outward choke) links marks₀ w (omega arith) (outward-noted choke marks _ _ (rw two at a) (rw one at b)) (outward-noted choke first _ _ (rw one at c) (rw two at f)))
+  where
+    twice : 2 * (i + 1) ≡ 2 * i + 2
+    twice = omega arith
 
 module _ (n : ℕ) (links choke : List ℕ) (able : Checkable n links) (v : ℕ) where
   -- who has no such link is linked to gateways of the set only
@@ -63,10 +80,10 @@ pub difference_means : (n : ℕ) (limits links leaders choke : List ℕ) → Che
 unfolding is_difference alone_count
 difference_means n limits links leaders choke able {marks} m c a s = rw (c, m, a, s, count_ext n (λ v. not (in_set choke v) && not (eqb (at (outward_marks links choke) v) 1)) (stranded n (linked links) (in_set choke)) (stranded_means n links choke able))
 
--- the test that counts a stranded gateway, by its two parts
-pub stranded_bit : (choke marks : List ℕ) (v : ℕ) {o m b : Bool} {x : ℕ} → x ≡ pick b 1 → b ≡ (o && not m) → o ≡ not (in_set choke v) → m ≡ eqb (at marks v) 1
-    → x ≡ pick (not (in_set choke v) && not (eqb (at marks v) 1)) 1
-stranded_bit choke marks v e f g h = e ∙ rw (f, g, h)
+-- a test as a number
+pub bit_is : (b : Bool) → bool_byte b ≡ pick b 1
+bit_is true = refl
+bit_is false = refl
 
 -- the loop that sums: the limits of the set's gateways below v
 pub record Summed (n : ℕ) (s : ℕ → Bool) (limit : ℕ → ℕ) (total v : ℕ) : Type 0 where
@@ -85,10 +102,3 @@ module _ (n : ℕ) (s : ℕ → Bool) (limit : ℕ → ℕ) where
 
   pub summed_end : {total v : ℕ} → Summed n s limit total v → n ≤ v → (total ≡ sum_over n s limit) × (total ≤ 255 * n)
   summed_end {total} {v} w l = let last : v ≡ n = le_antisymm w.upto l in (rw last at w.is, rw last at w.small)
-
--- a gateway's limit where it is in the set; o says that it is outside
-pub limit_outside : (choke limits : List ℕ) (v : ℕ) {o : Bool} → o ≡ not (in_set choke v) → o ≡ true → 0 ≡ pick (in_set choke v) (at limits v)
-limit_outside choke limits v e t = rw (not-true (in_set choke v) (sym e ∙ t))
-
-pub limit-inside : (choke limits : List ℕ) (v : ℕ) {o : Bool} {x : ℕ} → o ≡ not (in_set choke v) → o ≡ false → x ≡ at limits v → x ≡ pick (in_set choke v) (at limits v)
-limit-inside choke limits v e t q = rw (not-false (in_set choke v) (sym e ∙ t)) q

@@ -1,52 +1,24 @@
 -- The entries of a leader list: by what is gathered of the list and of the links, and by the definition of a grouping.
 use Prim.Native.Nat.{ℕ, ◌+◌, ◌<◌, ◌≤◌}
 use mathlib.Core.Path.{◌≡◌, refl, sym, ap, ◌∙◌}
-use mathlib.Core.Bool.{Bool, true, false, not, ◌&&◌, ◌||◌}
+use mathlib.Core.Bool.{Bool, ◌&&◌, ◌||◌}
 use mathlib.Core.List.{List}
 use native.Mathlib.Omega.{arith}
 use lib.Dec.{eqb, leb}
-use borrow.Author.Tests.{eqb-true, eq-eqb, ne_eqb, le-leb, lt-leb, leb-true, lt-ltb, le-ltb, not-true, not-false}
+use borrow.Author.Tests.{eqb-true, eq-eqb, le-leb, leb-true}
 use Rattle.packing.specs.Count.{pick, count}
 use Rattle.packing.specs.Lists.{tally_of}
-use Rattle.packing.specs.Plant.{GATEWAYS, NONE, at, linked}
-use Rattle.packing.specs.Grouping.{member_count, is_alone, is_leader, is_member}
-use Rattle.packing.proofs.Tests.{by_bool, and_r, and_i, iff_test}
+use Rattle.packing.specs.Plant.{GATEWAYS, at, linked}
+use Rattle.packing.specs.Grouping.{member_count, is_alone, is_leader, is_member, is_grouping}
+use Rattle.packing.proofs.Tests.{all_ext, by_bool, and_r, and_i, iff_test}
 use Rattle.packing.proofs.Sums.{count_split, count-some, count_unique}
 use Rattle.packing.proofs.Counting.{pick_test}
 use Rattle.packing.proofs.Lists.{list_of-at}
 use Rattle.lists.proofs.Tallies.{tally_at}
 use Rattle.sound.specs.Marks.{linked_entries}
-use Rattle.checker.specs.Pre.{leads_by, joins_by}
-
--- the answers for an entry of the own number; e is v's entry and k how often v stands in the list
-module _ (limits leaders counts : List ℕ) (v : ℕ) {e : ℕ} (here : e ≡ at leaders v) where
-  pub leads_other : (e ≡ v → ⊥) → false ≡ leads_by limits leaders counts v
-  unfolding leads_by
-  leads_other other = rw (ne_eqb (at leaders v) v (λ q. other (here ∙ q)))
-
-  module _ (own : e ≡ v) {k : ℕ} (stands : k ≡ at counts v) where
-    pub leads-nobody : k < 2 → false ≡ leads_by limits leaders counts v
-    unfolding leads_by
-    leads-nobody l = rw (eq-eqb (at leaders v) v (sym here ∙ own), ← stands, lt-leb 2 k l)
-
-    pub leads-some : 2 ≤ k → {t : ℕ} → t ≡ at limits v → leb k (t + 1) ≡ leads_by limits leaders counts v
-    unfolding leads_by
-    leads-some l q = rw (eq-eqb (at leaders v) v (sym here ∙ own), ← stands, le-leb 2 k l, q)
-
--- the answers for an entry of another number
-module _ (n : ℕ) (leaders marks : List ℕ) (v : ℕ) {u : ℕ} (here : u ≡ at leaders v) where
-  pub joins-nobody : n ≤ u → false ≡ joins_by n leaders marks v
-  unfolding joins_by
-  joins-nobody l = rw (← here, le-ltb u n l)
-
-  module _ (below : u < n) {m : Bool} (marked : m ≡ eqb (at marks v) 1) where
-    pub joins-unlinked : not m ≡ true → false ≡ joins_by n leaders marks v
-    unfolding joins_by
-    joins-unlinked e = rw (← here, lt-ltb u n below, ← marked, not-true m e)
-
-    pub joins-linked : not m ≡ false → {w : ℕ} → w ≡ at leaders u → eqb w u ≡ joins_by n leaders marks v
-    unfolding joins_by
-    joins-linked e q = rw (← here, lt-ltb u n below, ← marked, not-false m e, q)
+use Rattle.checker.specs.Pre.{leads_by, joins_by, is_entry}
+use Rattle.plant_file.proofs.Ranges.{all_range}
+use Rattle.std.specs.List.{list_all, range_with_len}
 
 -- a number that is its gateway's own entry stands in the list once for it, and once for each member
 own-counted : (n : ℕ) (g : ℕ → ℕ) (v : ℕ) → v < n → g v ≡ v → count n (λ w. eqb (g w) v) ≡ member_count n g v + 1
@@ -78,6 +50,13 @@ module _ (n : ℕ) (limits links leaders : List ℕ) (few : n ≤ GATEWAYS) (v :
       rw marked
 
   -- an entry by what was gathered is one by the definition
-  pub entry_means : {counts marks : List ℕ} {r : Bool} → counts ≡ tally_of n leaders → marks ≡ linked_entries links leaders → r ≡ (eqb (at leaders v) NONE || leads_by limits leaders counts v || joins_by n leaders marks v)
-      → r ≡ (is_alone (at leaders) v || is_leader n (at limits) (at leaders) v || is_member n (linked links) (at leaders) v)
-  entry_means c m e = e ∙ rw (c, m, leads_means, joins_means)
+  entry_means : is_entry n limits leaders (tally_of n leaders) (linked_entries links leaders) v ≡ (is_alone (at leaders) v || is_leader n (at limits) (at leaders) v || is_member n (linked links) (at leaders) v)
+  unfolding is_entry
+  entry_means = rw (leads_means, joins_means)
+
+-- .. and all are, where the list is a grouping
+pub entries_mean : (n : ℕ) (limits links leaders : List ℕ) → n ≤ GATEWAYS → {counts marks : List ℕ} {r : Bool} → counts ≡ tally_of n leaders → marks ≡ linked_entries links leaders → r ≡ list_all (is_entry n limits leaders counts marks) (range_with_len 0 n)
+    → r ≡ is_grouping n (at limits) (linked links) (at leaders)
+unfolding is_grouping
+entries_mean n limits links leaders few c m e =
+    e ∙ rw (c, m) (all_range _ n) ∙ all_ext n _ _ (entry_means n limits links leaders few)

@@ -1,7 +1,8 @@
 -- Laws of the checker: its tests, its refusals in words, and its claims.
+pub mod Ranges
+pub mod Pairs
 pub mod Entries
 pub mod Differences
-pub mod Refusing
 pub mod Below
 pub mod Loaded
 pub mod Turns

@@ -1,20 +1,22 @@
 -- What the loops write that put a file's links and order into the front of a lent list, and the test of that order.
-use Prim.Native.Nat.{ℕ, ◌+◌, ◌*◌, ◌<◌, ◌≤◌}
+use Prim.Native.Nat.{ℕ, ◌+◌, ◌*◌, ◌≤◌}
 use mathlib.Core.Path.{◌≡◌, refl, sym, ap, ◌∙◌}
-use mathlib.Core.Bool.{Bool}
+use mathlib.Core.Bool.{Bool, true, false, not}
 use mathlib.Core.List.{List}
 use native.Mathlib.Omega.{arith}
-use lib.ListN.{length, take}
+use lib.ListN.{length, take, set}
+use Rattle.std.specs.Prelude.{Some}
 use lib.Seq.{get_or-take, length-take-le}
 use Rattle.packing.specs.Plant.{GATEWAYS, at}
 use Rattle.packing.specs.Lists.{list_of, written}
 use Rattle.packing.proofs.Lists.{Listed, list_of-length, list-by, written-front, list-turn, list-end}
-use Rattle.sound.specs.Sound.{once_each, is_order}
-use Rattle.sound.proofs.Meaning.{order_is}
+use Rattle.packing.specs.Orders.{repeats_or_outside}
+use Rattle.sound.specs.Sound.{is_order}
+use Rattle.sound.proofs.Orders.{order_answer}
 use Rattle.plant_file.specs.PlantFile.{number, file_n, file_m, file_links, file_order}
-use Rattle.plant_file.specs.Reader.{link_at, next_index}
-use Rattle.plant_file.specs.Pre.{with_ends}
-use Rattle.plant_file.proofs.LinksByIndex.{order_number, links-long, order-long, index_on, step_at}
+use Rattle.plant_file.specs.Reader.{link_at}
+use Rattle.plant_file.specs.Pre.{order_refusal}
+use Rattle.plant_file.proofs.LinksByIndex.{order_number, links-long, order-long, link_some, first-read, second-read}
 
 -- the first i links of a file were written over lent
 abbrev pub LinksListed : List ℕ → List ℕ → List ℕ → ℕ → Type 0
@@ -22,12 +24,12 @@ LinksListed file lent links i = Listed (2 * file_m file) (at (file_links file)) 
 
 module _ (file lent : List ℕ) where
   -- link i is written next
-  pub links-turn : {links new : List ℕ} {i j : ℕ} → 2 * file_m file ≤ length lent → LinksListed file lent links i → i < file_m file
-      → new ≡ with_ends (link_at file i) (2 * i) links → j ≡ next_index file i → LinksListed file lent new j
-  links-turn {i = i} room f l e on =
-      rw (index_on file i on l, e, step_at file i l, twice) (list-turn _ _ _ room (list-turn _ _ _ room f (omega arith) refl) (omega arith) refl)
+  pub links-turn : {links : List ℕ} {i j k a b : ℕ} → 2 * file_m file ≤ length lent → LinksListed file lent links j → Some (a, b) ≡ link_at file j → i ≡ j → k ≡ j + 1 → LinksListed file lent (set (set links (2 * i) a) (2 * i + 1) b) k
+  links-turn {j = j} room f e here next =
+      let l = link_some file j e in
+      rw (here, next, twice) (list-turn _ _ _ room (list-turn _ _ _ room f (omega (arith, l)) (first-read file j e)) (omega (arith, l)) (second-read file j e))
     where
-      twice : 2 * (i + 1) ≡ 2 * i + 1 + 1
+      twice : 2 * (j + 1) ≡ 2 * j + 1 + 1
       twice = omega arith
 
   -- they stand in front
@@ -58,5 +60,13 @@ module _ (file lent : List ℕ) {n : ℕ} {l : List ℕ} (is : n ≡ file_n file
   pub order-front-long : n ≡ length (take n l)
   order-front-long = is ∙ sym (order-long file) ∙ sym (ap length order-front)
 
-  pub order_tested : {r : Bool} → file_n file ≤ GATEWAYS → r ≡ is_order n (take n l) → r ≡ once_each (file_n file) (file_order file)
-  order_tested few f = (rw (order-front, is) at f) ∙ order_is (file_n file) (file_order file) few (omega (arith, order-long file))
+  -- .. 6, where a number repeats or is not below n
+  module _ {b : Bool} (few : file_n file ≤ GATEWAYS) (of : b ≡ is_order n (take n l)) where
+    order_tested : not b ≡ repeats_or_outside (file_n file) (file_order file)
+    order_tested = sym (order_answer (file_n file) (file_order file) few (omega (arith, order-long file)) (rw (order-front, is) at of))
+
+    pub order-refused : not b ≡ true → 6 ≡ order_refusal file
+    order-refused e = rw (← order_tested, e)
+
+    pub order-fine : not b ≡ false → 0 ≡ order_refusal file
+    order-fine e = rw (← order_tested, e)

@@ -1,19 +1,19 @@
 -- Laws of the plant file, by subject.
-pub mod Numbers
+pub mod Ranges
 pub mod LinksByIndex
+pub mod Walks
 pub mod Places
 pub mod Versions
 pub mod Encode
 pub mod LinkChecks
 pub mod Filled
+pub mod FilledLimits
 pub mod Refusing
 pub mod Turns
 pub mod VersionOne
 pub mod EveryPlant
 pub mod EveryLimits
 pub mod Largest
-pub mod ReadLimits
-pub mod FilledLimits
 pub mod Loading
 pub mod Accepted
 pub mod LinksTaken

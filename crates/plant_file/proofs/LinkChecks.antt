@@ -1,22 +1,20 @@
 -- The check of each link against the links before it, one link on.
 use Prim.Native.Nat.{ℕ, suc, ◌+◌, ◌*◌, ◌<◌, ◌≤◌}
-use mathlib.Core.Path.{◌≡◌, refl, sym, ap, ◌∙◌}
+use mathlib.Core.Path.{◌≡◌, refl, sym, ◌∙◌}
 use mathlib.Core.List.{List, [], ◌∷◌, ◌++◌, append_assoc}
 use native.Mathlib.Nat.{mul-add}
 use native.Mathlib.Numerals.{add-one, add-two}
 use native.Mathlib.Omega.{arith}
 use lib.ListN.{length, take, drop}
 use lib.Seq.{take-suc}
+use Rattle.std.specs.Prelude.{Some}
 use Rattle.packing.specs.Plant.{at}
 use Rattle.packing.proofs.Flat.{pair-at, pair_end}
-use Rattle.plant_file.specs.declared.reader.Step.{Step}
-use Rattle.plant_file.specs.declared.reader.Step.TheVariants.{Link}
 use Rattle.plant_file.specs.PlantFile.{file_n, file_m, file_links, ends_refusal, links_refusal}
 use Rattle.packing.specs.Refusals.{first_of}
 use Rattle.packing.proofs.Refusals.{first-refused, first_passed}
-use Rattle.plant_file.specs.Reader.{link_at, next_index}
-use Rattle.plant_file.specs.Pre.{step_refusal}
-use Rattle.plant_file.proofs.LinksByIndex.{links-long, index_on, step_at}
+use Rattle.plant_file.specs.Reader.{link_at}
+use Rattle.plant_file.proofs.LinksByIndex.{links-long, link_some, first-read, second-read}
 
 -- two numbers more of a list
 take-pair : (l : List ℕ) (k : ℕ) → k + 1 < length l → take k l ++ (at l k ∷ at l (k + 1) ∷ []) ≡ take (k + 2) l
@@ -54,23 +52,20 @@ pub record Checked (n : ℕ) (file : List ℕ) (i : ℕ) : Type 0 where
   pub upto : i ≤ file_m file
   pub rest : onward n (file_links file) i ≡ links_refusal n [] (file_links file)
 
--- a link that was read, and its refusal
-pub step_refusal_lem : (n : ℕ) (before : List ℕ) {s : Step} (a b : ℕ) {r : ℕ} → Link a b ≡ s → r ≡ ends_refusal n before a b → r ≡ step_refusal n before s
-step_refusal_lem n before a b e f = f ∙ ap (step_refusal n before) e
-
 module _ (n : ℕ) (file : List ℕ) where
-  link-at : (i : ℕ) → i < file_m file → onward n (file_links file) i ≡ first_of (step_refusal n (earlier file i) (link_at file i)) (onward n (file_links file) (i + 1))
-  link-at i h = rw (step_at file i h) (onward-at n (file_links file) i (omega (arith, links-long file)))
-
   pub checked_start : Checked n file 0
   checked_start = record { upto = omega arith; rest = refl }
 
-  pub checked_turn : {i j r : ℕ} → Checked n file i → i < file_m file → r ≡ step_refusal n (earlier file i) (link_at file i) → r ≡ 0 → j ≡ next_index file i → Checked n file j
-  checked_turn {i} c h e z on = rw (index_on file i on h) (record { upto = omega arith; rest = first_passed e z refl ∙ sym (link-at i h) ∙ c.rest })
+  -- link i, which joins a and b, and its refusal
+  module _ (i : ℕ) {a b r : ℕ} (c : Checked n file i) (e : Some (a, b) ≡ link_at file i) (of : r ≡ ends_refusal n (earlier file i) a b) where
+    one-on : links_refusal n [] (file_links file) ≡ first_of (ends_refusal n (earlier file i) a b) (onward n (file_links file) (i + 1))
+    one-on = sym c.rest ∙ rw (first-read file i e, second-read file i e) (onward-at n (file_links file) i (omega (arith, link_some file i e, links-long file)))
 
-  module _ (is : n ≡ file_n file) where
-    pub checked_refused : {i r : ℕ} → Checked n file i → i < file_m file → r ≡ step_refusal n (earlier file i) (link_at file i) → (r ≡ 0 → ⊥) → r ≡ links_refusal (file_n file) [] (file_links file)
-    checked_refused {i} c h e z = first-refused _ e z ∙ sym (link-at i h) ∙ c.rest ∙ rw is
+    pub checked_turn : r ≡ 0 → Checked n file (i + 1)
+    checked_turn z = let l = link_some file i e in record { upto = omega (arith, l); rest = first_passed of z refl ∙ sym one-on }
 
-    pub checked_end : {i : ℕ} → Checked n file i → file_m file ≤ i → 0 ≡ links_refusal (file_n file) [] (file_links file)
-    checked_end {i} c h = sym (onward-end n (file_links file) i (omega (arith, links-long file))) ∙ c.rest ∙ rw is
+    pub checked_refused : n ≡ file_n file → (r ≡ 0 → ⊥) → r ≡ links_refusal (file_n file) [] (file_links file)
+    checked_refused is z = first-refused _ of z ∙ sym one-on ∙ rw is
+
+  pub checked_end : n ≡ file_n file → {i : ℕ} → Checked n file i → file_m file ≤ i → 0 ≡ links_refusal (file_n file) [] (file_links file)
+  checked_end is {i} c h = sym (onward-end n (file_links file) i (omega (arith, links-long file))) ∙ c.rest ∙ rw is

@@ -1,13 +1,15 @@
 -- The links by index: what the code reads there, and that it is what the list of links holds.
-use Prim.Native.Nat.{ℕ, ◌+◌, ◌-◌, ◌*◌, ◌<◌, ◌≤◌}
-use mathlib.Core.Path.{◌≡◌, refl, sym, ◌∙◌}
+use Prim.Native.Nat.{ℕ, ◌+◌, ◌*◌, ◌<◌, ◌≤◌}
+use mathlib.Core.Path.{◌≡◌, ap, ◌∙◌}
 use mathlib.Core.List.{List}
 use native.Mathlib.Omega.{arith}
 use lib.ListN.{length}
-use borrow.Author.Tests.{lt-ltb, le-ltb}
+use Rattle.std.specs.Prelude.{Option, Some, None}
+use Rattle.packing.proofs.Tests.{by_bool}
+use borrow.Author.Tests.{lt-ltb, ltb-true, ltb-false}
+use lib.Dec.{ltb}
 use Rattle.packing.specs.Plant.{at}
 use Rattle.packing.proofs.Lists.{list_of-length, list_of-at}
-use Rattle.plant_file.specs.declared.reader.Step.TheVariants.{Link, End}
 use Rattle.plant_file.specs.PlantFile.{number, file_n, file_m, file_links, file_order}
 use Rattle.plant_file.specs.Reader.{link_at, next_index}
 
@@ -30,29 +32,31 @@ pub order-at : (file : List ℕ) (i : ℕ) → i < file_n file → at (file_orde
 unfolding file_order
 order-at file = list_of-at (file_n file) (order_number file)
 
+-- equal links have equal ends
+module _ {a b x y : ℕ} (e : ◌≡◌ {A = Option (ℕ × ℕ)} (Some (a, b)) (Some (x, y))) where
+  ends-same : ◌≡◌ {A = ℕ × ℕ} (a, b) (x, y)
+  ends-same = cc
+
+  first-same : a ≡ x
+  first-same = ap (λ (l : ℕ × ℕ). l.0) ends-same
+
+  second-same : b ≡ y
+  second-same = ap (λ (l : ℕ × ℕ). l.1) ends-same
+
+-- what a reader gives at an index says whether there is a link
 module _ (file : List ℕ) (i : ℕ) where
-  pub step_here : {m a b : ℕ} → m ≡ file_m file → i < m → a ≡ number file (10 + 4 * i) → b ≡ number file (12 + 4 * i) → Link a b ≡ link_at file i
+  pub link_some : {x : ℕ × ℕ} → Some x ≡ link_at file i → i < file_m file
   unfolding link_at
-  step_here e l p q = rw (lt-ltb i (file_m file) (omega arith), p, q)
+  link_some e = by_bool (ltb i (file_m file)) (λ t. ltb-true i (file_m file) t) (λ f. absurd (let g = rw f at e in cc))
 
-  pub step_past : {m : ℕ} → m ≡ file_m file → m ≤ i → End ≡ link_at file i
+  pub link_none : None ≡ link_at file i → file_m file ≤ i
   unfolding link_at
-  step_past e l = rw (le-ltb i (file_m file) (omega arith))
+  link_none e = by_bool (ltb i (file_m file)) (λ t. absurd (let g = rw t at e in cc)) (λ f. ltb-false i (file_m file) f)
 
-  -- the index after it
-  pub index-here : {m : ℕ} → m ≡ file_m file → i < m → i + 1 ≡ next_index file i
+  -- .. and the index after it
+  pub index-here : i < file_m file → next_index file i ≡ i + 1
   unfolding next_index
-  index-here e l = rw (lt-ltb i (file_m file) (omega arith))
-
-  pub index-past : {m : ℕ} → m ≡ file_m file → m ≤ i → i ≡ next_index file i
-  unfolding next_index
-  index-past e l = rw (le-ltb i (file_m file) (omega arith))
-
-  pub index_on : {j : ℕ} → j ≡ next_index file i → i < file_m file → j ≡ i + 1
-  index_on e l = e ∙ sym (index-here refl l)
-
-  pub index_less : {j m : ℕ} → j ≡ next_index file i → i < m → m ≤ file_m file → m - j < m - i
-  index_less e l h = omega (arith, index_on e (omega arith))
+  index-here l = rw (lt-ltb i (file_m file) l)
 
   low : 10 + 2 * (2 * i) ≡ 10 + 4 * i
   low = omega arith
@@ -69,6 +73,13 @@ module _ (file : List ℕ) (i : ℕ) where
   unfolding file_links
   link-second l = list_of-at (2 * file_m file) (link_number file) (2 * i + 1) (omega arith) ∙ rw high
 
-  pub step_at : i < file_m file → link_at file i ≡ Link (at (file_links file) (2 * i)) (at (file_links file) (2 * i + 1))
+  step_at : i < file_m file → link_at file i ≡ Some (at (file_links file) (2 * i), at (file_links file) (2 * i + 1))
   unfolding link_at
   step_at l = rw (lt-ltb i (file_m file) l, link-first l, link-second l)
+
+  -- .. and what a reader gives there
+  pub first-read : {a b : ℕ} → Some (a, b) ≡ link_at file i → a ≡ at (file_links file) (2 * i)
+  first-read e = first-same (e ∙ step_at (link_some e))
+
+  pub second-read : {a b : ℕ} → Some (a, b) ≡ link_at file i → b ≡ at (file_links file) (2 * i + 1)
+  second-read e = second-same (e ∙ step_at (link_some e))

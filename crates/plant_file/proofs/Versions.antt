@@ -1,6 +1,6 @@
 -- What goes by the version: the length that a header gives, the limit of a gateway, and which limit bytes there are to look at.
 use Prim.Native.Nat.{ℕ, ◌+◌, ◌*◌, ◌≤◌}
-use mathlib.Core.Path.{◌≡◌, sym, ◌∙◌}
+use mathlib.Core.Path.{◌≡◌}
 use mathlib.Core.Logic.{◌⊎◌, inl, inr, ⊎_elim}
 use mathlib.Core.Bool.{true, false, not, ◌||◌}
 use mathlib.Core.List.{List}
@@ -54,11 +54,3 @@ module _ (file : List ℕ) where
 
   pub is_one : file_version file ≡ 1 → eqb (file_version file) 2 ≡ false
   is_one e = ne_eqb (file_version file) 2 (λ f. omega (arith, e, f))
-
-  -- .. as the code reads it
-  module _ {version : ℕ} (is : version ≡ file_version file) where
-    pub read-two : version ≡ 2 → eqb (file_version file) 2 ≡ true
-    read-two h = is-two (sym is ∙ h)
-
-    pub read_other : (version ≡ 2 → ⊥) → eqb (file_version file) 2 ≡ false
-    read_other h = ne_eqb (file_version file) 2 (λ k. h (is ∙ k))

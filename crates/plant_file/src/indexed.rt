@@ -1,94 +1,94 @@
 // The links of a file checked in turn, each against the index of those before it, and put into the lists.
-ghost use Rattle.std.specs.Prelude.{◌≡◌, [], ◌*◌, ◌≤◌, length, take};
+ghost use Rattle.std.specs.Prelude.{◌≡◌, [], OnOk};
 ghost use Rattle.packing.specs.Lists.{written};
-ghost use Rattle.packing.specs.Plant.{GATEWAYS};
-ghost use Rattle.chains.specs.Index.{Index};
-ghost use Rattle.sound.specs.Sound.{once_each};
-ghost use Rattle.plant_file.specs.PlantFile.{file_n, file_links, file_order, ends_refusal, links_refusal};
-ghost use Rattle.plant_file.specs.Reader.{link_at};
+ghost use Rattle.refusal.specs.Refusals.{code};
+ghost use Rattle.plant_file.specs.PlantFile.{file_n, file_links, file_order, links_refusal};
 ghost use Rattle.plant_file.specs.Indexed.{LinksIndexed};
-ghost use Rattle.plant_file.specs.Pre.{step_refusal, Taking, Taken, Unindexed, Orderly};
+ghost use Rattle.plant_file.specs.Pre.{Taking, Taken, next_refusal, order_refusal, Unindexed, Orderly};
 
-use crate::reader::Step;
+use crate::reader::Reader;
+use lists::PLACES;
+use refusal::Refusal;
 
-// One link after those before it: 3, 4, 20.
-fn of_link(n: u16, a: u16, b: u16, links: &[u16], next: &[u16], degrees: &[u16]) -> u32
-    requires { (n ≤ GATEWAYS) × Index links.now next.now × (length degrees.now ≡ GATEWAYS) }
-    ensures { result ≡ ends_refusal n links.now a b }
-{
-    if n <= a {
-        return 3;
-    }
-    if n <= b {
-        return 3;
-    }
-    if a == b {
-        return 4;
-    }
-    if chains::follow::is_linked(links, next, degrees, a, b) {
-        return 20;
-    }
-    0
-}
-
-// The file's link i, into the lists where it is not refused.
-fn take_link(
-    file: &[u8],
+// The links taken so far: count of them, in the first places of a list, with the index of them by its last places. degrees has how many links each gateway has.
+#[derive(Drop)]
+struct Links<'a> {
     n: u16,
-    i: usize,
-    links: &mut [u16],
-    next: &mut [u16],
-    last: &mut [u16],
-    degrees: &mut [u16],
-) -> u32
-    requires { Taking n file.now i links.old next.old last.old degrees.old }
-    ensures answer { result ≡ step_refusal n (take (2 * i) links.old) (link_at file.now i) }
-    ensures taken { result ≡ 0 → Taken file.now i links.old links.new next.new last.new }
-{
-    let Step::Link(a, b) = crate::reader::link_of(file, i) else {
-        return 0;
-    };
-    let end = 2 * i;
-    let refused = of_link(n, a, b, &links[..end], next, degrees);
-    if refused != 0 {
-        return refused;
-    }
-    chains::build::add_link(i as u16, a, b, links, next, last);
-    chains::follow::lengthen(degrees, a);
-    chains::follow::lengthen(degrees, b);
-    0
+    count: u16,
+    links: &'a mut [u16],
+    next: &'a mut [u16],
+    last: [u16; PLACES],
+    degrees: [u16; PLACES],
 }
 
-// All the file's links: the first refused link's number, or 0 with the links and their index in the lists.
-pub(crate) fn take_links(file: &[u8], links: &mut [u16], next: &mut [u16]) -> u32
-    requires { Unindexed file.now links.old next.old }
-    ensures answer { result ≡ links_refusal (file_n file.now) [] (file_links file.now) }
-    ensures lists { result ≡ 0 → LinksIndexed file.now links.old links.new next.new }
-{
-    let n = crate::gateways(file);
-    let m = crate::link_count(file) as usize;
-    let mut last = lists::marks::zeros();
-    chains::build::with_roots(next.len(), &mut last);
-    let mut degrees = lists::marks::zeros();
-    let mut i: usize = 0;
-    while i < m {
-        let refused = take_link(file, n, i, links, next, &mut last, &mut degrees);
-        if refused != 0 {
-            return refused;
+impl Links<'_> {
+    // A link after those before it: 3, 4, 20.
+    #[tactic(auto, unfolding(crate::specs::PlantFile::ends_refusal))]
+    fn check(&self, a: u16, b: u16) -> Result<(), Refusal>
+        requires { Taking self.now }
+        ensures { code result ≡ next_refusal self.now a b }
+    {
+        if self.n <= a || self.n <= b {
+            return Err(Refusal::EndOutOfRange);
         }
-        i = crate::reader::index_after(file, i);
+        if a == b {
+            return Err(Refusal::EndsEqual);
+        }
+        let end = 2 * (self.count as usize);
+        if chains::follow::is_linked(&self.links[..end], self.next, &self.degrees, a, b) {
+            return Err(Refusal::AlreadyLinked);
+        }
+        Ok(())
     }
-    0
+
+    // A link into the lists, where it is not refused.
+    fn take(&mut self, a: u16, b: u16) -> Result<(), Refusal>
+        requires { Taking self.old }
+        ensures answer { code result ≡ next_refusal self.old a b }
+        ensures taken { OnOk result (Taken self.old a b self.new) }
+        ensures same_lists { (self.new.links.ghost_name ≡ self.old.links.ghost_name) × (self.new.next.ghost_name ≡ self.old.next.ghost_name) }
+    {
+        self.check(a, b)?;
+        chains::build::add_link(self.count, a, b, self.links, self.next, &mut self.last);
+        chains::follow::lengthen(&mut self.degrees, a);
+        chains::follow::lengthen(&mut self.degrees, b);
+        self.count += 1;
+        Ok(())
+    }
 }
 
-// The file's order, and whether it holds 0 to n - 1 once each.
-pub(crate) fn take_order(file: &[u8], order: &mut [u16]) -> bool
+// All the file's links: the first refused link's refusal, or the links and their index in the lists.
+pub(crate) fn take_links(file: &[u8], links: &mut [u16], next: &mut [u16]) -> Result<(), Refusal>
+    requires { Unindexed file.now links.old next.old }
+    ensures answer { code result ≡ links_refusal (file_n file.now) [] (file_links file.now) }
+    ensures lists { OnOk result (LinksIndexed file.now links.old links.new next.new) }
+{
+    let mut taken = Links {
+        n: crate::gateways(file),
+        count: 0,
+        links,
+        next,
+        last: [0u16; lists::PLACES],
+        degrees: [0u16; lists::PLACES],
+    };
+    chains::build::with_roots(taken.next.len(), &mut taken.last);
+    for (a, b) in Reader::new(file, 0) {
+        taken.take(a, b)?;
+    }
+    Ok(())
+}
+
+// The file's order, or 6 where it doesn't hold 0 to n - 1 once each.
+pub(crate) fn take_order(file: &[u8], order: &mut [u16]) -> Result<(), Refusal>
     requires { Orderly file.now order.old }
-    ensures answer { result ≡ once_each (file_n file.now) (file_order file.now) }
+    ensures answer { code result ≡ order_refusal file.now }
     ensures order { order.new ≡ written (file_n file.now) (file_order file.now) order.old }
 {
     crate::fill::with_order(file, order);
     let n = crate::gateways(file);
     let end = n as usize;
-    sound::is_order(n, &order[..end])
+    if !sound::is_order(n, &order[..end]) {
+        return Err(Refusal::NotAnOrder);
+    }
+    Ok(())
 }

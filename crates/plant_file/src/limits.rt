@@ -1,11 +1,13 @@
 // The limit of each gateway (02, change 8): in version 1 it is T for all, in version 2 it goes by the pairs of bytes behind the order, kind and limit.
 ghost use Rattle.std.specs.Prelude.{◌≡◌, ◌+◌, ◌*◌};
+ghost use Rattle.std.specs.List.{list_all, range_with_len};
 ghost use Rattle.packing.specs.Plant.{at};
-ghost use Rattle.plant_file.specs.PlantFile.{file_n, file_m, kind_byte, limit_byte, limit_of_kind, effective_limit, file_limit, limit_allowed};
+ghost use Rattle.plant_file.specs.PlantFile.{file_n, file_m, kind_byte, limit_byte, limit_of_kind, effective_limit, file_limit, limit_allowed, limits_allowed};
 
 use lists::byte;
 
 // The limit that a kind takes.
+#[tactic(auto, unfolding(crate::specs::PlantFile::limit_of_kind))]
 fn of_kind(t: u8, kind: u8) -> u8
     ensures { result ≡ limit_of_kind t kind }
 {
@@ -19,13 +21,11 @@ fn of_kind(t: u8, kind: u8) -> u8
 }
 
 // A pair's limit: as written, or by kind where 0 is written.
+#[tactic(auto, unfolding(crate::specs::PlantFile::effective_limit))]
 pub(crate) fn effective(t: u8, kind: u8, limit: u8) -> u8
     ensures { result ≡ effective_limit t kind limit }
 {
-    if limit == 0 {
-        return of_kind(t, kind);
-    }
-    limit
+    if limit == 0 { of_kind(t, kind) } else { limit }
 }
 
 // A byte of a gateway's pair, behind the links and the order: with 10 its kind, with 11 its limit.
@@ -37,12 +37,14 @@ fn pair_byte(file: &[u8], from: u8, v: u16) -> u8
     byte(file, pairs + 2 * (v as usize))
 }
 
+#[tactic(auto, unfolding(crate::specs::PlantFile::kind_byte))]
 fn kind_byte(file: &[u8], v: u16) -> u8
     ensures { result ≡ kind_byte file.now v }
 {
     pair_byte(file, 10, v)
 }
 
+#[tactic(auto, unfolding(crate::specs::PlantFile::limit_byte))]
 fn limit_byte(file: &[u8], v: u16) -> u8
     ensures { result ≡ limit_byte file.now v }
 {
@@ -50,22 +52,37 @@ fn limit_byte(file: &[u8], v: u16) -> u8
 }
 
 // The limit of a gateway. A byte past the end counts as 0.
+#[tactic(auto, unfolding(crate::specs::PlantFile::file_limit))]
 pub fn limit_of(file: &[u8], v: u16) -> u8
     ensures { result ≡ file_limit file.now v }
 {
     let t = crate::limit(file);
-    if crate::version(file) != 2 {
-        return t;
+    if crate::version(file) == 2 {
+        effective(t, kind_byte(file, v), limit_byte(file, v))
+    } else {
+        t
     }
-    effective(t, kind_byte(file, v), limit_byte(file, v))
 }
 
 // Whether a limit byte is neither 1 nor above 16.
-pub(crate) fn is_allowed(limit: u8) -> bool
+#[tactic(auto, unfolding(crate::specs::PlantFile::limit_allowed))]
+fn is_allowed(limit: u8) -> bool
     ensures { result ≡ limit_allowed limit }
 {
-    if limit == 1 {
-        return false;
-    }
-    limit <= lists::HIGHEST
+    limit != 1 && limit <= lists::HIGHEST
+}
+
+// Whether the limit byte of each gateway below n is allowed.
+fn each_is_allowed(file: &[u8], n: u16) -> bool
+    ensures { result ≡ list_all (λ v. limit_allowed (limit_byte file.now v)) (range_with_len 0 n) }
+{
+    (0..n).all(|v| is_allowed(limit_byte(file, v)))
+}
+
+// Whether each limit byte of the file is allowed: version 1 has none.
+#[tactic(auto, unfolding(crate::specs::PlantFile::limits_allowed), using(crate::proofs::Ranges::all_range))]
+pub(crate) fn are_allowed(file: &[u8]) -> bool
+    ensures { result ≡ limits_allowed file.now }
+{
+    crate::version(file) != 2 || each_is_allowed(file, crate::gateways(file))
 }

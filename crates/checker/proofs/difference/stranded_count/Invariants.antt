@@ -1,4 +1,3 @@
-use Prim.Native.Nat.{◌-◌}
 use mathlib.Core.Bool.{not, ◌&&◌}
 use lib.Dec.{eqb}
 use Rattle.packing.specs.Plant.{at}
@@ -8,6 +7,3 @@ use Rattle.checker.proofs.difference.stranded_count.Given as goal
 
 abbrev pub invariant-loop-v : goal.invariant-loop-v
 invariant-loop-v l = Tallied l.n (λ w. not (in_set l.choke w) && not (eqb (at l.marks w) 1)) l.k l.v
-
-abbrev pub decreases-loop-v : goal.decreases-loop-v
-decreases-loop-v l = l.n - l.v

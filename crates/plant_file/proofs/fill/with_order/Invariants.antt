@@ -1,4 +1,3 @@
-use Prim.Native.Nat.{◌-◌}
 use Rattle.packing.proofs.Lists.{Listed}
 use Rattle.plant_file.specs.PlantFile.{file_n}
 use Rattle.plant_file.proofs.LinksByIndex.{order_number}
@@ -6,6 +5,3 @@ use Rattle.plant_file.proofs.fill.with_order.Given as goal
 
 abbrev pub invariant-loop-i : goal.invariant-loop-i
 invariant-loop-i l = Listed (file_n l.file) (order_number l.file) l.initial.order l.order l.i
-
-abbrev pub decreases-loop-i : goal.decreases-loop-i
-decreases-loop-i l = l.n - l.i
