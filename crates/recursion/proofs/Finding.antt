@@ -4,6 +4,7 @@ use mathlib.Core.Path.{◌≡◌, refl, sym, ap, ◌∙◌}
 use mathlib.Core.Bool.{Bool, true, false, not}
 use mathlib.Core.List.{List}
 use native.Mathlib.Omega.{arith}
+use Rattle.std.specs.Prelude.{Option, None, Some}
 use lib.Dec.{eqb}
 use lib.ListN.{length, set, take, drop, length-set}
 use borrow.Author.Tests.{eqb-true, eq-eqb, ne_eqb}
@@ -14,7 +15,7 @@ use Rattle.packing.specs.Moved.{moved}
 use Rattle.packing.proofs.Tests.{by_bool, iff_test, not_i, not_i_false}
 use Rattle.packing.proofs.Sums.{count_ext}
 use Rattle.packing.proofs.Moved.{moved-one}
-use Rattle.chains.specs.Index.{root_of, FarEnd}
+use Rattle.chains.specs.Index.{root_of, FarEnd, Index}
 use Rattle.chains.proofs.Following.{Standing, chain_first, chain_next, chain-end, chain_there, chain-places}
 use Rattle.search.specs.RowPre.{Taken}
 use Rattle.search.proofs.States.{seen-kept}
@@ -24,7 +25,7 @@ use Rattle.recursion.specs.Recursion.{Try, tried, mark, or_else, try_each, takes
 use Rattle.recursion.specs.Pre.{untried, as_try, Working, Front, SmallLimits}
 use Rattle.recursion.proofs.Marks.{untried-below, untried_falls, marked, front_long, front_at, front-mark, front_same, front_then, front-marked}
 use Rattle.recursion.proofs.Freed.{FreedAt, own-kept}
-use Rattle.recursion.proofs.Promises.{FoundBy, FoundRows, FreedBy, FreedRows, one_more_lem, one-at-least, working_below, free_grown, free-freed}
+use Rattle.recursion.proofs.Promises.{FoundBy, FoundRows, FreedBy, FreedRows, one_more_lem, working_below, free_grown, free-freed}
 
 -- the number moved, either way round
 moved_back : (n : ℕ) (h h' : ℕ → ℕ) → moved n h h' ≡ moved n h' h
@@ -43,31 +44,31 @@ pub record Finding (n : ℕ) (limit : ℕ → ℕ) (ls : List ℕ) (v : ℕ) (ro
       → try_each (unless_tried (λ u now. takes v u (free_place calls n limit ls hs₀ u now))) (neighbours (drop (2 * (e / 2)) ls) v) (take n marks) ≡ find_holder (suc calls) n limit ls hs₀ v (take n marks₀)
 
 module _
-    (n : ℕ) (limit : ℕ → ℕ) (ls next : List ℕ) (v : ℕ) (rows₀ : List (List ℕ)) (hs₀ marks₀ : List ℕ) (w : Working n v (at hs₀ v) ls next rows₀ hs₀ marks₀)
+    (n : ℕ) (limit : ℕ → ℕ) (ls next : List ℕ) (v : ℕ) (rows₀ : List (List ℕ)) (hs₀ marks₀ : List ℕ) (index : Index ls next) (w : Working n v (at hs₀ v) rows₀ hs₀ marks₀)
   where
     whole : ℕ → Try
     whole calls = find_holder calls n limit ls hs₀ v (take n marks₀)
 
     below : v < GATEWAYS
-    below = (working_below w).1
+    below = working_below w
 
     pub finding_start : {e : ℕ} → e ≡ at next (root_of (length next) v) → Finding n limit ls v rows₀ hs₀ marks₀ rows₀ hs₀ marks₀ e
     unfolding find_holder
     finding_start q =
-        let (same, standing) = chain_first w.index below in
+        let (same, standing) = chain_first index below in
         record { standing = rw q standing; front = front_same n marks₀; unchanged = refl; same = refl; own = w.own; fewer = omega arith; rest = λ calls l. rw (q, ← same) }
 
     module _ {rows : List (List ℕ)} {hs marks : List ℕ} {e : ℕ} (f : Finding n limit ls v rows₀ hs₀ marks₀ rows hs marks e) where
-      pub finding_out : e ≡ NONE → FoundBy n limit ls v hs₀ (take n marks₀) 0 hs (take n marks) × (FoundRows n limit v hs₀ 0 hs rows₀ rows × Front n marks₀ marks)
+      pub finding_out : e ≡ NONE → FoundBy n limit ls v hs₀ (take n marks₀) None hs (take n marks) × (FoundRows n limit v hs₀ None hs rows₀ rows × Front n marks₀ marks)
       unfolding whole try_each
       finding_out q = (
         record {
-          is = one_more_lem whole (2 * untried (take n marks₀)) (λ calls l. rw (chain-end w.index below q) at (f.rest calls l));
-          unchanged = λ z. f.unchanged;
+          is = one_more_lem whole (2 * untried (take n marks₀)) (λ calls l. rw (chain-end index below q) at (f.rest calls l));
+          unchanged = f.unchanged;
           fewer = f.fewer;
-          counted = λ some. absurd (some refl);
+          counted = tt;
         },
-        (record { unchanged = λ z. f.same; kept = λ fit. rw (f.same, f.unchanged) w.table.is }, f.front),
+        (record { unchanged = f.same; kept = λ fit. rw (f.same, f.unchanged) w.table.is }, f.front),
       )
 
       -- the first n of the marks say as much as all
@@ -80,15 +81,15 @@ module _
       -- a chain that is not at its end is at a far end of v
       module _ (some : e ≡ NONE → ⊥) where
         finding_there : FarEnd ls v e
-        finding_there = chain_there w.index below f.standing some
+        finding_there = chain_there index below f.standing some
 
         pub finding_places : (e < length ls) × (e < length next)
-        finding_places = chain-places w.index below f.standing some
+        finding_places = chain-places index below f.standing some
 
         module _ {e' : ℕ} (later : e' ≡ at next e) where
           -- fewer links are left
           pub finding_on : NONE - e' < NONE - e
-          finding_on = let on : e < e' = rw later (chain_next w.index below finding_there).2 in omega (arith, finding_there.inside, w.index.room, w.index.few)
+          finding_on = let on : e < e' = rw later (chain_next index below finding_there).2 in omega (arith, finding_there.inside, index.room, index.few)
 
           -- what is known with the marks then, before the next link
           turn : {rows' : List (List ℕ)} {hs' marks' : List ℕ} → Front n marks₀ marks' → hs' ≡ hs₀ → rows' ≡ rows₀ → tried (take n marks') (at hs₀ v) ≡ true → untried (take n marks') ≤ untried (take n marks₀)
@@ -96,7 +97,7 @@ module _
               → try_each (unless_tried (λ u now. takes v u (free_place calls n limit ls hs₀ u now))) (neighbours (drop (2 * (at next e / 2)) ls) v) (take n marks') ≡ find_holder (suc calls) n limit ls hs₀ v (take n marks₀))
               → Finding n limit ls v rows₀ hs₀ marks₀ rows' hs' marks' e'
           turn front unchanged same own fewer rest =
-              record { standing = rw later (chain_next w.index below finding_there).1; front = front; unchanged = unchanged; same = same; own = own; fewer = fewer; rest = λ calls q. rw later (rest calls q) }
+              record { standing = rw later (chain_next index below finding_there).1; front = front; unchanged = unchanged; same = same; own = own; fewer = fewer; rest = λ calls q. rw later (rest calls q) }
 
         module _ {u : ℕ} (its : u ≡ at ls e) {k : ℕ} (is : k ≡ at marks u) where
           first-is : at (take n marks) u ≡ k
@@ -108,7 +109,7 @@ module _
               (try_each (unless_tried (λ y now. takes v y (free_place calls n limit ls hs₀ y now))) (neighbours (drop (2 * (at next e / 2)) ls) v))
               ≡ find_holder (suc calls) n limit ls hs₀ v (take n marks₀)
           unfolding try_each
-          step calls q = rw ((chain_next w.index below finding_there).0, ← its) at (f.rest calls q)
+          step calls q = rw ((chain_next index below finding_there).0, ← its) at (f.rest calls q)
 
           -- it was tried before
           pub finding_passed : {e' : ℕ} → e' ≡ at next e → (k ≡ NONE → ⊥) → Finding n limit ls v rows₀ hs₀ marks₀ rows hs marks e'
@@ -139,12 +140,11 @@ module _
             pub finding_less : 2 * untried (take n now) + 2 < 2 * untried (take n marks₀) + 1
             finding_less = omega (arith, falls, f.fewer)
 
-            pub finding_works : Working n u u ls next rows hs now
+            pub finding_works : Working n u u rows hs now
             finding_works =
                 record {
                   few = w.few;
                   holders = rw f.unchanged w.holders;
-                  index = w.index;
                   table = rw (f.unchanged, f.same) w.table;
                   room = omega (arith, front_now.long, w.room);
                   past = λ y l. front_now.beyond y l ∙ w.past y l;
@@ -152,7 +152,7 @@ module _
                   own = rw now_first (marked (take n marks) u was);
                 }
 
-            module _ {j : ℕ} {hs' marks' : List ℕ} (g : Front n now marks') (d : FreedBy n limit ls u hs (take n now) j hs' (take n marks')) where
+            module _ {j : Option ℕ} {hs' marks' : List ℕ} (g : Front n now marks') (d : FreedBy n limit ls u hs (take n now) j hs' (take n marks')) where
               promise : FreedBy n limit ls u hs₀ (mark (take n marks) u) j hs' (take n marks')
               promise = rw (f.unchanged, now_first) at d
 
@@ -160,14 +160,14 @@ module _
               called calls q = promise.is calls (omega (arith, untried_falls (take n marks) u was, f.fewer))
 
               -- no place was freed there
-              pub finding_next : {rows' : List (List ℕ)} → FreedRows n limit j hs' rows rows' → j ≡ 0 → {e' : ℕ} → e' ≡ at next e → Finding n limit ls v rows₀ hs₀ marks₀ rows' hs' marks' e'
-              finding_next r zero' later =
-                  let grown = free_grown n limit ls hs₀ w.holders marked-long u u_below (marked (take n marks) u was) promise zero' in
-                  turn later (front_then front_now g) (promise.unchanged zero') (r.unchanged zero' ∙ f.same) (grown.stay (at hs₀ v) (seen-kept (take n marks) u 0 (at hs₀ v) was f.own))
-                  (omega (arith, promise.fewer, untried_falls (take n marks) u was, f.fewer)) (λ calls q. rw (was, ← called calls q, zero') at (step calls q))
+              pub finding_next : {rows' : List (List ℕ)} → FreedRows n limit j hs' rows rows' → j ≡ None → {e' : ℕ} → e' ≡ at next e → Finding n limit ls v rows₀ hs₀ marks₀ rows' hs' marks' e'
+              finding_next r none' later =
+                  let grown = free_grown n limit ls hs₀ w.holders marked-long u u_below (marked (take n marks) u was) promise none' in
+                  turn later (front_then front_now g) (rw none' at promise.unchanged) (rw none' at r.unchanged ∙ f.same) (grown.stay (at hs₀ v) (seen-kept (take n marks) u 0 (at hs₀ v) was f.own))
+                  (omega (arith, promise.fewer, untried_falls (take n marks) u was, f.fewer)) (λ calls q. rw (was, ← called calls q, none') at (step calls q))
 
               -- one was: v gets u as its holder, and loses its old one, which had nothing to do with that
-              module _ (freed' : j ≡ 0 → ⊥) where
+              module _ {m : ℕ} (freed' : j ≡ Some m) where
                 freed_there : FreedAt n limit ls hs₀ u (mark (take n marks) u) hs'
                 freed_there = free-freed n limit ls hs₀ w.holders marked-long u u_below (marked (take n marks) u was) promise freed'
 
@@ -193,18 +193,18 @@ module _
                     (λ q. omega (arith, freed_there.loads y, ap (λ (b : Bool). pick b 1) q))
 
                 pub finding_found : {rows' newRows : List (List ℕ)} {new : List ℕ} {old : ℕ} → FreedRows n limit j hs' rows rows' → Taken v u hs' new rows' newRows old
-                    → FoundBy n limit ls v hs₀ (take n marks₀) j new (take n marks') × (FoundRows n limit v hs₀ j new rows₀ newRows × Front n marks₀ marks')
+                    → FoundBy n limit ls v hs₀ (take n marks₀) (Some m) new (take n marks') × (FoundRows n limit v hs₀ (Some m) new rows₀ newRows × Front n marks₀ marks')
                 unfolding whole
                 finding_found r t = (
                   record {
-                    is = one_more_lem whole (2 * untried (take n marks₀)) (λ calls q. rw (t.holders, one-at-least j freed') (rw (was, ← called calls q, one-at-least j freed') at (step calls q)));
-                    unchanged = λ q. absurd (freed' q);
+                    is = one_more_lem whole (2 * untried (take n marks₀)) (λ calls q. rw t.holders (rw (was, ← called calls q, freed') at (step calls q)));
+                    unchanged = tt;
                     fewer = omega (arith, promise.fewer, untried_falls (take n marks) u was, f.fewer);
-                    counted = λ q. rw (t.holders, one-more-moved) (promise.counted freed');
+                    counted = rw (t.holders, one-more-moved) (rw freed' at promise.counted);
                   },
                   (
                     record {
-                      unchanged = λ q. absurd (freed' q);
+                      unchanged = tt;
                       kept = λ fit.
                           rw (t.table, t.holders)
                           (rows_moved n hs' v u w.few room' w.inside (rw mine.0 (λ l. within fit.limits (at hs₀ v) (fit.own l))) (r.kept fit.limits));

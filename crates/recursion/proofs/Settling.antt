@@ -3,14 +3,12 @@ use Prim.Native.Nat.{ℕ, ◌+◌, ◌-◌, ◌*◌, ◌≤◌}
 use mathlib.Core.Path.{◌≡◌, sym, ap, ◌∙◌}
 use mathlib.Core.List.{List, ◌++◌}
 use native.Mathlib.Omega.{arith}
-use lib.Dec.{eqb}
+use Rattle.std.specs.Prelude.{Option, unwrap_or}
 use lib.ListN.{take, drop, replicate, length-replicate}
 use lib.Seq.{get_or-drop, get_or-append-add}
-use borrow.Author.Tests.{eqb-true, eqb-false}
 use Rattle.packing.specs.Lists.{written}
 use Rattle.packing.specs.Moved.{moved}
 use Rattle.packing.specs.Plant.{NONE, GATEWAYS, at}
-use Rattle.packing.proofs.Tests.{by_bool}
 use Rattle.packing.proofs.Lists.{zero-at, written-front, written-room}
 use Rattle.packing.proofs.Moved.{moved_none}
 use Rattle.search.specs.RowPre.{RowsOf}
@@ -18,7 +16,7 @@ use Rattle.recursion.specs.Recursion.{search, settled, recursive_holders}
 use Rattle.recursion.specs.Pre.{Working, Fits, PlaceableBy}
 use Rattle.recursion.proofs.Marks.{untried-start}
 use Rattle.recursion.proofs.Placing.{own-tried}
-use Rattle.recursion.proofs.Promises.{FoundBy, FoundRows, one-at-least}
+use Rattle.recursion.proofs.Promises.{by_option, FoundBy, FoundRows}
 
 module _
     {n : ℕ} {hs : List ℕ} {v : ℕ} {ls next : List ℕ} {rows : List (List ℕ)} (p : PlaceableBy n hs v ls next rows)
@@ -36,12 +34,11 @@ module _
         (ap (at (replicate n NONE ++ drop n (replicate GATEWAYS 0))) (there ∙ ap (λ (k : ℕ). k + (u - n)) (sym (length-replicate n NONE)))
         ∙ get_or-append-add (replicate n NONE) (drop n (replicate GATEWAYS 0)) (u - n) 0 ∙ get_or-drop n (replicate GATEWAYS 0) (u - n) 0 ∙ zero-at GATEWAYS (n + (u - n)))
 
-    pub place_works : Working n v (at hs v) ls next rows hs all
+    pub place_works : Working n v (at hs v) rows hs all
     place_works =
         record {
           few = p.free.few;
           holders = p.free.holders;
-          index = p.index;
           table = record { is = p.table; within = p.free.within };
           room = rw filled (written-room n (replicate n NONE) zeros (length-replicate n NONE));
           past = past;
@@ -51,20 +48,20 @@ module _
 
     -- what a call with them leaves
     module _
-        (limit : ℕ → ℕ) {k : ℕ} {hs' marks' : List ℕ} {rows' : List (List ℕ)} (d : FoundBy n limit ls v hs (take n all) k hs' marks') (r : FoundRows n limit v hs k hs' rows rows')
+        (limit : ℕ → ℕ) {o : Option ℕ} {hs' marks' : List ℕ} {rows' : List (List ℕ)} (d : FoundBy n limit ls v hs (take n all) o hs' marks') (r : FoundRows n limit v hs o hs' rows rows')
       where
-        promise : FoundBy n limit ls v hs (replicate n NONE) k hs' marks'
+        promise : FoundBy n limit ls v hs (replicate n NONE) o hs' marks'
         promise = rw fresh at d
 
         holders : hs' ≡ recursive_holders n limit ls hs v
         unfolding recursive_holders search
         holders =
             let is = promise.is (2 * n + 2) (omega (arith, untried-start n)) in
-            by_bool (eqb k 0) (λ e. promise.unchanged (eqb-true k 0 e) ∙ ap (settled hs) (rw (eqb-true k 0 e) at is)) (λ e. ap (settled hs) (rw (one-at-least k (eqb-false k 0 e)) at is))
+            by_option o (λ e. rw e at promise.unchanged ∙ ap (settled hs) (rw e at is)) (λ k e. ap (settled hs) (rw e at is))
 
-        number : k ≡ moved n (at hs) (at hs')
-        number = by_bool (eqb k 0) (λ e. rw (eqb-true k 0 e, promise.unchanged (eqb-true k 0 e)) (sym (moved_none n (at hs)))) (λ e. promise.counted (eqb-false k 0 e))
+        number : unwrap_or o 0 ≡ moved n (at hs) (at hs')
+        number = by_option o (λ e. rw (e, rw e at promise.unchanged) (sym (moved_none n (at hs)))) (λ k e. rw e (rw e at promise.counted))
 
-        pub place_leaves : (hs' ≡ recursive_holders n limit ls hs v)
+        pub place_leaves : {k : ℕ} → k ≡ unwrap_or o 0 → (hs' ≡ recursive_holders n limit ls hs v)
             × ((k ≡ moved n (at hs) (at (recursive_holders n limit ls hs v))) × (Fits n limit hs v → RowsOf n (recursive_holders n limit ls hs v) rows'))
-        place_leaves = (holders, (rw (← holders) number, λ fit. rw (← holders) (r.kept fit)))
+        place_leaves is = (holders, (rw (← holders) (is ∙ number), λ fit. rw (← holders) (r.kept fit)))

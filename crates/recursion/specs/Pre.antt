@@ -1,5 +1,5 @@
 -- What the contracts of private functions cite. A reader of the public ones needs of it `Fits` and `PlaceableBy`, for `place_kept`.
-use Rattle.std.specs.Prelude.{ℕ, zero, suc, ◌<◌, ◌≤◌, ◌≡◌, Bool, true, not, ◌&&◌, List, length, take}
+use Rattle.std.specs.Prelude.{ℕ, ◌<◌, ◌≤◌, ◌≡◌, Bool, true, not, ◌&&◌, List, length, take, Option, None, Some, IfNone, IfSome}
 use Rattle.packing.specs.Count.{count}
 use Rattle.packing.specs.Plant.{GATEWAYS, HIGHEST, at}
 use Rattle.packing.specs.Holders.{holds}
@@ -16,11 +16,10 @@ untried_in set marks = count (length marks) (λ u. not (tried marks u) && set u)
 unfoldable pub untried : List ℕ → ℕ
 untried marks = untried_in (λ u. true) marks
 
--- What either function is lent: the links with their index, the table of the holders, and marks of which the first n are the gateways' and the others say tried. x is a gateway, and h has been tried.
-pub record Working (n x h : ℕ) (ls next : List ℕ) (rows : List (List ℕ)) (hs marks : List ℕ) : Type 0 where
+-- What either function is lent: the table of the holders, and marks of which the first n are the gateways' and the others say tried. x is a gateway, and h has been tried.
+pub record Working (n x h : ℕ) (rows : List (List ℕ)) (hs marks : List ℕ) : Type 0 where
   pub few : n ≤ GATEWAYS
   pub holders : n ≤ length hs
-  pub index : Index ls next
   pub table : TableOf n hs rows
   pub room : n ≤ length marks
   pub past : (u : ℕ) → n ≤ u → at marks u ≡ 0
@@ -32,21 +31,21 @@ pub record Front (n : ℕ) (marks marks' : List ℕ) : Type 0 where
   pub long : length marks' ≡ length marks
   pub beyond : (u : ℕ) → n ≤ u → at marks' u ≡ at marks u
 
--- what a call stands for that returned k and left these holders and marks: 0 where it failed
-abbrev pub as_try : ℕ → List ℕ → List ℕ → Try
-as_try zero hs marks = failed marks
-as_try (suc k) hs marks = freed hs
+-- what a call stands for that returned r and left these holders and marks
+abbrev pub as_try : Option ℕ → List ℕ → List ℕ → Try
+as_try None hs marks = failed marks
+as_try (Some k) hs marks = freed hs
 
 -- A call that may have so many calls within it: what it returned and left is what the model says, nothing is changed where it failed, and nobody's mark is lost. Where a place is freed, it returned that number.
-pub record Ends (k : ℕ) (hs hs' marks marks' : List ℕ) (try : ℕ → Try) (least number : ℕ) : Type 0 where
-  pub is : (calls : ℕ) → least ≤ calls → as_try k hs' marks' ≡ try calls
-  pub unchanged : k ≡ 0 → hs' ≡ hs
+pub record Ends (r : Option ℕ) (hs hs' marks marks' : List ℕ) (try : ℕ → Try) (least number : ℕ) : Type 0 where
+  pub is : (calls : ℕ) → least ≤ calls → as_try r hs' marks' ≡ try calls
+  pub unchanged : IfNone r (hs' ≡ hs)
   pub fewer : untried marks' ≤ untried marks
-  pub counted : (k ≡ 0 → ⊥) → k ≡ number
+  pub counted : IfSome r (λ k. k ≡ number)
 
 -- The rows that it left: nothing is changed where it failed, and they are those of the holders hs' of n gateways, if they fit.
-pub record RowsEnd (k n : ℕ) (hs' : List ℕ) (rows rows' : List (List ℕ)) (Fit : Type 0) : Type 0 where
-  pub unchanged : k ≡ 0 → rows' ≡ rows
+pub record RowsEnd (r : Option ℕ) (n : ℕ) (hs' : List ℕ) (rows rows' : List (List ℕ)) (Fit : Type 0) : Type 0 where
+  pub unchanged : IfNone r (rows' ≡ rows)
   pub kept : Fit → RowsOf n hs' rows'
 
 -- nobody's limit is above the places of a row

@@ -1,11 +1,10 @@
 -- 02, change 7: "a short search to follow by pencil". ls are the plant's links, hs the holders, limit u how many u may hold.
 -- docs/SHORT-SEARCH.md goes through it on one plant, step by step.
-use Rattle.std.specs.Prelude.{ℕ, zero, suc, ◌+◌, ◌*◌, Bool, cond, List, [], ◌∷◌, ltb, set, replicate}
+use Rattle.std.specs.Prelude.{ℕ, zero, suc, ◌+◌, ◌*◌, Bool, cond, List, [], ◌∷◌, ltb, set, replicate, Option, None, Some, if◌then◌else◌}
 use Rattle.packing.specs.Plant.{NONE, at, neighbours}
 use Rattle.packing.specs.Holders.{holds}
 use Rattle.packing.specs.Moved.{moved}
 use Rattle.search.specs.Search.{seen, held_by, placeable}
-use Rattle.search.specs.declared.Placed.{Placed}
 
 -- how a call ends: a place is freed, and these are the holders then; or none is, no holder has changed, and these are the marks of who has been tried
 pub data Try : Type 0 where
@@ -71,6 +70,6 @@ recursive_after n limit ls hs v = cond (placeable n hs v) (recursive_holders n l
 unfoldable pub recursive_moved : ℕ → (ℕ → ℕ) → List ℕ → List ℕ → ℕ → ℕ
 recursive_moved n limit ls hs v = moved n (at hs) (at (recursive_after n limit ls hs v))
 
--- the answer: whether v may be placed, and the number
-abbrev pub recursive_answer : ℕ → (ℕ → ℕ) → List ℕ → List ℕ → ℕ → Placed
-recursive_answer n limit ls hs v = record { done = placeable n hs v; moved = recursive_moved n limit ls hs v }
+-- the answer: the number, where v may be placed
+abbrev pub recursive_answer : ℕ → (ℕ → ℕ) → List ℕ → List ℕ → ℕ → Option ℕ
+recursive_answer n limit ls hs v = if placeable n hs v then Some (recursive_moved n limit ls hs v) else None

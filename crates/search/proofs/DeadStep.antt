@@ -15,7 +15,7 @@ use Rattle.packing.proofs.Moved.{moved_none}
 use Rattle.search.specs.Search.{found, shift, settled, placed_holders}
 use Rattle.search.specs.RowPre.{RowsOf, RowsKept}
 use Rattle.search.specs.Pre.{takings, Settleable, Outcome}
-use Rattle.search.specs.Noted.{taken_back, Notable, Noted}
+use Rattle.search.specs.Noted.{taken_back, Notable}
 use Rattle.search.specs.Dead.{walk_past, Past, left_then, DeadThen}
 use Rattle.search.proofs.States.{by_state}
 use Rattle.search.proofs.Placing.{place_is}
@@ -83,10 +83,14 @@ module _ {n : ℕ} (limit : ℕ → ℕ) (ls : List ℕ) {hs : List ℕ} {v : �
         left-more left x = by_bool (eqb x v) (λ q. rw (q, eqb-true x v q, p.free.free)) (λ q. rw q)
 
     -- v is kept: the marks of its search are taken back, ..
-    module _ {looked' : List ℕ} {c' : ℕ} (noted : Noted looked 0 dead looked' c' dead') where
+    module _ (looked' : List ℕ) (c' : ℕ) (noted : taken_back c' looked' dead' ≡ taken_back 0 looked dead) where
       pub past_dead_kept : {dead'' : List ℕ} → (r ≡ 0 → ⊥) → dead'' ≡ taken_back c' looked' dead' → DeadThen n limit ls hs v dead new dead''
       unfolding Outcome DeadThen taken_back
       past_dead_kept some e =
           by_state (walk_past n limit ls hs (v ∷ []) dead)
-          (λ u x f w left out d. rw (e, noted.back, fun_ext (left_same w left)) (past-kept d p.feasible p.free out w))
+          (λ u x f w left out d. rw (e, noted, fun_ext (left_same w left)) (past-kept d p.feasible p.free out w))
           (λ q f w. let (_, m, _, _) = rw w at o in absurd (some m))
+
+-- .. in a list that ends as that one
+pub dead-as : (n : ℕ) (limit : ℕ → ℕ) (ls hs : List ℕ) (v : ℕ) (dead hs' d d' : List ℕ) → DeadThen n limit ls hs v dead hs' d → d' ≡ d → DeadThen n limit ls hs v dead hs' d'
+dead-as n limit ls hs v dead hs' d d' p e = rw e p

@@ -50,3 +50,5 @@ pub mod DeadOut
 pub mod DeadPlacing
 pub mod DeadChoke
 pub mod DeadStep
+pub mod Listing
+pub mod SameWork

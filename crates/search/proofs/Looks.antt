@@ -13,23 +13,22 @@ use Rattle.packing.proofs.Tests.{not_i, not_i_false}
 use Rattle.chains.specs.Index.{root_of, IndexFor}
 use Rattle.chains.proofs.Following.{Standing, chain_first, chain_next, chain-end, chain_there, chain-places}
 use Rattle.search.specs.Search.{found, more, seen, look, visit}
-use Rattle.search.specs.declared.Walked.{Walked}
-use Rattle.search.specs.declared.Walked.TheVariants.{Found, RanOut}
+use Rattle.std.specs.declared.ops.ControlFlow.TheVariants.{Break, Continue}
 use Rattle.search.specs.Table.{row_at}
-use Rattle.search.specs.Pre.{TableOf, ForSome, ForEach, Is, Ready, row_has_place, Joinable, Joined}
-use Rattle.search.specs.Noted.{NotedThen, Notable, Noted}
+use Rattle.search.specs.Pre.{Walked, TableOf, ForSome, ForEach, Is, Ready, row_has_place, Joinable, Joined}
+use Rattle.search.specs.Noted.{taken_back, Notable}
 use Rattle.search.proofs.Queue.{held_by-length}
 use Rattle.search.proofs.Rows.{table-holds, table-place}
 use Rattle.search.proofs.States.{gateway-some, unseen-below, look-seen, look-free, look_full, look-going, going-room, visit-found}
-use Rattle.search.proofs.Noting.{noted-room, noted-mark}
-use Rattle.search.proofs.Results.{found-state, more-state, more_within, found-is, more-is, some_then}
+use Rattle.search.proofs.Noting.{NotedThen, noted-room, noted_less, noted-notable, noted-back}
+use Rattle.search.proofs.Results.{found-state, more-state, found-is, more-is, some_then}
 
 -- The three ways of a look. The lent list of marks is from' once u is marked, k is u's entry, t is u's limit, and b says whether its row has a place.
 module _
     {n : ℕ} (limit : ℕ → ℕ) {x : ℕ} (u : ℕ) {hs : List ℕ} {rows : List (List ℕ)} {queue : List ℕ} {tail : ℕ} {from : List ℕ} (h : TableOf n hs rows)
     (r : Ready n x hs queue tail from)
   where
-    pub look-is-seen : {k : ℕ} → k ≡ at from u → (k ≡ NONE → ⊥) → Is (RanOut tail) queue from (look n limit hs x u (take tail queue) from)
+    pub look-is-seen : {k : ℕ} → k ≡ at from u → (k ≡ NONE → ⊥) → Is (Continue tt) tail queue from (look n limit hs x u (take tail queue) from)
     look-is-seen e some = more-is (look-seen n limit hs x u (take tail queue) from (not_i _ (ne_eqb (at from u) NONE (λ q. some (e ∙ q))))) r.within
 
     module _ {k : ℕ} (e : k ≡ at from u) (none : k ≡ NONE) where
@@ -54,17 +53,23 @@ module _
       pub look-room : {looked : List ℕ} {c : ℕ} → Notable looked c from → c < length looked
       look-room n = noted-room from u x unseen (gateway-some r.going.few r.gateway) n
 
-      pub look_notes : {looked looked' : List ℕ} {c c' : ℕ} {from' : List ℕ} → Notable looked c from → from' ≡ set from u x → NotedThen u looked c looked' c' → Noted looked c from looked' c' from'
-      look_notes n mark then = noted-mark from u x unseen (gateway-some r.going.few r.gateway) n mark then
+      pub look-less : {looked : List ℕ} {c : ℕ} → Notable looked c from → Notable looked c (set from u x)
+      look-less n = noted_less from u x unseen (gateway-some r.going.few r.gateway) n
+
+      pub look-notable : {looked looked' : List ℕ} {c c' : ℕ} {from' : List ℕ} → Notable looked c from → from' ≡ set from u x → NotedThen u looked c looked' c' → Notable looked' c' from'
+      look-notable n mark then = noted-notable from u x unseen (gateway-some r.going.few r.gateway) n mark then
+
+      pub look-back : {looked looked' : List ℕ} {c c' : ℕ} {from' : List ℕ} → Notable looked c from → from' ≡ set from u x → NotedThen u looked c looked' c' → taken_back c' looked' from' ≡ taken_back c looked from
+      look-back n mark then = noted-back from u x unseen (gateway-some r.going.few r.gateway) n mark then
 
       pub look-is-free : {t : ℕ} {b : Bool} {from' : List ℕ} → from' ≡ set from u x → t ≡ limit u → b ≡ row_has_place (row_at rows u) t → b ≡ true
-          → Is (Found u x) queue from' (look n limit hs x u (take tail queue) from)
+          → Is (Break (u, x)) tail queue from' (look n limit hs x u (take tail queue) from)
       look-is-free {t} mark most place free =
           let less : holds n (at hs) u < t = ltb-true _ _ (sym (table-place h r.going.few look-below t) ∙ sym place ∙ free) in
-          found-is (look-free n limit hs x u (take tail queue) from unseen (omega arith) ∙ ap (found u x) (sym mark))
+          found-is (look-free n limit hs x u (take tail queue) from unseen (omega arith) ∙ ap (found u x) (sym mark)) r.within
 
       pub look_is_full : {t tail' : ℕ} {b : Bool} {queue' from' : List ℕ} → from' ≡ set from u x → t ≡ limit u → b ≡ row_has_place (row_at rows u) t → b ≡ false
-          → Joined (row_at rows u) queue queue' tail tail' → Is (RanOut tail') queue' from' (look n limit hs x u (take tail queue) from)
+          → Joined (row_at rows u) queue queue' tail tail' → Is (Continue tt) tail' queue' from' (look n limit hs x u (take tail queue) from)
       look_is_full {t} mark most place taken j =
           let full : t ≤ holds n (at hs) u = ltb-false _ _ (sym (table-place h r.going.few look-below t) ∙ sym place ∙ taken) in
           more-is (look_full n limit hs x u (take tail queue) from unseen (omega arith) ∙ rw (j.state, mark, table-holds h r.going.few look-below)) j.within
@@ -113,8 +118,8 @@ module _
       visit_neighbour l is-u = rw (is-u, v.same.1) (d.below e (chain_there d.index below v.standing l).inside)
 
     module _
-        {queue from queue' from' : List ℕ} {end e u : ℕ} {w : Walked} (v : Visiting limit x ls rows queue₀ tail from₀ queue from end e) (l : e ≡ NONE → ⊥)
-        (is-u : u ≡ at ls e) (looks : ForEach rows (λ n hs. Ready n x hs queue end from) (λ n hs. Is w queue' from' (look n limit hs x u (take end queue) from)))
+        {queue from queue' from' : List ℕ} {end end' e u : ℕ} {w : Walked} (v : Visiting limit x ls rows queue₀ tail from₀ queue from end e) (l : e ≡ NONE → ⊥)
+        (is-u : u ≡ at ls e) (looks : ForEach rows (λ n hs. Ready n x hs queue end from) (λ n hs. Is w end' queue' from' (look n limit hs x u (take end queue) from)))
       where
         after : (neighbours (drop (2 * (e / 2)) ls) x ≡ at ls e ∷ neighbours (drop (2 * (at next e / 2)) ls) x) × Standing ls x (at next e) × (e < at next e)
         after = chain_next d.index below (chain_there d.index below v.standing l)
@@ -123,7 +128,7 @@ module _
           ready : Ready n x hs queue end from
           ready = (v.each n hs t r).ready
 
-          looked : Is w queue' from' (look n limit hs x u (take end queue) from)
+          looked : Is w end' queue' from' (look n limit hs x u (take end queue) from)
           looked = looks n hs t ready
 
           step : visit n limit hs x (neighbours (drop (2 * (at next e / 2)) ls) x) (look n limit hs x u (take end queue) from)
@@ -131,15 +136,15 @@ module _
           unfolding visit
           step = rw is-u (rw after.0 at (v.each n hs t r).rest)
 
-        pub visit-turn : {end' e' : ℕ} → w ≡ RanOut end' → (length queue' ≡ length queue) × (length from' ≡ length from) → e' ≡ at next e
+        pub visit-turn : {e' : ℕ} {on : Unit {0}} → w ≡ Continue on → (length queue' ≡ length queue) × (length from' ≡ length from) → e' ≡ at next e
             → (Visiting limit x ls rows queue₀ tail from₀ queue' from' end' e') × (NONE - e' < NONE - e)
-        visit-turn {end'} q long f = (
+        visit-turn {on = on} q long f = (
           rw f
               (record {
                 standing = after.1;
                 same = (long.0 ∙ v.same.0, long.1 ∙ v.same.1);
                 each = λ n hs t r.
-                    let is : Is (RanOut end') queue' from' (look n limit hs x u (take end queue) from) = rw q at (looked t r) in
+                    let is : Is (Continue on) end' queue' from' (look n limit hs x u (take end queue) from) = rw q at (looked t r) in
                     let same : look n limit hs x u (take end queue) from ≡ more (take end' queue') from' = more-state is in
                     let before : Ready n x hs queue end from = ready t r in
                     record {
@@ -147,7 +152,7 @@ module _
                         going = look-going limit before.going u x before.gateway same;
                         gateway = before.gateway;
                         places = omega (arith, before.places, long.0);
-                        within = more_within is;
+                        within = is.within;
                       };
                       rest = rw same at (step t r);
                     };
@@ -155,15 +160,15 @@ module _
           omega (arith, f, after.2, (visit-places v l).1, d.index.few),
         )
 
-        pub visit-ends : {y z : ℕ} → w ≡ Found y z
-            → ForEach rows (λ n hs. Ready n x hs queue₀ tail from₀) (λ n hs. Is (Found y z) queue' from' (visit n limit hs x (neighbours ls x) (more (take tail queue₀) from₀)))
+        pub visit-ends : {y z : ℕ} → w ≡ Break (y, z)
+            → ForEach rows (λ n hs. Ready n x hs queue₀ tail from₀) (λ n hs. Is (Break (y, z)) end' queue' from' (visit n limit hs x (neighbours ls x) (more (take tail queue₀) from₀)))
         visit-ends {y} {z} q n hs t r =
-            let is : Is (Found y z) queue' from' (look n limit hs x u (take end queue) from) = rw q at (looked t r) in
+            let is : Is (Break (y, z)) end' queue' from' (look n limit hs x u (take end queue) from) = rw q at (looked t r) in
             let rest : List ℕ = neighbours (drop (2 * (at next e / 2)) ls) x in
-            found-is (sym (step t r) ∙ ap (visit n limit hs x rest) (found-state is) ∙ visit-found n limit hs x rest)
+            found-is (sym (step t r) ∙ ap (visit n limit hs x rest) (found-state is) ∙ visit-found n limit hs x rest) is.within
 
-    pub visit_out : {queue from : List ℕ} {end e : ℕ} → Visiting limit x ls rows queue₀ tail from₀ queue from end e → e ≡ NONE
-        → ForEach rows (λ n hs. Ready n x hs queue₀ tail from₀) (λ n hs. Is (RanOut end) queue from (visit n limit hs x (neighbours ls x) (more (take tail queue₀) from₀)))
+    pub visit_out : {queue from : List ℕ} {end e : ℕ} {on : Unit {0}} → Visiting limit x ls rows queue₀ tail from₀ queue from end e → e ≡ NONE
+        → ForEach rows (λ n hs. Ready n x hs queue₀ tail from₀) (λ n hs. Is (Continue on) end queue from (visit n limit hs x (neighbours ls x) (more (take tail queue₀) from₀)))
     unfolding visit
-    visit_out {queue} {from} {end} {e} v l n hs t r =
+    visit_out {queue} {from} {end} {e} {on} v l n hs t r =
         let done = v.each n hs t r in more-is (sym (rw (chain-end d.index below l) at done.rest)) done.ready.within

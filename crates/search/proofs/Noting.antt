@@ -6,30 +6,20 @@ use mathlib.Core.List.{List}
 use native.Mathlib.Numerals.{add-one}
 use native.Mathlib.Omega.{arith}
 use lib.Dec.{eqb}
-use lib.ListN.{length, set, replicate, length-set, length-replicate}
-use lib.Seq.{ext_get_or, get_or-set_same, get_or-set_other, set-set}
+use lib.ListN.{length, set, take, replicate, length-set, length-replicate}
+use lib.Seq.{length-take-le, get_or-take, ext_get_or, get_or-set_same, get_or-set_other, set-set}
 use borrow.Author.Tests.{eqb-true, eqb-false, not-false}
 use Rattle.packing.specs.Count.{count}
 use Rattle.packing.specs.Plant.{NONE, GATEWAYS, at}
 use Rattle.packing.proofs.Tests.{by_bool}
 use Rattle.packing.proofs.Sums.{count_bound}
 use Rattle.search.specs.Search.{seen}
-use Rattle.search.specs.Noted.{NotedThen, taken_back, unseen_count, Notable, Noted}
+use Rattle.search.specs.Noted.{taken_back, AllMarked, unseen_count, Notable}
 use Rattle.search.proofs.States.{unseen-below, unseen_falls}
 
--- nothing noted, and notes after notes
-pub noted_same : {looked : List ℕ} {c : ℕ} {from : List ℕ} → Notable looked c from → Noted looked c from looked c from
-noted_same n = record { notable = n; back = refl }
-
-pub noted_then : {l₀ l₁ l₂ : List ℕ} {c₀ c₁ c₂ : ℕ} {f₀ f₁ f₂ : List ℕ} → Noted l₀ c₀ f₀ l₁ c₁ f₁ → Noted l₁ c₁ f₁ l₂ c₂ f₂ → Noted l₀ c₀ f₀ l₂ c₂ f₂
-noted_then a b = record { notable = b.notable; back = b.back ∙ a.back }
-
--- .. in lists of one length, as a loop leaves them
-abbrev pub NotedSo : List ℕ → ℕ → List ℕ → List ℕ → ℕ → List ℕ → Type 0
-NotedSo l₀ c₀ f₀ l c f = (length l ≡ length l₀) × Noted l₀ c₀ f₀ l c f
-
-pub noted-on : {l₀ l l' : List ℕ} {c₀ c c' : ℕ} {f₀ f f' : List ℕ} → NotedSo l₀ c₀ f₀ l c f → length l' ≡ length l → Noted l c f l' c' f' → NotedSo l₀ c₀ f₀ l' c' f'
-noted-on so long more = (long ∙ so.0, noted_then so.1 more)
+-- one more noted behind the first c
+abbrev pub NotedThen : ℕ → List ℕ → ℕ → List ℕ → ℕ → Type 0
+NotedThen u looked c looked' c' = (looked' ≡ set looked c u) × (c' ≡ c + 1)
 
 -- what stands behind the first c is not looked at
 back-front : (c : ℕ) (looked : List ℕ) (i u : ℕ) (from : List ℕ) → c ≤ i → taken_back c (set looked i u) from ≡ taken_back c looked from
@@ -66,19 +56,24 @@ module _ (from : List ℕ) (u x : ℕ) (e : seen from u ≡ false) (some : x ≡
   pub noted-room : {looked : List ℕ} {c : ℕ} → Notable looked c from → c < length looked
   noted-room n = omega (arith, n.room, fewer)
 
+  -- .. also once it is marked, ..
+  pub noted_less : {looked : List ℕ} {c : ℕ} → Notable looked c from → Notable looked c (set from u x)
+  noted_less n = record { inside = λ i l. rw length-set (n.inside i l); room = omega (arith, n.room, fewer) }
+
   -- .. and a look that marks it notes it
-  pub noted-mark : {looked looked' : List ℕ} {c c' : ℕ} {from' : List ℕ} → Notable looked c from → from' ≡ set from u x → NotedThen u looked c looked' c' → Noted looked c from looked' c' from'
-  noted-mark {looked} {looked'} {c} {c'} n mark (note, one) =
-      rw (mark, note, one)
-      (record {
-        notable = record {
+  module _ {looked looked' : List ℕ} {c c' : ℕ} {from' : List ℕ} (n : Notable looked c from) (mark : from' ≡ set from u x) (then : NotedThen u looked c looked' c') where
+    pub noted-notable : Notable looked' c' from'
+    noted-notable =
+        rw (mark, then.0, then.1)
+        (record {
           inside = λ i l.
               by_bool (eqb i c) (λ q. rw (length-set, eqb-true i c q, get_or-set_same looked c u 0 (noted-room n)) below)
               (λ q. let other = eqb-false i c q in rw (length-set, get_or-set_other looked c i u 0 other) (n.inside i (omega arith)));
           room = rw length-set (omega (arith, n.room, fewer));
-        };
-        back = rw add-one (back-first looked c (noted-room n));
-      })
+        })
+
+    pub noted-back : taken_back c' looked' from' ≡ taken_back c looked from
+    noted-back = rw (mark, then.0, then.1, add-one) (back-first looked c (noted-room n))
 
 -- nobody noted yet, and room for all
 pub notable-start : (looked from : List ℕ) → length from ≤ length looked → Notable looked 0 from
@@ -105,9 +100,25 @@ module _ (looked : List ℕ) (c : ℕ) (from₀ : List ℕ) where
       record { within = omega (arith, t.within); same = rw (now, length-set) t.same; rest = rw (now, is) (rw one at t.rest) }
 
   -- whose mark is taken back has one
-  pub back-place : {from : List ℕ} {i j : ℕ} → Notable looked c from₀ → TakingBack looked c from₀ from i → i ≡ suc j → at looked j < length from
-  back-place {j = j} n t one = rw t.same (n.inside j (omega (arith, t.within)))
+  pub back-place : {from : List ℕ} {i j : ℕ} → ((i : ℕ) → i < c → at looked i < length from₀) → TakingBack looked c from₀ from i → i ≡ suc j → at looked j < length from
+  back-place {j = j} inside t one = rw t.same (inside j (omega (arith, t.within)))
 
   pub back_end : {from : List ℕ} {i : ℕ} → TakingBack looked c from₀ from i → i ≡ 0 → from ≡ taken_back c looked from₀
   unfolding taken_back
   back_end t none = rw none at t.rest
+
+-- of a list only the first c count
+back-same : (c : ℕ) (looked looked' from : List ℕ) → ((i : ℕ) → i < c → at looked i ≡ at looked' i) → taken_back c looked from ≡ taken_back c looked' from
+unfolding taken_back
+back-same zero looked looked' from same = refl
+back-same (suc c) looked looked' from same = rw (same c (omega arith)) (back-same c looked looked' (set from (at looked' c) NONE) (λ i l. same i (omega (arith, l))))
+
+module _ {looked : List ℕ} {c : ℕ} {from : List ℕ} (n : Notable looked c from) where
+  noted-length : length (take c looked) ≡ c
+  noted-length = length-take-le c looked (omega (arith, n.room))
+
+  pub noted-marked : AllMarked (take c looked) from
+  noted-marked i l = rw (get_or-take c looked i 0 (rw noted-length at l)) (n.inside i (rw noted-length at l))
+
+  pub back-noted : {from' : List ℕ} → from' ≡ taken_back (length (take c looked)) (take c looked) from → from' ≡ taken_back c looked from
+  back-noted e = (rw noted-length at e) ∙ back-same c (take c looked) looked from (λ i l. get_or-take c looked i 0 l)

@@ -1,27 +1,25 @@
 -- The tests and loops that write what the walk from one gateway reaches.
-use Prim.Native.Nat.{ℕ, ◌<◌, ◌≤◌}
+use Prim.Native.Nat.{ℕ, ◌≤◌}
 use mathlib.Core.Path.{◌≡◌, refl, sym, ap, ◌∙◌}
 use mathlib.Core.Bool.{Bool, true, false, not, ◌&&◌}
 use mathlib.Core.List.{List, [], ◌∷◌}
-use native.Mathlib.Omega.{arith}
 use lib.Dec.{leb}
 use lib.ListN.{length, set, take, replicate, length-replicate}
-use borrow.Author.Tests.{eq-eqb, ne_eqb, le-ltb, lt-ltb, leb-true, le-leb, not-true, not-false}
+use Rattle.std.specs.Prelude.{Option, None, Some}
+use borrow.Author.Tests.{leb-true, le-leb, not-true, not-false}
 use Rattle.packing.specs.Count.{count}
-use Rattle.packing.specs.Lists.{list_where, written, Lent}
+use Rattle.packing.specs.Lists.{list_where, written}
 use Rattle.packing.specs.Plant.{NONE, GATEWAYS, at}
 use Rattle.packing.proofs.Tests.{and_l, and_r}
-use Rattle.packing.proofs.Sums.{count_bound}
 use Rattle.packing.proofs.Lists.{list_where-length, list_where_ext}
 use Rattle.search.specs.Search.{seen, placeable}
-use Rattle.search.specs.declared.Walked.{Walked}
 use Rattle.search.specs.declared.reached.Reached.{Reached}
 use Rattle.search.specs.Table.{held_table}
 use Rattle.search.specs.Dead.{walk_past}
-use Rattle.search.specs.Pre.{ForEach, Is, Placeable, Walkable, Settleable}
+use Rattle.search.specs.Pre.{Walked, ForEach, Is, Placeable, Walkable, Settleable}
 use Rattle.search.specs.ChokeSet.{choke_walk, walk_saw}
-use Rattle.search.specs.Reached.{queued_from, seen_from, set_written, reachable, reached_answer, queued_written, seen_written}
-use Rattle.search.specs.ReachedPre.{Unmarked, Marked, joined, Sets, both_counted}
+use Rattle.search.specs.Reached.{queued_from, seen_from, set_written, reachable, both_counted, reached_answer, queued_written, seen_written}
+use Rattle.search.specs.ReachedPre.{Unmarked, Marked, joined, Sets}
 use Rattle.search.proofs.Rows.{take-replicate, rows_whole}
 use Rattle.search.proofs.States.{none-marked, going_start, placeable_startable}
 use Rattle.search.proofs.Settling.{settle_walked}
@@ -29,36 +27,22 @@ use Rattle.search.proofs.Seen.{walked_seen, zero-walk}
 use Rattle.search.proofs.Tested.{placeable_means, placeable-holds}
 use Rattle.search.proofs.FromOne.{queued-joined}
 
--- whether x joined the queue, test by test
-module _ (n v : ℕ) (hs from : List ℕ) (x : ℕ) where
-  pub joined-mine : x ≡ v → true ≡ joined n hs v from x
-  unfolding joined
-  joined-mine e = rw (eq-eqb x v e)
-
-  pub joined_free : {u : ℕ} → (x ≡ v → ⊥) → u ≡ at hs x → n ≤ u → false ≡ joined n hs v from x
-  unfolding joined
-  joined_free {u} other e l = rw (ne_eqb x v other, ← e, le-ltb u n l)
-
-  pub joined-held : {u : ℕ} {r : Bool} → (x ≡ v → ⊥) → u ≡ at hs x → u < n → r ≡ seen from u → r ≡ joined n hs v from x
-  unfolding joined
-  joined-held {u} other e l m = m ∙ rw (ne_eqb x v other, ← e, lt-ltb u n l)
-
--- there is a place for each of a set
-pub set_room : (n : ℕ) (p : ℕ → Bool) {read out : List ℕ} → Lent n read out → length (list_where n p) ≤ length out
-set_room n p r = omega (arith, list_where-length n p, count_bound n p, r.places)
-
 -- the walk from v: a queue that starts with v, and nobody marked
 module _ {n : ℕ} {hs : List ℕ} {v : ℕ} {from queue : List ℕ} {rows : List (List ℕ)} (u : Unmarked n hs v from) (zeros : queue ≡ replicate GATEWAYS 0) (table : rows ≡ held_table n hs) where
   pub from_settles : Settleable n hs v rows queue from
   from_settles = record { free = u.free; table = rows_whole u.free.few table; places = rw (zeros, length-replicate) u.free.few; going = rw u.unseen (going_start (placeable_startable u.free)) }
 
   -- those marked after it are those seen
-  pub from-marks : (limits ls : List ℕ) {r : Walked} {queue' from' : List ℕ}
-      → ForEach rows (λ k l. Walkable k l (set queue 0 v) 1 from) (λ k l. Is r queue' from' (walk_past k (at limits) ls l (take 1 (set queue 0 v)) from)) → limits ≡ replicate GATEWAYS 0
+  pub from-marks : (limits ls : List ℕ) {r : Walked} {end : ℕ} {queue' from' : List ℕ}
+      → ForEach rows (λ k l. Walkable k l (set queue 0 v) 1 from) (λ k l. Is r end queue' from' (walk_past k (at limits) ls l (take 1 (set queue 0 v)) from)) → limits ≡ replicate GATEWAYS 0
       → length from' ≡ length from → Marked n ls hs v from'
   unfolding seen_from walk_saw choke_walk
-  from-marks limits ls {r} {queue'} {from'} each none same =
-      record { marks = same ∙ none-marked u.unseen; saw = walked_seen r queue' from' ((settle_walked (at limits) ls from_settles each).state ∙ zero-walk n limits ls hs (v ∷ []) from none u.unseen) }
+  from-marks limits ls {r} {end} {queue'} {from'} each none same =
+      record { marks = same ∙ none-marked u.unseen; saw = walked_seen r end queue' from' ((settle_walked (at limits) ls from_settles each).state ∙ zero-walk n limits ls hs (v ∷ []) from none u.unseen) }
+
+-- .. in a list that ends as that one
+pub marked-as : {n : ℕ} {ls hs : List ℕ} {v : ℕ} {from from' : List ℕ} → Marked n ls hs v from → from' ≡ from → Marked n ls hs v from'
+marked-as m e = rw e m
 
 -- whether the sets may be written: what the test says, and what it takes
 module _ (n : ℕ) (hs : List ℕ) (v room room' : ℕ) where
@@ -72,15 +56,6 @@ module _ (n : ℕ) (hs : List ℕ) (v room room' : ℕ) where
   unfolding reachable
   reachable-holds p l l' = rw (placeable-holds p, le-leb n room l, le-leb n room' l')
 
-  module _ {b : Bool} (e : b ≡ placeable n hs v) where
-    pub reachable-not : not b ≡ true → false ≡ reachable n hs v room room'
-    unfolding reachable
-    reachable-not f = rw (sym e ∙ not-true b f)
-
-    pub reachable-room : {r : Bool} → not b ≡ false → r ≡ (leb n room && leb n room') → r ≡ reachable n hs v room room'
-    unfolding reachable
-    reachable-room f q = q ∙ rw (sym e ∙ not-false b f)
-
 -- the loops write the sets
 set-listed : (n : ℕ) (p q : ℕ → Bool) (out : List ℕ) {c : ℕ} {new : List ℕ} → list_where n p ≡ list_where n q → (c ≡ length (list_where n p)) × (new ≡ written c (list_where n p) out)
     → (c ≡ count n q) × (new ≡ set_written n q out)
@@ -90,11 +65,11 @@ set-listed n p q out same (long, is) = let number = long ∙ ap length same ∙ 
 pub sets_written : {n : ℕ} (ls : List ℕ) {hs : List ℕ} {v : ℕ} {from queued seen₀ from' queued' seen' : List ℕ} {c d : ℕ} → Sets n hs v from queued seen₀ → Marked n ls hs v from'
     → (c ≡ length (list_where n (joined n hs v from'))) × (queued' ≡ written c (list_where n (joined n hs v from')) queued)
     → (d ≡ length (list_where n (seen from'))) × (seen' ≡ written d (list_where n (seen from')) seen₀)
-    → (◌≡◌ {A = Reached} (record { done = true; queued = c; seen = d }) (both_counted n ls hs v)) × ((queued' ≡ set_written n (queued_from n ls hs v) queued) × (seen' ≡ set_written n (seen_from n ls hs v) seen₀))
+    → (◌≡◌ {A = Reached} (record { queued = c; seen = d }) (both_counted n ls hs v)) × ((queued' ≡ set_written n (queued_from n ls hs v) queued) × (seen' ≡ set_written n (seen_from n ls hs v) seen₀))
 sets_written {n} ls {hs} {v} {queued = queued} {seen₀ = seen₀} {from' = from'} s m first second =
     let (number, list) = set-listed n (joined n hs v from') (queued_from n ls hs v) queued (list_where_ext n (joined n hs v from') (queued_from n ls hs v) (queued-joined ls s.unmarked.free from' m.saw)) first in
     let (number', list') = set-listed n (seen from') (seen_from n ls hs v) seen₀ (list_where_ext n (seen from') (seen_from n ls hs v) (λ u l. m.saw u)) second in
-    ((λ i. record { done = true; queued = number i; seen = number' i }), (list, list'))
+    ((λ i. record { queued = number i; seen = number' i }), (list, list'))
 
 -- the call, by the test's answer
 module _ (n : ℕ) (hs : List ℕ) (v : ℕ) (queued seen₀ : List ℕ) {b : Bool} (e : b ≡ reachable n hs v (length queued) (length seen₀)) where
@@ -107,19 +82,19 @@ module _ (n : ℕ) (hs : List ℕ) (v : ℕ) (queued seen₀ : List ℕ) {b : Bo
       record { unmarked = record { free = free; unseen = rw unseen (take-replicate n GATEWAYS NONE free.few) }; room = room; room' = room' }
 
   pub reached_refuses : (ls : List ℕ) → not b ≡ true
-      → (◌≡◌ {A = Reached} (record { done = false; queued = 0; seen = 0 }) (reached_answer n ls hs v (length queued) (length seen₀))) × ((queued ≡ queued_written n ls hs v queued seen₀) × (seen₀ ≡ seen_written n ls hs v queued seen₀))
+      → (None ≡ reached_answer n ls hs v (length queued) (length seen₀)) × ((queued ≡ queued_written n ls hs v queued seen₀) × (seen₀ ≡ seen_written n ls hs v queued seen₀))
   unfolding queued_written seen_written
   reached_refuses ls f = let no : reachable n hs v (length queued) (length seen₀) ≡ false = sym e ∙ not-true b f in rw no (refl, (refl, refl))
 
   pub reached_writes : (ls : List ℕ) {r : Reached} {queued' seen' : List ℕ} → not b ≡ false
       → (r ≡ both_counted n ls hs v) × ((queued' ≡ set_written n (queued_from n ls hs v) queued) × (seen' ≡ set_written n (seen_from n ls hs v) seen₀))
-      → (r ≡ reached_answer n ls hs v (length queued) (length seen₀)) × ((queued' ≡ queued_written n ls hs v queued seen₀) × (seen' ≡ seen_written n ls hs v queued seen₀))
+      → (Some r ≡ reached_answer n ls hs v (length queued) (length seen₀)) × ((queued' ≡ queued_written n ls hs v queued seen₀) × (seen' ≡ seen_written n ls hs v queued seen₀))
   unfolding queued_written seen_written
-  reached_writes ls f is = let may : reachable n hs v (length queued) (length seen₀) ≡ true = sym e ∙ not-false b f in rw may is
+  reached_writes ls f is = let may : reachable n hs v (length queued) (length seen₀) ≡ true = sym e ∙ not-false b f in rw may (ap Some is.0, is.1)
 
 -- where the sets may be written, they are
-pub reached_done : (n : ℕ) (ls hs : List ℕ) (v : ℕ) (queued seen₀ : List ℕ) {r : Reached} {queued' seen' : List ℕ} → Placeable n hs v → n ≤ length queued → n ≤ length seen₀
+pub reached_done : (n : ℕ) (ls hs : List ℕ) (v : ℕ) (queued seen₀ : List ℕ) {r : Option Reached} {queued' seen' : List ℕ} → Placeable n hs v → n ≤ length queued → n ≤ length seen₀
     → (r ≡ reached_answer n ls hs v (length queued) (length seen₀)) × ((queued' ≡ queued_written n ls hs v queued seen₀) × (seen' ≡ seen_written n ls hs v queued seen₀))
-    → (r ≡ both_counted n ls hs v) × ((queued' ≡ set_written n (queued_from n ls hs v) queued) × (seen' ≡ set_written n (seen_from n ls hs v) seen₀))
+    → (r ≡ Some (both_counted n ls hs v)) × ((queued' ≡ set_written n (queued_from n ls hs v) queued) × (seen' ≡ set_written n (seen_from n ls hs v) seen₀))
 unfolding queued_written seen_written
 reached_done n ls hs v queued seen₀ p l l' is = rw (reachable-holds n hs v (length queued) (length seen₀) p l l') at is

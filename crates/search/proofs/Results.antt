@@ -2,31 +2,26 @@
 use Prim.Native.Nat.{ℕ, ◌≤◌}
 use mathlib.Core.Path.{◌≡◌, sym}
 use mathlib.Core.List.{List}
-use native.Mathlib.Omega.{arith}
 use lib.ListN.{length, take}
 use Rattle.search.specs.Search.{Search, found, more}
-use Rattle.search.specs.declared.Walked.TheVariants.{Found, RanOut}
-use Rattle.search.specs.Pre.{ForSome, ForEach, as_search, queued, Is}
+use Rattle.std.specs.declared.ops.ControlFlow.TheVariants.{Break, Continue}
+use Rattle.search.specs.Pre.{ForSome, ForEach, as_search, Is}
 
 -- a state read from a result and the lent lists
-pub found-state : {u x : ℕ} {queue from : List ℕ} {s : Search} → Is (Found u x) queue from s → s ≡ found u x from
+pub found-state : {u x tail : ℕ} {queue from : List ℕ} {s : Search} → Is (Break (u, x)) tail queue from s → s ≡ found u x from
 unfolding as_search
 found-state i = sym i.state
 
-pub more-state : {tail : ℕ} {queue from : List ℕ} {s : Search} → Is (RanOut tail) queue from s → s ≡ more (take tail queue) from
+pub more-state : {on : Unit {0}} {tail : ℕ} {queue from : List ℕ} {s : Search} → Is (Continue on) tail queue from s → s ≡ more (take tail queue) from
 unfolding as_search
 more-state i = sym i.state
 
-pub more_within : {tail : ℕ} {queue from : List ℕ} {s : Search} → Is (RanOut tail) queue from s → tail ≤ length queue
-unfolding queued
-more_within i = i.within
+pub found-is : {u x tail : ℕ} {queue from : List ℕ} {s : Search} → s ≡ found u x from → tail ≤ length queue → Is (Break (u, x)) tail queue from s
+unfolding as_search
+found-is e l = record { state = sym e; within = l }
 
-pub found-is : {u x : ℕ} {queue from : List ℕ} {s : Search} → s ≡ found u x from → Is (Found u x) queue from s
-unfolding as_search queued
-found-is e = record { state = sym e; within = omega arith }
-
-pub more-is : {tail : ℕ} {queue from : List ℕ} {s : Search} → s ≡ more (take tail queue) from → tail ≤ length queue → Is (RanOut tail) queue from s
-unfolding as_search queued
+pub more-is : {on : Unit {0}} {tail : ℕ} {queue from : List ℕ} {s : Search} → s ≡ more (take tail queue) from → tail ≤ length queue → Is (Continue on) tail queue from s
+unfolding as_search
 more-is e l = record { state = sym e; within = l }
 
 -- Some holders that the table is of have what is required: then they have what all such holders are given.

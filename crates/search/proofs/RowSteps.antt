@@ -5,20 +5,12 @@ use mathlib.Core.List.{List, [], ◌∷◌, ◌++◌, append-nil}
 use native.Mathlib.Nat.{add-zero}
 use native.Mathlib.Numerals.{add-one}
 use native.Mathlib.Omega.{arith}
-use lib.ListN.{length, set, take, drop, get_or, length-set, take-append-drop, drop_of_length-le, get_or-eq_default}
+use lib.ListN.{length, set, take, drop, get_or, length-set, take-append-drop, drop_of_length-le}
 use lib.Seq.{take-suc, take-suc-set, take_all, drop-cons, drop-set-lt, append_snoc, get_or-drop, set_out}
 use borrow.Author.Tests.{eq-eqb, ne_eqb, lt-ltb, le-ltb}
 use Rattle.packing.specs.Plant.{NONE, at}
 use Rattle.search.specs.Table.{row_at}
 use Rattle.search.specs.RowPre.{raised, pushed, exchanged, exchanged_row, moved_rows, Taken}
-use Rattle.search.proofs.Rows.{default_below}
-
--- the number at a place, and 65535 past the end
-pub number_past : (row : List ℕ) (i : ℕ) → length row ≤ i → NONE ≡ get_or row i NONE
-number_past row i l = sym (get_or-eq_default row NONE {n = i} l)
-
-pub number_there : (row : List ℕ) (i : ℕ) → i < length row → at row i ≡ get_or row i NONE
-number_there row i l = default_below row i 0 NONE l
 
 -- The row so far, of which the first i places are done, and f is yet to be made of the others. At the end nothing is left.
 all_done : (f : List ℕ → List ℕ) → f [] ≡ [] → (row whole : List ℕ) (i : ℕ) → length row ≤ i → take i row ++ f (drop i row) ≡ whole → row ≡ whole

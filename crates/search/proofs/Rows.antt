@@ -2,11 +2,10 @@
 use Prim.Native.Nat.{ℕ, zero, suc, ◌+◌, ◌-◌, ◌<◌, ◌≤◌}
 use mathlib.Core.Path.{◌≡◌, refl, sym, ap, ◌∙◌}
 use mathlib.Core.Logic.{⊎_elim}
-use mathlib.Core.Bool.{true, false}
 use mathlib.Core.List.{List, [], ◌∷◌, ◌++◌, map}
 use native.Mathlib.Omega.{arith}
 use lib.Dec.{eqb, ltb}
-use lib.ListN.{length, set, take, get_or, replicate, length-set, length-map, length-append, length-replicate, get_or-replicate, get_or-map, get_or-append, get_or-eq_default}
+use lib.ListN.{length, set, take, get_or, replicate, length-set, length-map, length-append, length-replicate, get_or-replicate, get_or-map, get_or-append}
 use lib.Seq.{ext_get_or, get_or-set_same, get_or-set_other, length-take-le, get_or-take, take_all, take-append-add, take-append_seam, get_or-append-add}
 use borrow.Author.Tests.{eqb-true, eqb-false, eq-eqb, ne_eqb, lt-ltb, le-ltb, ltb-true, ltb-false}
 use Rattle.packing.specs.Count.{count}
@@ -123,21 +122,6 @@ padded_place l k (suc t) h =
     behind q =
         let there : t ≡ length l + (t - length l) = omega arith in
         ap (λ (i : ℕ). get_or (l ++ replicate k NONE) i NONE) there ∙ get_or-append-add l (replicate k NONE) (t - length l) NONE ∙ replicate-all k (t - length l) NONE
-
--- what the test of a row answers, by the limit and the row's length
-module _ (row : List ℕ) where
-  pub place_none : {limit : ℕ} → limit ≡ 0 → false ≡ row_has_place row limit
-  unfolding row_has_place
-  place_none e = rw e
-
-  module _ {limit : ℕ} (some : limit ≡ 0 → ⊥) where
-    pub place-past : length row ≤ limit - 1 → true ≡ row_has_place row limit
-    unfolding row_has_place
-    place-past l = rw (lt-ltb 0 limit (omega arith), get_or-eq_default row NONE {n = limit - 1} l)
-
-    pub place_last : limit - 1 < length row → eqb (at row (limit - 1)) NONE ≡ row_has_place row limit
-    unfolding row_has_place
-    place_last l = rw (lt-ltb 0 limit (omega arith)) (ap (λ (v : ℕ). eqb v NONE) (default_below row (limit - 1) 0 NONE l))
 
 -- what u holds is no 65535
 held-some : {n : ℕ} (hs : List ℕ) (u i : ℕ) → n ≤ GATEWAYS → i < length (held_by n hs u) → at (held_by n hs u) i ≡ NONE → ⊥

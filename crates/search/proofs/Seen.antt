@@ -1,21 +1,20 @@
 -- From the lists that the walk works in to the choke bytes.
 use Prim.Native.Nat.{ℕ, ◌≤◌}
-use mathlib.Core.Path.{◌≡◌, ap, fun_ext, ◌∙◌}
-use mathlib.Core.Bool.{Bool, not}
+use mathlib.Core.Path.{◌≡◌, refl, ap, fun_ext, ◌∙◌}
+use mathlib.Core.Bool.{Bool, true, false, not}
 use mathlib.Core.List.{List}
 use native.Mathlib.Omega.{arith}
 use lib.Dec.{eqb}
 use lib.ListN.{length, take, replicate}
-use borrow.Author.Tests.{eq-eqb, ne_eqb}
+use Rattle.std.specs.Int.{from_bool}
 use Rattle.packing.specs.Count.{pick}
 use Rattle.packing.specs.Lists.{list_of, written}
 use Rattle.packing.specs.Plant.{NONE, GATEWAYS, at, common}
 use Rattle.search.specs.Search.{Search, seen, walk}
-use Rattle.search.specs.declared.Walked.{Walked}
-use Rattle.search.specs.declared.Walked.TheVariants.{Found, RanOut}
+use Rattle.std.specs.declared.ops.ControlFlow.TheVariants.{Break, Continue}
 use Rattle.search.specs.Table.{held_table}
 use Rattle.search.specs.Dead.{walk_past}
-use Rattle.search.specs.Pre.{ForSome, ForEach, as_search, Is, Walkable}
+use Rattle.search.specs.Pre.{Walked, ForSome, ForEach, as_search, Is, Walkable}
 use Rattle.search.specs.ChokeSet.{without_holder, choke_walk, seen_in, walk_saw, in_choke, choke_byte}
 use Rattle.search.specs.ChokePre.{Queued, Workable, seen_byte}
 use Rattle.packing.proofs.Lists.{list_of_ext, zero-at}
@@ -25,22 +24,20 @@ use Rattle.search.proofs.Settling.{workspace}
 use Rattle.search.proofs.States.{none-marked, going_start}
 use Rattle.search.proofs.Unheld.{unheld_startable}
 
--- a byte of one that is not seen, and of one that is
-pub byte_none : {k : ℕ} → k ≡ NONE → 0 ≡ pick (not (eqb k NONE)) 1
-byte_none {k} e = rw (eq-eqb k NONE e)
+-- the byte of a test
+byte-is : (b : Bool) → from_bool b ≡ pick b 1
+byte-is true = refl
+byte-is false = refl
 
-pub byte_some : {k : ℕ} → (k ≡ NONE → ⊥) → 1 ≡ pick (not (eqb k NONE)) 1
-byte_some {k} e = rw (ne_eqb k NONE e)
-
-pub byte_seen : (from : List ℕ) (v : ℕ) {x : ℕ} → x ≡ pick (not (eqb (at from v) NONE)) 1 → x ≡ seen_byte from v
+pub byte_seen : (from : List ℕ) (v : ℕ) {x : ℕ} → x ≡ from_bool (not (eqb (at from v) NONE)) → x ≡ seen_byte from v
 unfolding seen_byte
-byte_seen from v e = e
+byte_seen from v e = e ∙ byte-is (not (eqb (at from v) NONE))
 
 -- whoever is seen in the lent list is seen in the walk that it comes from
-pub walked_seen : (r : Walked) (queue from : List ℕ) {s : Search} → as_search r queue from ≡ s → (v : ℕ) → seen from v ≡ seen_in s v
+pub walked_seen : (r : Walked) (tail : ℕ) (queue from : List ℕ) {s : Search} → as_search r tail queue from ≡ s → (v : ℕ) → seen from v ≡ seen_in s v
 unfolding as_search seen_in
-walked_seen (Found u x) queue from e v = ap (λ (t : Search). seen_in t v) e
-walked_seen (RanOut tail) queue from e v = ap (λ (t : Search). seen_in t v) e
+walked_seen (Break (u, x)) tail queue from e v = ap (λ (t : Search). seen_in t v) e
+walked_seen (Continue on) tail queue from e v = ap (λ (t : Search). seen_in t v) e
 
 -- with a list of zeros for limits the walk is the one that takes nothing
 zero-limits : at (replicate GATEWAYS 0) ≡ common 0
@@ -73,15 +70,15 @@ module _ {n : ℕ} {rows : List (List ℕ)} {hs queue from out queue' : List ℕ
   set-places same = omega (arith, marks-long same, w.lent.places)
 
   -- the bytes of those seen in a walk with limits of 0 are the choke bytes
-  pub set-written : (limits ls : List ℕ) {r : Walked} {queue'' from' new : List ℕ}
-      → ForEach rows (λ k l. Walkable k l queue' tail from) (λ k l. Is r queue'' from' (walk_past k (at limits) ls l (take tail queue') from)) → limits ≡ replicate GATEWAYS 0
+  pub set-written : (limits ls : List ℕ) {r : Walked} {end : ℕ} {queue'' from' new : List ℕ}
+      → ForEach rows (λ k l. Walkable k l queue' tail from) (λ k l. Is r end queue'' from' (walk_past k (at limits) ls l (take tail queue') from)) → limits ≡ replicate GATEWAYS 0
       → length queue' ≡ length queue → length from' ≡ length from → new ≡ written (length from') (list_of (length from') (seen_byte from')) out → new ≡ written n (list_of n (choke_byte n ls hs)) out
   unfolding choke_byte in_choke walk_saw choke_walk seen_byte
-  set-written limits ls {r} {queue''} {from'} each none long same e =
+  set-written limits ls {r} {end} {queue''} {from'} each none long same e =
       let d = each n hs w.table (set_walkable long) in
       (rw (marks-long same) at e)
       ∙ ap (λ (l : List ℕ). written n l out)
-      (list_of_ext n (seen_byte from') (choke_byte n ls hs) (λ v l. ap (λ (b : Bool). pick b 1) (walked_seen r queue'' from' (d.state ∙ same_walk) v)))
+      (list_of_ext n (seen_byte from') (choke_byte n ls hs) (λ v l. ap (λ (b : Bool). pick b 1) (walked_seen r end queue'' from' (d.state ∙ same_walk) v)))
     where
       same_walk : walk_past n (at limits) ls hs (take tail queue') from ≡ choke_walk n ls hs (without_holder n hs)
       same_walk = rw q.state (zero-walk n limits ls hs (without_holder n hs) from none w.space.unseen)

@@ -8,12 +8,11 @@ use Rattle.packing.specs.Plant.{NONE, GATEWAYS, at}
 use Rattle.packing.specs.Moved.{moved}
 use Rattle.packing.proofs.Moved.{moved_none}
 use Rattle.search.specs.Search.{walk, shift, settled, placed_holders}
-use Rattle.search.specs.declared.Walked.{Walked}
-use Rattle.search.specs.declared.Walked.TheVariants.{Found, RanOut}
+use Rattle.std.specs.declared.ops.ControlFlow.TheVariants.{Break, Continue}
 use Rattle.search.specs.Table.{held_table}
 use Rattle.search.specs.Dead.{walk_past}
 use Rattle.search.specs.RowPre.{RowsKept}
-use Rattle.search.specs.Pre.{takings, TableOf, ForSome, ForEach, Is, Workspace, Walkable, Placeable, Settleable, Outcome}
+use Rattle.search.specs.Pre.{Walked, takings, TableOf, ForSome, ForEach, Is, Workspace, Walkable, Placeable, Settleable, Outcome}
 use Rattle.search.proofs.Rows.{take-replicate, rows_whole}
 use Rattle.search.proofs.States.{by_state, going_start, placeable_startable}
 use Rattle.search.proofs.Results.{found-state, more-state}
@@ -40,22 +39,22 @@ module _ {n : ℕ} {hs : List ℕ} {v : ℕ} {rows : List (List ℕ)} {queue fro
   settle_some = record { n = n; hs = hs; table = settle_table; has = settle_walkable }
 
 module _
-    {n : ℕ} (limit : ℕ → ℕ) (ls : List ℕ) {hs : List ℕ} {v : ℕ} {rows : List (List ℕ)} {queue from queue' from' : List ℕ} {w : Walked}
+    {n : ℕ} (limit : ℕ → ℕ) (ls : List ℕ) {hs : List ℕ} {v : ℕ} {rows : List (List ℕ)} {queue from queue' from' : List ℕ} {tail : ℕ} {w : Walked}
     (s : Settleable n hs v rows queue from)
-    (d : ForEach rows (λ k l. Walkable k l (set queue 0 v) 1 from) (λ k l. Is w queue' from' (walk_past k limit ls l (take 1 (set queue 0 v)) from)))
+    (d : ForEach rows (λ k l. Walkable k l (set queue 0 v) 1 from) (λ k l. Is w tail queue' from' (walk_past k limit ls l (take 1 (set queue 0 v)) from)))
   where
-    pub settle_walked : Is w queue' from' (walk_past n limit ls hs (v ∷ []) from)
+    pub settle_walked : Is w tail queue' from' (walk_past n limit ls hs (v ∷ []) from)
     settle_walked = rw (first-set queue v (omega (arith, s.places, s.free.inside))) at (d n hs (settle_table s) (settle_walkable s))
 
-    pub settle_kept : {u x r : ℕ} {hs' : List ℕ} (rows' : List (List ℕ)) → w ≡ Found u x
+    pub settle_kept : {u x r : ℕ} {hs' : List ℕ} (rows' : List (List ℕ)) → w ≡ Break (u, x)
         → (hs' ≡ shift n v from' u x hs) × ((r ≡ takings n v from' u x hs) × RowsKept n v from' u x hs rows rows')
         → Outcome n v hs (walk_past n limit ls hs (v ∷ []) from) r hs' from' rows rows'
     unfolding Outcome
-    settle_kept {u} {x} rows' q shifted = let is : Is (Found u x) queue' from' (walk_past n limit ls hs (v ∷ []) from) = rw q at settle_walked in rw (found-state is) (shifted.0, shifted.1.0, shifted.1.1, refl)
+    settle_kept {u} {x} rows' q shifted = let is : Is (Break (u, x)) tail queue' from' (walk_past n limit ls hs (v ∷ []) from) = rw q at settle_walked in rw (found-state is) (shifted.0, shifted.1.0, shifted.1.1, refl)
 
-    pub settle_left : {tail : ℕ} → w ≡ RanOut tail → Outcome n v hs (walk_past n limit ls hs (v ∷ []) from) 0 hs from' rows rows
+    pub settle_left : {on : Unit {0}} → w ≡ Continue on → Outcome n v hs (walk_past n limit ls hs (v ∷ []) from) 0 hs from' rows rows
     unfolding Outcome
-    settle_left {tail} q = let is : Is (RanOut tail) queue' from' (walk_past n limit ls hs (v ∷ []) from) = rw q at settle_walked in rw (more-state is) (refl, refl, refl, refl)
+    settle_left {on} q = let is : Is (Continue on) tail queue' from' (walk_past n limit ls hs (v ∷ []) from) = rw q at settle_walked in rw (more-state is) (refl, refl, refl, refl)
 
 -- From marks of nobody it is 01's search.
 pub unmarked-outcome : {n : ℕ} (limit : ℕ → ℕ) (ls : List ℕ) {hs from : List ℕ} (hs' from' : List ℕ) (rows rows' : List (List ℕ)) {v : ℕ} (r : ℕ) → Placeable n hs v → from ≡ replicate n NONE

@@ -1,26 +1,22 @@
 -- The tests that `place` and `choke_set` make of what they are lent: what each says, and what the call leaves by it. b is its answer.
-use Prim.Native.Nat.{ℕ, ◌<◌, ◌≤◌}
-use mathlib.Core.Path.{◌≡◌, refl, sym, ◌∙◌}
+use Prim.Native.Nat.{ℕ, ◌≤◌}
+use mathlib.Core.Path.{◌≡◌, refl, sym, ap, ◌∙◌}
 use mathlib.Core.Bool.{Bool, true, false, not, cond}
 use mathlib.Core.List.{List}
-use lib.Dec.{ltb, leb}
+use lib.Dec.{leb}
 use lib.ListN.{length}
-use borrow.Author.Tests.{leb-true, ltb-true, ltb-false, le-leb, lt-leb, le-ltb, lt-ltb, not-true, not-false}
+use Rattle.std.specs.Prelude.{None, Some, if◌then◌else◌}
+use borrow.Author.Tests.{leb-true, ltb-true, le-leb, lt-ltb, not-true, not-false}
 use Rattle.packing.specs.Lists.{list_of, written}
 use Rattle.packing.specs.Plant.{at}
 use Rattle.packing.specs.Holders.{held}
 use Rattle.packing.specs.Moved.{moved}
-use Rattle.packing.proofs.Moved.{moved_none}
-use Rattle.packing.proofs.Tests.{tests, by_bool, and_l, and_r}
+use Rattle.packing.proofs.Tests.{tests, and_l, and_r}
 use Rattle.sound.specs.Searchable.{searchable}
 use Rattle.sound.proofs.Searchable.{Searchable, searchable_means, searchable-holds}
 use Rattle.search.specs.Search.{placed_holders, placeable, holders_after}
-use Rattle.search.specs.declared.Placed.{Placed}
 use Rattle.search.specs.ChokeSet.{choke_byte, chokeable, choke_written}
 use Rattle.search.specs.Pre.{Placeable}
-
-at_least : (h n : ℕ) → leb n h ≡ not (ltb h n)
-at_least h n = by_bool (ltb h n) (λ e. rw (e, lt-leb n h (ltb-true h n e))) (λ e. rw (e, le-leb n h (ltb-false h n e)))
 
 -- what the test of v says, and what it takes
 pub placeable_means : (n : ℕ) (hs : List ℕ) (v : ℕ) → placeable n hs v ≡ true → Placeable n hs v
@@ -40,20 +36,6 @@ unfolding placeable
 placeable-holds {n} {hs} {v} p =
     let s : Searchable n hs = record { few = p.few; holders = p.holders; within = p.within } in rw (searchable-holds s, lt-ltb v n p.inside, p.free)
 
--- .. put together from the test of the holders
-module _ (n : ℕ) (hs : List ℕ) (v : ℕ) {b : Bool} (e : b ≡ searchable n hs) where
-  pub placeable-not : not b ≡ true → false ≡ placeable n hs v
-  unfolding placeable
-  placeable-not f = rw (sym e ∙ not-true b f)
-
-  pub placeable_outside : not b ≡ false → n ≤ v → false ≡ placeable n hs v
-  unfolding placeable
-  placeable_outside f l = rw (sym e ∙ not-false b f, le-ltb v n l)
-
-  pub placeable-holder : {h : ℕ} → not b ≡ false → v < n → h ≡ at hs v → leb n h ≡ placeable n hs v
-  unfolding placeable
-  placeable-holder {h} f l q = rw (sym e ∙ not-false b f, lt-ltb v n l, q) (at_least (at hs v) n)
-
 -- where v may be placed, it is
 pub holders-placed : {n : ℕ} (limit : ℕ → ℕ) (ls : List ℕ) {hs : List ℕ} {v : ℕ} → Placeable n hs v → holders_after n limit ls hs v ≡ placed_holders n limit ls hs v
 unfolding holders_after
@@ -65,12 +47,12 @@ module _ (n : ℕ) (hs : List ℕ) (v : ℕ) {b : Bool} (e : b ≡ placeable n h
 
   -- by any way of placing that gives new holders
   pub place-refuses : (new : List ℕ) → not b ≡ true
-      → (◌≡◌ {A = Placed} (record { done = false; moved = 0 }) (record { done = placeable n hs v; moved = moved n (at hs) (at (cond (placeable n hs v) new hs)) })) × (hs ≡ cond (placeable n hs v) new hs)
-  place-refuses new f = let not-may : placeable n hs v ≡ false = sym e ∙ not-true b f in rw not-may (λ i. record { done = false; moved = sym (moved_none n (at hs)) i }, refl)
+      → (None ≡ if placeable n hs v then Some (moved n (at hs) (at (cond (placeable n hs v) new hs))) else None) × (hs ≡ cond (placeable n hs v) new hs)
+  place-refuses new f = let not-may : placeable n hs v ≡ false = sym e ∙ not-true b f in rw not-may (refl, refl)
 
   pub place-places : {new hs' : List ℕ} {r : ℕ} → not b ≡ false → hs' ≡ new → r ≡ moved n (at hs) (at new)
-      → (◌≡◌ {A = Placed} (record { done = true; moved = r }) (record { done = placeable n hs v; moved = moved n (at hs) (at (cond (placeable n hs v) new hs)) })) × (hs' ≡ cond (placeable n hs v) new hs)
-  place-places t h m = let may : placeable n hs v ≡ true = sym e ∙ not-false b t in rw may (λ i. record { done = true; moved = m i }, h)
+      → (Some r ≡ if placeable n hs v then Some (moved n (at hs) (at (cond (placeable n hs v) new hs))) else None) × (hs' ≡ cond (placeable n hs v) new hs)
+  place-places t h m = let may : placeable n hs v ≡ true = sym e ∙ not-false b t in rw may (ap Some m, h)
 
 -- what the test of the lent lists says, and what it takes
 pub chokeable_means : (n : ℕ) (hs : List ℕ) (room : ℕ) → chokeable n hs room ≡ true → Searchable n hs × (n ≤ room)
@@ -80,16 +62,6 @@ chokeable_means n hs room e = (searchable_means n hs (and_l (searchable n hs) (l
 pub chokeable-holds : {n : ℕ} {hs : List ℕ} (out : List ℕ) → Searchable n hs → n ≤ length out → chokeable n hs (length out) ≡ true
 unfolding chokeable
 chokeable-holds {n} out s room = rw (searchable-holds s, le-leb n (length out) room)
-
--- .. put together from the test of the holders
-module _ (n : ℕ) (hs : List ℕ) (room : ℕ) {b : Bool} (e : b ≡ searchable n hs) where
-  pub chokeable-not : not b ≡ true → false ≡ chokeable n hs room
-  unfolding chokeable
-  chokeable-not f = rw (sym e ∙ not-true b f)
-
-  pub chokeable-room : not b ≡ false → leb n room ≡ chokeable n hs room
-  unfolding chokeable
-  chokeable-room f = rw (sym e ∙ not-false b f)
 
 -- where the choke bytes may be written, they are
 pub choke_written_lem : (n : ℕ) (ls hs out : List ℕ) → chokeable n hs (length out) ≡ true → choke_written n ls hs out ≡ written n (list_of n (choke_byte n ls hs)) out

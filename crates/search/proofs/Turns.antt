@@ -9,12 +9,11 @@ use lib.ListN.{length, take}
 use lib.Seq.{length-take-le, get_or-take}
 use Rattle.packing.specs.Plant.{GATEWAYS, at, neighbours}
 use Rattle.search.specs.Search.{more, visit, turns}
-use Rattle.search.specs.declared.Walked.{Walked}
-use Rattle.search.specs.declared.Walked.TheVariants.{Found, RanOut}
+use Rattle.std.specs.declared.ops.ControlFlow.TheVariants.{Break, Continue}
 use Rattle.search.specs.Dead.{walk_past}
-use Rattle.search.specs.Pre.{TableOf, ForSome, ForEach, Is, Going, Ready, Walkable}
+use Rattle.search.specs.Pre.{Walked, TableOf, ForSome, ForEach, Is, Going, Ready, Walkable}
 use Rattle.search.proofs.States.{visit-going, turns-found, turns_out, turns_step}
-use Rattle.search.proofs.Results.{found-state, more-state, more_within, found-is, more-is, some_then}
+use Rattle.search.proofs.Results.{found-state, more-state, found-is, more-is, some_then}
 
 -- with the holders hs, what the turns from head on give is what the walk gives
 pub record Walks (n : ℕ) (limit : ℕ → ℕ) (ls hs queue₀ : List ℕ) (tail : ℕ) (from₀ queue from : List ℕ) (end head : ℕ) : Type 0 where
@@ -53,15 +52,15 @@ module _
       walk_ready = some_then some (λ n hs t w. head_ready (v.each n hs t w))
 
       module _
-          {queue' from' : List ℕ} {w : Walked}
+          {queue' from' : List ℕ} {end' : ℕ} {w : Walked}
           (d : ForEach rows (λ n hs. Ready n (at queue head) hs queue end from)
-          (λ n hs. Is w queue' from' (visit n limit hs (at queue head) (neighbours ls (at queue head)) (more (take end queue) from))))
+          (λ n hs. Is w end' queue' from' (visit n limit hs (at queue head) (neighbours ls (at queue head)) (more (take end queue) from))))
         where
           module _ {n : ℕ} {hs : List ℕ} (t : TableOf n hs rows) (may : Walkable n hs queue₀ tail from₀) where
             before : Walks n limit ls hs queue₀ tail from₀ queue from end head
             before = v.each n hs t may
 
-            visited : Is w queue' from' (visit n limit hs (at queue head) (neighbours ls (at queue head)) (more (take end queue) from))
+            visited : Is w end' queue' from' (visit n limit hs (at queue head) (neighbours ls (at queue head)) (more (take end queue) from))
             visited = d n hs t (head_ready before)
 
             next : turns (n - (head + 1)) n limit ls hs (head + 1) (visit n limit hs (at queue head) (neighbours ls (at queue head)) (more (take end queue) from))
@@ -74,10 +73,10 @@ module _
                 one : suc (n - suc head) ≡ n - head
                 one = omega (arith, before.going.room, long)
 
-          pub walk_turn : {end' : ℕ} → w ≡ RanOut end' → (length queue' ≡ length queue) × (length from' ≡ length from) → Walking limit ls rows queue₀ tail from₀ queue' from' end' (head + 1)
-          walk_turn {end'} q long' =
+          pub walk_turn : {on : Unit {0}} → w ≡ Continue on → (length queue' ≡ length queue) × (length from' ≡ length from) → Walking limit ls rows queue₀ tail from₀ queue' from' end' (head + 1)
+          walk_turn q long' =
               record {
-                within = more_within (rw q at (visited some.table some.has));
+                within = (visited some.table some.has).within;
                 same = (long'.0 ∙ v.same.0, long'.1 ∙ v.same.1);
                 each = λ n hs t may.
                     let same = more-state (rw q at (visited t may)) in
@@ -88,12 +87,12 @@ module _
                     };
               }
 
-          pub walk_ends : {y z : ℕ} → w ≡ Found y z → ForEach rows (λ n hs. Walkable n hs queue₀ tail from₀) (λ n hs. Is (Found y z) queue' from' (walk_past n limit ls hs (take tail queue₀) from₀))
+          pub walk_ends : {y z : ℕ} → w ≡ Break (y, z) → ForEach rows (λ n hs. Walkable n hs queue₀ tail from₀) (λ n hs. Is (Break (y, z)) end' queue' from' (walk_past n limit ls hs (take tail queue₀) from₀))
           walk_ends {y} {z} q n hs t may =
               let is = rw q at (visited t may) in
-              found-is (sym (next t may) ∙ ap (turns (n - (head + 1)) n limit ls hs (head + 1)) (found-state is) ∙ turns-found (n - (head + 1)) n limit ls hs (head + 1))
+              found-is (sym (next t may) ∙ ap (turns (n - (head + 1)) n limit ls hs (head + 1)) (found-state is) ∙ turns-found (n - (head + 1)) n limit ls hs (head + 1)) is.within
 
-    pub walk_out : {queue from : List ℕ} {end head : ℕ} → Walking limit ls rows queue₀ tail from₀ queue from end head → end ≤ head
-        → ForEach rows (λ n hs. Walkable n hs queue₀ tail from₀) (λ n hs. Is (RanOut end) queue from (walk_past n limit ls hs (take tail queue₀) from₀))
-    walk_out {queue} {from} {end} {head} v l n hs t may =
+    pub walk_out : {queue from : List ℕ} {end head : ℕ} {on : Unit {0}} → Walking limit ls rows queue₀ tail from₀ queue from end head → end ≤ head
+        → ForEach rows (λ n hs. Walkable n hs queue₀ tail from₀) (λ n hs. Is (Continue on) end queue from (walk_past n limit ls hs (take tail queue₀) from₀))
+    walk_out {queue} {from} {end} {head} {on} v l n hs t may =
         more-is (sym (v.each n hs t may).rest ∙ turns_out (n - head) n limit ls hs head (take end queue) from (rw (length-take-le end queue v.within) l)) v.within

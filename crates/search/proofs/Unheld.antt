@@ -1,17 +1,18 @@
 -- The gateways without holder, as a list and in a queue.
-use Prim.Native.Nat.{ℕ, ◌+◌, ◌<◌, ◌≤◌}
+use Prim.Native.Nat.{ℕ, ◌<◌, ◌≤◌}
 use mathlib.Core.Path.{◌≡◌, refl, sym}
-use mathlib.Core.Bool.{Bool, true, false, not}
+use mathlib.Core.Bool.{true, false, not}
 use mathlib.Core.List.{List}
 use native.Mathlib.Omega.{arith}
-use lib.ListN.{length, set}
-use borrow.Author.Tests.{lt-ltb, le-ltb, not-true}
-use Rattle.packing.specs.Lists.{list_where, Lent, member_of}
+use lib.Dec.{ltb, leb}
+use lib.ListN.{length}
+use borrow.Author.Tests.{ltb-true, ltb-false, lt-leb, le-leb, not-true}
+use Rattle.packing.specs.Lists.{list_where, member_of, written}
 use Rattle.packing.specs.Plant.{GATEWAYS, at}
 use Rattle.packing.specs.Holders.{held}
-use Rattle.packing.proofs.Tests.{not_i, not_i_false}
-use Rattle.packing.proofs.Sums.{count_split, count-all, count_bound}
-use Rattle.packing.proofs.Lists.{list_where-length, list_where_in, list_where_out, written-room, written-front, Gathered, gather_more, gather_same, gather_end, member-at}
+use Rattle.packing.proofs.Tests.{by_bool, not_i}
+use Rattle.packing.proofs.Sums.{count_split, count-all}
+use Rattle.packing.proofs.Lists.{list_where-length, list_where_in, list_where_out, written-room, written-front, member-at}
 use Rattle.search.specs.Pre.{Startable}
 use Rattle.search.specs.ChokeSet.{without_holder}
 use Rattle.search.specs.ChokePre.{Queued}
@@ -41,23 +42,14 @@ unheld_startable n hs few =
           );
     }
 
--- The loop that queues them: packing's laws of a loop that gathers.
-abbrev pub unheld : ℕ → List ℕ → ℕ → Bool
-unheld n hs v = not (held n (at hs) v)
+-- what the loop that lists them leaves in a queue
+pub queued_unheld : (n : ℕ) (hs queue₀ : List ℕ) {queue : List ℕ} {end : ℕ}
+    → (end ≡ length (list_where n (λ v. not (held n (at hs) v)))) × (queue ≡ written end (list_where n (λ v. not (held n (at hs) v))) queue₀) → Queued n hs queue end
+unfolding without_holder
+queued_unheld n hs queue₀ {end = end} (long, is) =
+    let front = list_where n (λ v. not (held n (at hs) v)) in
+    record { state = rw is (written-front end front queue₀ (sym long)); within = rw is (written-room end front queue₀ (sym long)) }
 
-module _ (n : ℕ) (hs queue₀ : List ℕ) (r : Lent n hs queue₀) where
-  room : length (list_where n (unheld n hs)) ≤ length queue₀
-  room = omega (arith, list_where-length n (unheld n hs), count_bound n (unheld n hs), r.places)
-
-  pub queue_one : {queue : List ℕ} {end v : ℕ} → Gathered n (unheld n hs) queue₀ queue end v → v < n → n ≤ at hs v → Gathered n (unheld n hs) queue₀ (set queue end v) (end + 1) (v + 1)
-  queue_one {v = v} g l e = gather_more n (unheld n hs) queue₀ g l refl room (not_i (held n (at hs) v) (le-ltb (at hs v) n e))
-
-  pub queue_pass : {queue : List ℕ} {end v : ℕ} → Gathered n (unheld n hs) queue₀ queue end v → v < n → at hs v < n → Gathered n (unheld n hs) queue₀ queue end (v + 1)
-  queue_pass {v = v} g l e = gather_same n (unheld n hs) queue₀ g l refl (not_i_false (held n (at hs) v) (lt-ltb (at hs v) n e))
-
-  pub queue_end : {queue : List ℕ} {end v : ℕ} → Gathered n (unheld n hs) queue₀ queue end v → n ≤ v → Queued n hs queue end
-  unfolding without_holder
-  queue_end {end = end} g l =
-      let (long, is) = gather_end n (unheld n hs) queue₀ g l in
-      let front = list_where n (unheld n hs) in
-      record { state = rw is (written-front end front queue₀ (sym long)); within = rw is (written-room end front queue₀ (sym long)) }
+-- the test of one
+pub at_least : (h n : ℕ) → leb n h ≡ not (ltb h n)
+at_least h n = by_bool (ltb h n) (λ e. rw (e, lt-leb n h (ltb-true h n e))) (λ e. rw (e, le-leb n h (ltb-false h n e)))

@@ -1,18 +1,17 @@
 -- 02, change 4: "The search .. now also give[s] the number of gateways whose holder changed, the new one included, and 0 for one left or a refusal."
-use Rattle.std.specs.Prelude.{ℕ, ◌≤◌, ◌≡◌, true, false, List}
+use Rattle.std.specs.Prelude.{ℕ, ◌≤◌, ◌≡◌, true, false, List, Option, None, Some, if◌then◌else◌}
 use Rattle.packing.specs.Plant.{at, linked}
 use Rattle.packing.specs.Holders.{held, Feasible}
 use Rattle.packing.specs.Moved.{moved, Fewest}
 use Rattle.search.specs.Search.{placeable, holders_after}
-use Rattle.search.specs.declared.Placed.{Placed}
 
 -- the number, of any input: at how many of the first n entries the holders after the call are not those before it
 unfoldable pub moved_by : ℕ → (ℕ → ℕ) → List ℕ → List ℕ → ℕ → ℕ
 moved_by n limit ls hs v = moved n (at hs) (at (holders_after n limit ls hs v))
 
--- the search's answer: whether v may be placed, and the number
-abbrev pub place_answer : ℕ → (ℕ → ℕ) → List ℕ → List ℕ → ℕ → Placed
-place_answer n limit ls hs v = record { done = placeable n hs v; moved = moved_by n limit ls hs v }
+-- the search's answer: the number, where v may be placed
+abbrev pub place_answer : ℕ → (ℕ → ℕ) → List ℕ → List ℕ → ℕ → Option ℕ
+place_answer n limit ls hs v = if placeable n hs v then Some (moved_by n limit ls hs v) else None
 
 -- "0 for one left or a refusal", of any input: one that may not be placed, and one that has no holder afterwards
 unfoldable pub NoneMoved : Type 0

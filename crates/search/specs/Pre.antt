@@ -3,11 +3,10 @@ use Rattle.std.specs.Prelude.{ℕ, zero, suc, ◌+◌, ◌-◌, ◌<◌, ◌≤�
 use Rattle.packing.specs.Count.{count}
 use Rattle.packing.specs.Plant.{NONE, GATEWAYS, HIGHEST, at}
 use Rattle.packing.specs.Holders.{held, holds}
-use Rattle.chains.specs.Index.{IndexFor}
 use Rattle.search.specs.Search.{Search, found, more, seen, shift}
 use Rattle.search.specs.RowPre.{RowsOf, RowsKept}
-use Rattle.search.specs.declared.Walked.{Walked}
-use Rattle.search.specs.declared.Walked.TheVariants.{Found, RanOut}
+use Rattle.std.specs.declared.ops.ControlFlow.{ControlFlow}
+use Rattle.std.specs.declared.ops.ControlFlow.TheVariants.{Break, Continue}
 
 -- rows are those of the holders hs of n gateways, none of whom holds more than a row has places
 pub record TableOf (n : ℕ) (hs : List ℕ) (rows : List (List ℕ)) : Type 0 where
@@ -26,20 +25,19 @@ pub record ForSome (rows : List (List ℕ)) (Has : ℕ → List ℕ → Type 0) 
 abbrev pub ForEach : List (List ℕ) → (ℕ → List ℕ → Type 0) → (ℕ → List ℕ → Type 0) → Type 0
 ForEach rows Has Gives = (n : ℕ) (hs : List ℕ) → TableOf n hs rows → Has n hs → Gives n hs
 
--- the state that a result stands for: the first places of the lent queue are the queue
-unfoldable pub as_search : Walked → List ℕ → List ℕ → Search
-as_search (Found u x) queue from = found u x from
-as_search (RanOut tail) queue from = more (take tail queue) from
+-- how a search ends or stands: it breaks off at a gateway with a place free, looked at from another; or it goes on, or its queue ran out
+abbrev pub Walked : Type 0
+Walked = ControlFlow (ℕ × ℕ) (Unit {0})
 
--- how many are queued, where the search goes on or the queue ran out
-unfoldable pub queued : Walked → ℕ
-queued (Found u x) = 0
-queued (RanOut tail) = tail
+-- the state that a result stands for: the first places of the lent queue are the queue
+unfoldable pub as_search : Walked → ℕ → List ℕ → List ℕ → Search
+as_search (Break (u, x)) tail queue from = found u x from
+as_search (Continue on) tail queue from = more (take tail queue) from
 
 -- the result and the lent lists are the state s
-pub record Is (r : Walked) (queue from : List ℕ) (s : Search) : Type 0 where
-  pub state : as_search r queue from ≡ s
-  pub within : queued r ≤ length queue
+pub record Is (r : Walked) (tail : ℕ) (queue from : List ℕ) (s : Search) : Type 0 where
+  pub state : as_search r tail queue from ≡ s
+  pub within : tail ≤ length queue
 
 -- v may yet join the queue: it is held, and its holder is not seen
 abbrev pub waiting : ℕ → List ℕ → List ℕ → ℕ → Bool
@@ -76,11 +74,6 @@ Joinable row queue tail = tail + length (in_row row) ≤ length queue
 pub record Joined (row queue queue' : List ℕ) (tail tail' : ℕ) : Type 0 where
   pub state : take tail' queue' ≡ take tail queue ++ in_row row
   pub within : tail' ≤ length queue'
-
--- a plant's lists, of n gateways: the index of its links, and a limit for each gateway
-pub record PlantLists (n : ℕ) (limits ls next : List ℕ) : Type 0 where
-  pub index : IndexFor n ls next
-  pub limited : n ≤ length limits
 
 -- a queue of n places, and marks of nobody, to work in
 pub record Workspace (n : ℕ) (queue from : List ℕ) : Type 0 where

@@ -1,7 +1,7 @@
 -- 02, change 5: "Both sets are those that the choke set's walk reaches when it starts from this gateway only, written ascending, and their two counts come back".
 -- v is the gateway, ls are the plant's links, hs the holders.
-use Rattle.std.specs.Prelude.{ℕ, Bool, cond, ◌&&◌, List, [], ◌∷◌, leb, length}
-use Rattle.packing.specs.Count.{pick, count}
+use Rattle.std.specs.Prelude.{ℕ, Bool, cond, ◌&&◌, List, [], ◌∷◌, leb, length, Option, None, Some, if◌then◌else◌}
+use Rattle.packing.specs.Count.{count}
 use Rattle.packing.specs.Lists.{list_where, written}
 use Rattle.search.specs.Search.{placeable}
 use Rattle.search.specs.ChokeSet.{walk_saw, walk_queued}
@@ -23,14 +23,13 @@ set_written n set out = written (count n set) (list_where n set) out
 unfoldable pub reachable : ℕ → List ℕ → ℕ → ℕ → ℕ → Bool
 reachable n hs v room room' = placeable n hs v && leb n room && leb n room'
 
--- what comes back: whether they were written, and the two counts, 0 where they were not
-abbrev pub reached_answer : ℕ → List ℕ → List ℕ → ℕ → ℕ → ℕ → Reached
-reached_answer n ls hs v room room' =
-    record {
-      done = reachable n hs v room room';
-      queued = pick (reachable n hs v room room') (count n (queued_from n ls hs v));
-      seen = pick (reachable n hs v room room') (count n (seen_from n ls hs v));
-    }
+-- "their two counts"
+abbrev pub both_counted : ℕ → List ℕ → List ℕ → ℕ → Reached
+both_counted n ls hs v = record { queued = count n (queued_from n ls hs v); seen = count n (seen_from n ls hs v) }
+
+-- what comes back: the two counts, where the sets are written
+abbrev pub reached_answer : ℕ → List ℕ → List ℕ → ℕ → ℕ → ℕ → Option Reached
+reached_answer n ls hs v room room' = if reachable n hs v room room' then Some (both_counted n ls hs v) else None
 
 -- the lent lists after the call; as they came where the sets may not be written
 unfoldable pub queued_written : ℕ → List ℕ → List ℕ → ℕ → List ℕ → List ℕ → List ℕ

@@ -1,12 +1,10 @@
 -- What the functions that write these sets require and leave.
-use Rattle.std.specs.Prelude.{ℕ, ◌≤◌, ◌≡◌, Bool, true, ◌&&◌, ◌||◌, List, eqb, length, replicate}
-use Rattle.packing.specs.Count.{count}
+use Rattle.std.specs.Prelude.{ℕ, ◌≤◌, ◌≡◌, Bool, ◌&&◌, ◌||◌, List, eqb, length, replicate}
 use Rattle.packing.specs.Plant.{NONE, at}
 use Rattle.packing.specs.Holders.{held}
 use Rattle.search.specs.Search.{seen}
 use Rattle.search.specs.Pre.{Placeable}
-use Rattle.search.specs.Reached.{queued_from, seen_from}
-use Rattle.search.specs.declared.reached.Reached.{Reached}
+use Rattle.search.specs.Reached.{seen_from}
 
 -- v may be placed, and nobody is marked
 pub record Unmarked (n : ℕ) (hs : List ℕ) (v : ℕ) (from : List ℕ) : Type 0 where
@@ -27,7 +25,3 @@ pub record Marked (n : ℕ) (ls hs : List ℕ) (v : ℕ) (from : List ℕ) : Typ
 -- x is in the queue of a walk from v that saw those marked: it is v, or its holder is seen
 unfoldable pub joined : ℕ → List ℕ → ℕ → List ℕ → ℕ → Bool
 joined n hs v from x = eqb x v || (held n (at hs) x && seen from (at hs x))
-
--- both sets written
-abbrev pub both_counted : ℕ → List ℕ → List ℕ → ℕ → Reached
-both_counted n ls hs v = record { done = true; queued = count n (queued_from n ls hs v); seen = count n (seen_from n ls hs v) }

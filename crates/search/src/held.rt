@@ -10,23 +10,24 @@ pub const ROW: usize = 16;
 
 pub type Row = [u16; ROW];
 
+/// The holder of each gateway, and the rows of those that they hold.
+#[derive(Drop)]
+pub struct Held<'a> {
+    pub rows: &'a mut [Row],
+    pub holders: &'a mut [u16],
+}
+
 // A row for each number below 1,024.
 pub type Rows = [Row; lists::PLACES];
 
-// Rows with nobody in them.
-pub fn empty_rows() -> Rows
-    ensures { result ≡ replicate GATEWAYS (replicate HIGHEST NONE) }
-{
-    [[lists::NONE; ROW]; lists::PLACES]
-}
-
-// The same for numbers below 128: small plants need no more, and are spared the clearing of all.
+// As many rows as small plants need, which are so spared the clearing of all.
 pub const FEW: usize = 128;
 
-pub fn few_rows() -> [Row; FEW]
-    ensures { result ≡ replicate 128 (replicate HIGHEST NONE) }
+// Rows with nobody in them.
+pub fn empty_rows<const N: usize>() -> [Row; N]
+    ensures { result ≡ replicate N (replicate HIGHEST NONE) }
 {
-    [[lists::NONE; ROW]; FEW]
+    [[lists::NONE; ROW]; N]
 }
 
 // One pass over the holders, into rows with nobody in them: v takes the next place in the row of its holder.
@@ -34,31 +35,23 @@ pub fn gather(n: u16, holders: &[u16], rows: &mut Rows)
     requires { rows.old ≡ replicate GATEWAYS (replicate HIGHEST NONE) }
     ensures { rows.new ≡ held_table n holders.now }
 {
-    let mut loads = lists::marks::zeros();
-    let mut v: u16 = 0;
-    while v < n {
+    let mut loads = [0u16; lists::PLACES];
+    for v in 0..n {
         let u = lists::entry(holders, v);
         if u < lists::GATEWAYS {
             let place = loads[u as usize];
             lists::put(&mut rows[u as usize], place, v);
             loads[u as usize] = place + 1;
         }
-        v += 1;
     }
 }
 
 // Whether fewer stand in the row than the limit: nobody is in the last place that the limit allows.
+#[tactic(auto, unfolding(crate::specs::Pre::row_has_place))]
 pub fn has_place(row: &[u16], limit: u8) -> bool
     ensures { result ≡ row_has_place row.now limit }
 {
-    if limit == 0 {
-        return false;
-    }
-    let last = (limit - 1) as usize;
-    if row.len() <= last {
-        return true;
-    }
-    row[last] == lists::NONE
+    limit != 0 && number(row, (limit - 1) as usize) == lists::NONE
 }
 
 // What stands in the row joins the queue, in its turn. Returns how many are queued then.
@@ -67,15 +60,12 @@ pub(crate) fn join(row: &[u16], queue: &mut [u16], tail: usize) -> usize
     ensures { Joined row.now queue.old queue.new tail result }
 {
     let mut end = tail;
-    let mut i: usize = 0;
-    while i < row.len() {
-        let v = row[i];
-        if v == lists::NONE {
+    for v in row {
+        if *v == lists::NONE {
             return end;
         }
-        queue[end] = v;
+        queue[end] = *v;
         end += 1;
-        i += 1;
     }
     end
 }
@@ -84,25 +74,20 @@ pub(crate) fn join(row: &[u16], queue: &mut [u16], tail: usize) -> usize
 fn number(row: &[u16], i: usize) -> u16
     ensures { result ≡ get_or row.now i NONE }
 {
-    if row.len() <= i {
-        return lists::NONE;
-    }
-    row[i]
+    row.get(i).copied().unwrap_or(lists::NONE)
 }
 
 // From a place that is free for y on, those that are smaller move up, and y takes the place behind them.
 fn raise(row: &mut [u16], place: usize, y: u16)
     ensures { row.new ≡ take place row.old ++ raised y (drop place row.old) }
 {
-    let mut i = place;
-    while i < row.len() {
+    for i in place..row.len() {
         let behind = number(row, i + 1);
         if y <= behind {
             row[i] = y;
             return;
         }
         row[i] = behind;
-        i += 1;
     }
 }
 
@@ -111,15 +96,13 @@ fn push(row: &mut [u16], place: usize, x: u16, y: u16)
     ensures { row.new ≡ take place row.old ++ pushed x y (drop place row.old) }
 {
     let mut carried = y;
-    let mut i = place;
-    while i < row.len() {
+    for i in place..row.len() {
         let here = row[i];
         row[i] = carried;
         if here == x {
             return;
         }
         carried = here;
-        i += 1;
     }
 }
 
@@ -127,8 +110,7 @@ fn push(row: &mut [u16], place: usize, x: u16, y: u16)
 fn exchange(row: &mut [u16], x: u16, y: u16)
     ensures { row.new ≡ exchanged x y row.old }
 {
-    let mut i: usize = 0;
-    while i < row.len() {
+    for i in 0..row.len() {
         let here = row[i];
         if here == x {
             raise(row, i, y);
@@ -138,7 +120,6 @@ fn exchange(row: &mut [u16], x: u16, y: u16)
             push(row, i, x, y);
             return;
         }
-        i += 1;
     }
 }
 

@@ -4,12 +4,15 @@
 pub mod bytes;
 pub mod choke;
 pub mod held;
+mod listed;
 mod noted;
 pub mod past;
+pub mod plant;
 pub mod reached;
 pub mod shift;
 mod start;
 pub mod walk;
+mod work;
 
 ghost use Rattle.std.specs.Prelude.{◌≡◌, [], ◌∷◌};
 ghost use Rattle.packing.specs.Plant.{at};
@@ -17,119 +20,78 @@ ghost use Rattle.packing.specs.Moved.{moved};
 ghost use Rattle.search.specs.Search.{placeable, placed_holders, holders_after};
 ghost use Rattle.search.specs.Moved.{place_answer};
 ghost use Rattle.search.specs.Dead.{walk_past};
-ghost use Rattle.search.specs.Noted.{Notable, Noted};
-ghost use Rattle.search.specs.Pre.{PlantLists, Placeable, Settleable, Outcome};
+ghost use Rattle.search.specs.Work.{SameLists, SameBack};
+ghost use Rattle.search.specs.Held.{SameHeld};
+ghost use Rattle.search.specs.Pre.{Placeable, Settleable, Outcome};
 
-use crate::held::{Row, empty_rows, gather};
+use crate::held::{Held, empty_rows, gather};
+use crate::plant::Plant;
 use crate::shift::shift_back;
+use crate::work::Work;
+use std::ops::ControlFlow;
 
-// How a search ends or stands: at a gateway with a place free, looked at from another; or with so many queued.
-#[derive(Drop)]
-enum Walked {
-    Found(u16, u16),
-    RanOut(usize),
-}
-
-// Whether v may be placed, and how many gateways have another holder afterwards.
-#[derive(Clone, Copy)]
-pub struct Placed {
-    pub done: bool,
-    pub moved: u16,
-}
-
-// Places v past those that are marked, with the table of the holders, and a queue to work in. Returns how many have another holder afterwards: none where v is left, and only then the marks are of use.
-fn settle(
-    n: u16,
-    v: u16,
-    limits: &[u8],
-    links: &[u16],
-    next: &[u16],
-    rows: &mut [Row],
-    holders: &mut [u16],
-    queue: &mut [u16],
-    from: &mut [u16],
-    looked: &mut [u16],
-    count: &mut usize,
-) -> u16
-    requires { PlantLists n limits.now links.now next.now × Notable looked.old count.old from.old × Settleable n holders.old v rows.old queue.old from.old }
-    ensures outcome { Outcome n v holders.old (walk_past n (at limits.now) links.now holders.old (v ∷ []) from.old) result holders.new from.new rows.old rows.new }
-    ensures marks { Noted looked.old count.old from.old looked.new count.new from.new }
+// Places v past those that are marked, with the table of the holders, and a queue to work in. Returns how many have another holder afterwards: 02's number (change 4), which is 0 where v is left, as Outcome says it; only then the marks are of use.
+fn settle(plant: &Plant, v: u16, held: &mut Held, work: &mut Work) -> u16
+    requires { Settleable plant.now.links.n held.old.holders.now v held.old.rows.now work.old.queue.now work.old.from.now }
+    ensures outcome { Outcome plant.now.links.n v held.old.holders.now (walk_past plant.now.links.n (at plant.now.limits.now) plant.now.links.ends.now held.old.holders.now (v ∷ []) work.old.from.now) result held.new.holders.now work.new.from.now held.old.rows.now held.new.rows.now }
+    ensures marks { SameBack work.old work.new }
+    ensures same { SameLists work.old work.new }
+    ensures held { SameHeld held.old held.new }
 {
-    queue[0] = v;
-    let w = walk::walk(limits, links, next, rows, queue, 1, from, looked, count);
-    match w {
-        Walked::Found(u, x) => shift_back(n, v, u, x, from, rows, holders),
-        Walked::RanOut(_) => 0,
+    work.queue[0] = v;
+    work.tail = 1;
+    let rows = &mut *held.rows;
+    match walk::walk(plant, rows, work) {
+        ControlFlow::Break((u, x)) => {
+            let from = &mut *work.from;
+            shift_back(plant.links.n, v, u, x, from, held)
+        }
+        ControlFlow::Continue(()) => 0,
     }
 }
 
 // Places v, which may be placed: the holders afterwards are those of 01's search. Returns how many have another holder.
-fn place_unheld(
-    n: u16,
-    v: u16,
-    limits: &[u8],
-    links: &[u16],
-    next: &[u16],
-    holders: &mut [u16],
-) -> u16
-    requires { PlantLists n limits.now links.now next.now × Placeable n holders.old v }
-    ensures holders { holders.new ≡ placed_holders n (at limits.now) links.now holders.old v }
-    ensures moved { result ≡ moved n (at holders.old) (at (placed_holders n (at limits.now) links.now holders.old v)) }
+fn place_unheld(plant: &Plant, v: u16, holders: &mut [u16]) -> u16
+    requires { Placeable plant.now.links.n holders.old v }
+    ensures holders { holders.new ≡ placed_holders plant.now.links.n (at plant.now.limits.now) plant.now.links.ends.now holders.old v }
+    ensures moved { result ≡ moved plant.now.links.n (at holders.old) (at (placed_holders plant.now.links.n (at plant.now.limits.now) plant.now.links.ends.now holders.old v)) }
 {
+    let n = plant.links.n;
     let mut rows = empty_rows();
     gather(n, holders, &mut rows);
-    let mut queue = lists::marks::zeros();
-    let mut from = lists::marks::nones();
-    let mut looked = lists::marks::zeros();
-    let mut count: usize = 0;
+    let mut queue = [0u16; lists::PLACES];
+    let mut from = [lists::NONE; lists::PLACES];
+    let mut looked = [0u16; lists::PLACES];
     let end = n as usize;
-    settle(
-        n,
-        v,
-        limits,
-        links,
-        next,
-        &mut rows,
+    let mut work = Work {
+        queue: &mut queue,
+        tail: 0,
+        from: &mut from[..end],
+        looked: &mut looked,
+        count: 0,
+    };
+    let mut held = Held {
+        rows: &mut rows,
         holders,
-        &mut queue,
-        &mut from[..end],
-        &mut looked,
-        &mut count,
-    )
+    };
+    settle(plant, v, &mut held, &mut work)
 }
 
 // Whether v may be placed.
+#[tactic(auto, unfolding(crate::specs::Search::placeable))]
 pub fn is_placeable(n: u16, v: u16, holders: &[u16]) -> bool
     ensures { result ≡ placeable n holders.now v }
 {
-    if !sound::held::is_searchable(n, holders) {
-        return false;
-    }
-    if n <= v {
-        return false;
-    }
-    n <= lists::entry(holders, v)
+    sound::held::is_searchable(n, holders) && v < n && n <= lists::entry(holders, v)
 }
 
-// Places v by a limit for each gateway, with the index of the links. Answers whether v may be placed, and how many gateways have another holder afterwards; if it may not, nothing is changed.
-pub fn place(
-    n: u16,
-    v: u16,
-    limits: &[u8],
-    links: &[u16],
-    next: &[u16],
-    holders: &mut [u16],
-) -> Placed
-    requires { PlantLists n limits.now links.now next.now }
-    ensures answer { result ≡ place_answer n (at limits.now) links.now holders.old v }
-    ensures holders { holders.new ≡ holders_after n (at limits.now) links.now holders.old v }
+// Places v. Answers how many gateways have another holder afterwards; or None where v may not be placed, and nothing is changed.
+pub fn place(plant: &Plant, v: u16, holders: &mut [u16]) -> Option<u16>
+    ensures answer { result ≡ place_answer plant.now.links.n (at plant.now.limits.now) plant.now.links.ends.now holders.old v }
+    ensures holders { holders.new ≡ holders_after plant.now.links.n (at plant.now.limits.now) plant.now.links.ends.now holders.old v }
 {
-    if !is_placeable(n, v, holders) {
-        return Placed {
-            done: false,
-            moved: 0,
-        };
+    if !is_placeable(plant.links.n, v, holders) {
+        return None;
     }
-    let moved = place_unheld(n, v, limits, links, next, holders);
-    Placed { done: true, moved }
+    Some(place_unheld(plant, v, holders))
 }

@@ -1,17 +1,7 @@
-// Whom a search marks, noted one after the other, so that the marks can be taken back without a pass over all gateways.
+// Taking back the marks of a search, of those that it noted.
 ghost use Rattle.std.specs.Prelude.{◌≡◌, ◌<◌, length, set};
 ghost use Rattle.packing.specs.Plant.{NONE};
-ghost use Rattle.search.specs.Noted.{NotedThen, taken_back, Notable};
-
-// Notes u behind the first `count`.
-pub(crate) fn note(u: u16, looked: &mut [u16], count: &mut usize)
-    requires { count.old < length looked.old }
-    ensures { NotedThen u looked.old count.old looked.new count.new }
-{
-    let place = *count;
-    looked[place] = u;
-    *count = place + 1;
-}
+ghost use Rattle.search.specs.Noted.{taken_back, AllMarked};
 
 // Takes back the mark of u.
 fn unmark(u: u16, from: &mut [u16])
@@ -21,15 +11,12 @@ fn unmark(u: u16, from: &mut [u16])
     from[u as usize] = lists::NONE;
 }
 
-// Takes back the marks of the first `count`, the last of them first.
-pub(crate) fn take_back(looked: &[u16], count: usize, from: &mut [u16])
-    requires { Notable looked.now count from.old }
-    ensures { from.new ≡ taken_back count looked.now from.old }
+// Takes back the marks of those noted, the last of them first.
+pub(crate) fn take_back(noted: &[u16], from: &mut [u16])
+    requires { AllMarked noted.now from.old }
+    ensures { from.new ≡ taken_back (length noted.now) noted.now from.old }
 {
-    let mut i = count;
-    while 0 < i {
-        i -= 1;
-        let u = looked[i];
-        unmark(u, from);
+    for i in (0..noted.len()).rev() {
+        unmark(noted[i], from);
     }
 }

@@ -3,38 +3,47 @@ ghost use Rattle.std.specs.Prelude.{◌≡◌};
 ghost use Rattle.packing.specs.Moved.{moved};
 ghost use Rattle.packing.specs.Plant.{at};
 ghost use Rattle.search.specs.Search.{placed_holders};
-ghost use Rattle.search.specs.Pre.{PlantLists};
+ghost use Rattle.search.specs.Held.{SameHeld};
 ghost use Rattle.search.specs.RowPre.{RowsOf};
 ghost use Rattle.search.specs.Dead.{Past, DeadThen};
 
-use crate::held::Row;
+use crate::held::Held;
 use crate::noted::take_back;
+use crate::plant::Plant;
+use crate::work::Work;
 
 // Places v past the dead. Returns how many have another holder afterwards. Where v is left, all that the search saw are dead too; where it is kept, the marks of the search are taken back.
 pub fn place_past(
-    n: u16,
+    plant: &Plant,
     v: u16,
-    limits: &[u8],
-    links: &[u16],
-    next: &[u16],
-    rows: &mut [Row],
-    holders: &mut [u16],
+    held: &mut Held,
     queue: &mut [u16],
     dead: &mut [u16],
     looked: &mut [u16],
 ) -> u16
-    requires { PlantLists n limits.now links.now next.now × Past n (at limits.now) links.now holders.old v rows.old queue.old dead.old looked.old }
-    ensures holders { holders.new ≡ placed_holders n (at limits.now) links.now holders.old v }
-    ensures moved { result ≡ moved n (at holders.old) (at (placed_holders n (at limits.now) links.now holders.old v)) }
-    ensures rows { RowsOf n (placed_holders n (at limits.now) links.now holders.old v) rows.new }
-    ensures dead { DeadThen n (at limits.now) links.now holders.old v dead.old (placed_holders n (at limits.now) links.now holders.old v) dead.new }
+    requires { Past plant.now.links.n (at plant.now.limits.now) plant.now.links.ends.now held.old.holders.now v held.old.rows.now queue.old dead.old looked.old }
+    ensures holders { held.new.holders.now ≡ placed_holders plant.now.links.n (at plant.now.limits.now) plant.now.links.ends.now held.old.holders.now v }
+    ensures moved { result ≡ moved plant.now.links.n (at held.old.holders.now) (at (placed_holders plant.now.links.n (at plant.now.limits.now) plant.now.links.ends.now held.old.holders.now v)) }
+    ensures rows { RowsOf plant.now.links.n (placed_holders plant.now.links.n (at plant.now.limits.now) plant.now.links.ends.now held.old.holders.now v) held.new.rows.now }
+    ensures dead { DeadThen plant.now.links.n (at plant.now.limits.now) plant.now.links.ends.now held.old.holders.now v dead.old (placed_holders plant.now.links.n (at plant.now.limits.now) plant.now.links.ends.now held.old.holders.now v) dead.new }
+    ensures same { SameHeld held.old held.new }
 {
-    let mut count: usize = 0;
-    let moved = crate::settle(
-        n, v, limits, links, next, rows, holders, queue, dead, looked, &mut count,
-    );
+    let mut work = Work {
+        queue,
+        tail: 0,
+        from: dead,
+        looked,
+        count: 0,
+    };
+    let moved = crate::settle(plant, v, held, &mut work);
     if moved != 0 {
-        take_back(looked, count, dead);
+        let Work {
+            from,
+            looked,
+            count,
+            ..
+        } = work;
+        take_back(&looked[..count], from);
     }
     moved
 }

@@ -1,45 +1,46 @@
 // Who the choke set's walk reaches when it starts from one gateway only (02, change 5), on plain lists and numbers.
 ghost use Rattle.std.specs.Prelude.{◌≡◌, length};
 ghost use Rattle.packing.specs.Lists.{list_where, written, Lent};
-ghost use Rattle.chains.specs.Index.{IndexFor};
 ghost use Rattle.search.specs.Search.{seen};
-ghost use Rattle.search.specs.Reached.{queued_from, seen_from, set_written, reachable, reached_answer, queued_written, seen_written};
-ghost use Rattle.search.specs.ReachedPre.{Unmarked, Marked, joined, Sets, both_counted};
+ghost use Rattle.search.specs.Reached.{queued_from, seen_from, set_written, reachable, both_counted, reached_answer, queued_written, seen_written};
+ghost use Rattle.search.specs.ReachedPre.{Unmarked, Marked, joined, Sets};
 
 use crate::held::{empty_rows, gather};
+use crate::listed::write_them;
+use crate::plant::{Links, Plant};
 use crate::walk::walk;
+use crate::work::Work;
 
-// Whether the sets were written, and how many gateways each has.
-#[derive(Clone, Copy)]
+/// How many gateways each of the two sets has.
+#[derive(Clone, Copy, Debug, PartialEq, Eq)]
 pub struct Reached {
-    pub done: bool,
     pub queued: u16,
     pub seen: u16,
 }
 
 // Marks all that the walk from v sees.
-fn walk_from(n: u16, v: u16, links: &[u16], next: &[u16], holders: &[u16], from: &mut [u16])
-    requires { IndexFor n links.now next.now × Unmarked n holders.now v from.old }
-    ensures { Marked n links.now holders.now v from.new }
+fn walk_from(links: &Links, v: u16, holders: &[u16], from: &mut [u16])
+    requires { Unmarked links.now.n holders.now v from.old }
+    ensures { Marked links.now.n links.now.ends.now holders.now v from.new }
 {
     let mut rows = empty_rows();
-    gather(n, holders, &mut rows);
-    let mut queue = lists::marks::zeros();
+    gather(links.n, holders, &mut rows);
+    let mut queue = [0u16; lists::PLACES];
     queue[0] = v;
-    let limits = lists::marks::bytes(0);
-    let mut looked = lists::marks::zeros();
-    let mut count: usize = 0;
-    walk(
-        &limits,
-        links,
-        next,
-        &rows,
-        &mut queue,
-        1,
+    let limits = [0u8; lists::PLACES];
+    let mut looked = [0u16; lists::PLACES];
+    let plant = Plant {
+        links: *links,
+        limits: &limits,
+    };
+    let mut work = Work {
+        queue: &mut queue,
+        tail: 1,
         from,
-        &mut looked,
-        &mut count,
-    );
+        looked: &mut looked,
+        count: 0,
+    };
+    walk(&plant, &rows, &mut work);
 }
 
 // Whether u is marked.
@@ -50,114 +51,62 @@ fn is_seen(from: &[u16], u: u16) -> bool
 }
 
 // Whether x joined the queue: what those seen hold did, and v.
+#[tactic(auto, unfolding(crate::specs::ReachedPre::joined))]
 fn is_joined(n: u16, v: u16, holders: &[u16], from: &[u16], x: u16) -> bool
     ensures { result ≡ joined n holders.now v from.now x }
 {
-    if x == v {
-        return true;
-    }
     let u = lists::entry(holders, x);
-    if n <= u {
-        return false;
-    }
-    is_seen(from, u)
-}
-
-// Writes those that joined the queue, ascending, and returns their number.
-fn write_queued(n: u16, v: u16, holders: &[u16], from: &[u16], out: &mut [u16]) -> u16
-    requires { Lent n holders.now out.old }
-    ensures count { result ≡ length (list_where n (joined n holders.now v from.now)) }
-    ensures out { out.new ≡ written result (list_where n (joined n holders.now v from.now)) out.old }
-{
-    let mut count: u16 = 0;
-    let mut x: u16 = 0;
-    while x < n {
-        if is_joined(n, v, holders, from, x) {
-            out[count as usize] = x;
-            count += 1;
-        }
-        x += 1;
-    }
-    count
-}
-
-// Writes those that are marked, ascending, and returns their number.
-fn write_marked(n: u16, from: &[u16], out: &mut [u16]) -> u16
-    requires { Lent n from.now out.old }
-    ensures count { result ≡ length (list_where n (seen from.now)) }
-    ensures out { out.new ≡ written result (list_where n (seen from.now)) out.old }
-{
-    let mut count: u16 = 0;
-    let mut u: u16 = 0;
-    while u < n {
-        if is_seen(from, u) {
-            out[count as usize] = u;
-            count += 1;
-        }
-        u += 1;
-    }
-    count
+    x == v || u < n && is_seen(from, u)
 }
 
 // Writes both sets with marks of nobody to work in.
 fn write_sets(
-    n: u16,
+    links: &Links,
     v: u16,
-    links: &[u16],
-    next: &[u16],
     holders: &[u16],
     from: &mut [u16],
     queued: &mut [u16],
     seen: &mut [u16],
 ) -> Reached
-    requires { IndexFor n links.now next.now × Sets n holders.now v from.old queued.old seen.old }
-    ensures answer { result ≡ both_counted n links.now holders.now v }
-    ensures queued { queued.new ≡ set_written n (queued_from n links.now holders.now v) queued.old }
-    ensures seen { seen.new ≡ set_written n (seen_from n links.now holders.now v) seen.old }
+    requires { Sets links.now.n holders.now v from.old queued.old seen.old }
+    ensures answer { result ≡ both_counted links.now.n links.now.ends.now holders.now v }
+    ensures queued { queued.new ≡ set_written links.now.n (queued_from links.now.n links.now.ends.now holders.now v) queued.old }
+    ensures seen { seen.new ≡ set_written links.now.n (seen_from links.now.n links.now.ends.now holders.now v) seen.old }
 {
-    walk_from(n, v, links, next, holders, from);
-    let first = write_queued(n, v, holders, from, queued);
-    let second = write_marked(n, from, seen);
+    let n = links.n;
+    walk_from(links, v, holders, from);
+    let first = write_them(n, |x| is_joined(n, v, holders, from, x), queued);
+    let second = write_them(n, |u| is_seen(from, u), seen);
     Reached {
-        done: true,
         queued: first,
         seen: second,
     }
 }
 
 // Whether the sets may be written to lists with room for so many.
+#[tactic(auto, unfolding(crate::specs::Reached::reachable))]
 fn is_reachable(n: u16, v: u16, holders: &[u16], room: usize, room2: usize) -> bool
     ensures { result ≡ reachable n holders.now v room room2 }
 {
-    if !crate::is_placeable(n, v, holders) {
-        return false;
-    }
-    lists::tests::both((n as usize) <= room, (n as usize) <= room2)
+    crate::is_placeable(n, v, holders) && (n as usize) <= room && (n as usize) <= room2
 }
 
-// Writes all that joins the queue, and all that is seen, in the walk from v, with the index of the links. Answers whether they may be written, and their numbers; if they may not, nothing is changed.
+// Writes all that joins the queue, and all that is seen, in the walk from v. Answers their numbers; or None where they may not be written, and nothing is changed.
 pub fn reached_from(
-    n: u16,
+    links: &Links,
     v: u16,
-    links: &[u16],
-    next: &[u16],
     holders: &[u16],
     queued: &mut [u16],
     seen: &mut [u16],
-) -> Reached
-    requires { IndexFor n links.now next.now }
-    ensures answer { result ≡ reached_answer n links.now holders.now v (length queued.old) (length seen.old) }
-    ensures queued { queued.new ≡ queued_written n links.now holders.now v queued.old seen.old }
-    ensures seen { seen.new ≡ seen_written n links.now holders.now v queued.old seen.old }
+) -> Option<Reached>
+    ensures answer { result ≡ reached_answer links.now.n links.now.ends.now holders.now v (length queued.old) (length seen.old) }
+    ensures queued { queued.new ≡ queued_written links.now.n links.now.ends.now holders.now v queued.old seen.old }
+    ensures seen { seen.new ≡ seen_written links.now.n links.now.ends.now holders.now v queued.old seen.old }
 {
-    if !is_reachable(n, v, holders, queued.len(), seen.len()) {
-        return Reached {
-            done: false,
-            queued: 0,
-            seen: 0,
-        };
+    if !is_reachable(links.n, v, holders, queued.len(), seen.len()) {
+        return None;
     }
-    let mut from = lists::marks::nones();
-    let end = n as usize;
-    write_sets(n, v, links, next, holders, &mut from[..end], queued, seen)
+    let mut from = [lists::NONE; lists::PLACES];
+    let end = links.n as usize;
+    Some(write_sets(links, v, holders, &mut from[..end], queued, seen))
 }

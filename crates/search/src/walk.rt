@@ -1,102 +1,65 @@
-// The search for a gateway with a place free. What a gateway holds, it learns from the table alone.
-ghost use Rattle.std.specs.Prelude.{◌<◌, ◌≤◌, length, take};
+// The search for a gateway with a place free. It breaks off there, with whom it was looked at from. What a gateway holds, it learns from the table alone.
+ghost use Rattle.std.specs.Prelude.{◌≡◌, ◌<◌, length, take};
 ghost use Rattle.packing.specs.Plant.{at, neighbours};
 ghost use Rattle.search.specs.Search as model;
 ghost use Rattle.search.specs.Search.{more};
 ghost use Rattle.search.specs.Dead.{walk_past};
-ghost use Rattle.search.specs.Noted.{Notable, Noted};
-ghost use Rattle.search.specs.Pre.{PlantLists, ForEach, ForSome, Is, Ready, Walkable};
+ghost use Rattle.search.specs.Work.{SameLists, SameBack};
+ghost use Rattle.search.specs.Pre.{ForEach, ForSome, Is, Ready, Walkable};
 
-use crate::Walked;
 use crate::held::{Row, has_place, join};
-use crate::noted::note;
+use crate::plant::Plant;
+use crate::work::Work;
+use std::ops::ControlFlow;
 
 // Looks at u, a gateway, from x. If it marks u, u is noted.
-fn look(
-    limits: &[u8],
-    x: u16,
-    u: u16,
-    rows: &[Row],
-    queue: &mut [u16],
-    tail: usize,
-    from: &mut [u16],
-    looked: &mut [u16],
-    count: &mut usize,
-) -> Walked
-    requires { (u < length from.old) × (length from.old ≤ length limits.now) × Notable looked.old count.old from.old × ForSome rows.now (λ n hs. Ready n x hs queue.old tail from.old) }
-    ensures state { ForEach rows.now (λ n hs. Ready n x hs queue.old tail from.old) (λ n hs. Is result queue.new from.new (model.look n (at limits.now) hs x u (take tail queue.old) from.old)) }
-    ensures marks { Noted looked.old count.old from.old looked.new count.new from.new }
+fn look(plant: &Plant, x: u16, u: u16, rows: &[Row], work: &mut Work) -> ControlFlow<(u16, u16)>
+    requires { (u < length work.old.from.now) × (length work.old.from.now ≡ plant.now.links.n) × ForSome rows.now (λ n hs. Ready n x hs work.old.queue.now work.old.tail work.old.from.now) }
+    ensures state { ForEach rows.now (λ n hs. Ready n x hs work.old.queue.now work.old.tail work.old.from.now) (λ n hs. Is result work.new.tail work.new.queue.now work.new.from.now (model.look n (at plant.now.limits.now) hs x u (take work.old.tail work.old.queue.now) work.old.from.now)) }
+    ensures marks { SameBack work.old work.new }
+    ensures same { SameLists work.old work.new }
 {
-    if from[u as usize] != lists::NONE {
-        return Walked::RanOut(tail);
+    if work.from[u as usize] != lists::NONE {
+        return ControlFlow::Continue(());
     }
-    from[u as usize] = x;
-    note(u, looked, count);
-    if has_place(&rows[u as usize], limits[u as usize]) {
-        return Walked::Found(u, x);
+    work.from[u as usize] = x;
+    work.looked[work.count] = u;
+    work.count += 1;
+    if has_place(&rows[u as usize], plant.limits[u as usize]) {
+        return ControlFlow::Break((u, x));
     }
-    Walked::RanOut(join(&rows[u as usize], queue, tail))
+    work.tail = join(&rows[u as usize], work.queue, work.tail);
+    ControlFlow::Continue(())
 }
 
-// Goes through x's links in order of arrival, along its chain.
-fn visit(
-    limits: &[u8],
-    x: u16,
-    links: &[u16],
-    next: &[u16],
-    rows: &[Row],
-    queue: &mut [u16],
-    tail: usize,
-    from: &mut [u16],
-    looked: &mut [u16],
-    count: &mut usize,
-) -> Walked
-    requires { PlantLists (length from.old) limits.now links.now next.now × Notable looked.old count.old from.old × ForSome rows.now (λ n hs. Ready n x hs queue.old tail from.old) }
-    ensures state { ForEach rows.now (λ n hs. Ready n x hs queue.old tail from.old) (λ n hs. Is result queue.new from.new (model.visit n (at limits.now) hs x (neighbours links.now x) (more (take tail queue.old) from.old))) }
-    ensures marks { Noted looked.old count.old from.old looked.new count.new from.new }
+// Goes through x's links in order of arrival, along its chain. It is no `for`: each end says where the next is.
+fn visit(plant: &Plant, x: u16, rows: &[Row], work: &mut Work) -> ControlFlow<(u16, u16)>
+    requires { (length work.old.from.now ≡ plant.now.links.n) × ForSome rows.now (λ n hs. Ready n x hs work.old.queue.now work.old.tail work.old.from.now) }
+    ensures state { ForEach rows.now (λ n hs. Ready n x hs work.old.queue.now work.old.tail work.old.from.now) (λ n hs. Is result work.new.tail work.new.queue.now work.new.from.now (model.visit n (at plant.now.limits.now) hs x (neighbours plant.now.links.ends.now x) (more (take work.old.tail work.old.queue.now) work.old.from.now))) }
+    ensures marks { SameBack work.old work.new }
+    ensures same { SameLists work.old work.new }
 {
-    let mut end = tail;
-    let mut e = chains::first_end(next, x);
+    let mut e = chains::first_end(plant.links.next, x);
     while e != lists::NONE {
-        let u = chains::neighbour_at(links, e);
-        let w = look(limits, x, u, rows, queue, end, from, looked, count);
-        match w {
-            Walked::Found(y, z) => return Walked::Found(y, z),
-            Walked::RanOut(t) => end = t,
-        }
-        e = chains::next_end(next, e);
+        let u = chains::neighbour_at(plant.links.ends, e);
+        look(plant, x, u, rows, work)?;
+        e = chains::next_end(plant.links.next, e);
     }
-    Walked::RanOut(end)
+    ControlFlow::Continue(())
 }
 
-// The search from the first `tail` of the queue, past those that are marked. A limit of 0 leaves nobody a place free. All that it marks are noted.
-pub(crate) fn walk(
-    limits: &[u8],
-    links: &[u16],
-    next: &[u16],
-    rows: &[Row],
-    queue: &mut [u16],
-    tail: usize,
-    from: &mut [u16],
-    looked: &mut [u16],
-    count: &mut usize,
-) -> Walked
-    requires { PlantLists (length from.old) limits.now links.now next.now × Notable looked.old count.old from.old × ForSome rows.now (λ n hs. Walkable n hs queue.old tail from.old) }
-    ensures state { ForEach rows.now (λ n hs. Walkable n hs queue.old tail from.old) (λ n hs. Is result queue.new from.new (walk_past n (at limits.now) links.now hs (take tail queue.old) from.old)) }
-    ensures marks { Noted looked.old count.old from.old looked.new count.new from.new }
+// The search from those queued, past those that are marked. A limit of 0 leaves nobody a place free. All that it marks are noted. It is no `for`: the queue grows meanwhile.
+pub(crate) fn walk(plant: &Plant, rows: &[Row], work: &mut Work) -> ControlFlow<(u16, u16)>
+    requires { (length work.old.from.now ≡ plant.now.links.n) × ForSome rows.now (λ n hs. Walkable n hs work.old.queue.now work.old.tail work.old.from.now) }
+    ensures state { ForEach rows.now (λ n hs. Walkable n hs work.old.queue.now work.old.tail work.old.from.now) (λ n hs. Is result work.new.tail work.new.queue.now work.new.from.now (walk_past n (at plant.now.limits.now) plant.now.links.ends.now hs (take work.old.tail work.old.queue.now) work.old.from.now)) }
+    ensures marks { SameBack work.old work.new }
+    ensures same { SameLists work.old work.new }
 {
-    let mut end = tail;
     let mut head: usize = 0;
-    while head < end {
-        let x = queue[head];
-        let w = visit(
-            limits, x, links, next, rows, queue, end, from, looked, count,
-        );
-        match w {
-            Walked::Found(y, z) => return Walked::Found(y, z),
-            Walked::RanOut(e) => end = e,
-        }
+    while head < work.tail {
+        let x = work.queue[head];
+        visit(plant, x, rows, work)?;
         head += 1;
     }
-    Walked::RanOut(end)
+    ControlFlow::Continue(())
 }

@@ -1,4 +1,6 @@
-use Rattle.search.proofs.Rows.{table-count, rows_whole}
+use Rattle.search.proofs.Rows.{rows_whole}
+use borrow.Author.Rules.{rules}
+use Rattle.search.proofs.SameWork.{ends-as}
 use Rattle.search.proofs.Tested.{place-free, place-refuses, place-places}
 use Rattle.recursion.specs.Recursion.{recursive_after, recursive_moved}
 use mathlib.Core.Path.{ap}
@@ -12,14 +14,11 @@ returns-then-not-is_placeable c = let all = place-refuses _ _ _ c.is_placeable.e
 pub gather-requires : goal.gather-requires
 gather-requires c = c.empty_rows-rows.ensures
 
-pub slice_bounds-place_kept-end : goal.slice_bounds-place_kept-end
-slice_bounds-place_kept-end c = table-count _ _ c.gather.ensures
-
-pub place_kept-moved-requires : goal.place_kept-moved-requires
-place_kept-moved-requires c =
+pub place_kept-requires : goal.place_kept-requires
+place_kept-requires c =
     let free = place-free _ _ _ c.is_placeable.ensures (ap not c.if-not-is_placeable.false) in
     record { free = free; index = c.requires; table = rows_whole free.few c.gather.ensures }
 
 pub returns : goal.returns
 unfolding recursive_after recursive_moved
-returns c = let all = place-places _ _ _ c.is_placeable.ensures (ap not c.if-not-is_placeable.false) c.place_kept-moved.ensures.holders c.place_kept-moved.ensures.moved in record { answer = all.0; holders = all.1 }
+returns c = let all = place-places _ _ _ c.is_placeable.ensures (ap not c.if-not-is_placeable.false) c.place_kept.ensures.holders c.place_kept.ensures.moved in record { answer = all.0; holders = ends-as all.1 (search rules) }

@@ -9,9 +9,9 @@ pub returns-then-not-is_placeable : goal.returns-then-not-is_placeable
 unfolding holders_after moved_by
 returns-then-not-is_placeable c = let all = place-refuses _ _ _ c.is_placeable.ensures _ (ap not c.if-not-is_placeable.true) in record { answer = all.0; holders = all.1 }
 
-pub place_unheld-moved-requires : goal.place_unheld-moved-requires
-place_unheld-moved-requires c = (c.requires, place-free _ _ _ c.is_placeable.ensures (ap not c.if-not-is_placeable.false))
+pub place_unheld-requires : goal.place_unheld-requires
+place_unheld-requires c = place-free _ _ _ c.is_placeable.ensures (ap not c.if-not-is_placeable.false)
 
 pub returns : goal.returns
 unfolding holders_after moved_by
-returns c = let all = place-places _ _ _ c.is_placeable.ensures (ap not c.if-not-is_placeable.false) c.place_unheld-moved.ensures.holders c.place_unheld-moved.ensures.moved in record { answer = all.0; holders = all.1 }
+returns c = let all = place-places _ _ _ c.is_placeable.ensures (ap not c.if-not-is_placeable.false) c.place_unheld.ensures.holders c.place_unheld.ensures.moved in record { answer = all.0; holders = all.1 }

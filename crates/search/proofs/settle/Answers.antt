@@ -1,20 +1,14 @@
+use Rattle.search.proofs.Settling.{settle_some, settle_kept, settle_left}
 use mathlib.Core.Path.{◌∙◌}
 use lib.ListN.{length-set}
-use Rattle.search.proofs.Settling.{settle_some, settle_kept, settle_left}
-use Rattle.search.proofs.States.{lists_told}
+use Rattle.search.proofs.SameWork.{same_held}
 use Rattle.search.proofs.settle.Goals as goal
 
-pub walk-w-requires : goal.walk-w-requires
-walk-w-requires c = (lists_told c.requires.2.going.marks c.requires.0, c.requires.1, settle_some c.requires.2)
+pub walk-requires : goal.walk-requires
+walk-requires c = (c.requires.going.marks, settle_some c.requires)
 
-pub shape_of-queue-in-Found : goal.shape_of-queue-in-Found
-shape_of-queue-in-Found c = c.walk-w.auto.queue ∙ length-set c.args.queue.now 0 c.args.v
+pub returns-in-Break : goal.returns-in-Break
+returns-in-Break c = let same = c.walk.ensures.same in record { outcome = settle_kept _ _ c.requires c.walk.ensures.state _ c.in-Break.is (c.shift_back.ensures.holders, (c.shift_back.ensures.count, c.shift_back.ensures.rows)); marks = c.walk.ensures.marks; same = record { queue = same.queue; from = same.from; looked = same.looked; places = same.places ∙ length-set _ _ _; marks = same.marks; notes = same.notes }; held = c.shift_back.ensures.same }
 
-pub returns-in-Found : goal.returns-in-Found
-returns-in-Found c = record { outcome = settle_kept _ _ c.requires.2 c.walk-w.ensures.state _ c.in-Found.is (c.shift_back.ensures.holders, (c.shift_back.ensures.count, c.shift_back.ensures.rows)); marks = c.walk-w.ensures.marks }
-
-pub shape_of-queue-in-RanOut : goal.shape_of-queue-in-RanOut
-shape_of-queue-in-RanOut c = c.walk-w.auto.queue ∙ length-set c.args.queue.now 0 c.args.v
-
-pub returns-in-RanOut : goal.returns-in-RanOut
-returns-in-RanOut c = record { outcome = settle_left _ _ c.requires.2 c.walk-w.ensures.state c.in-RanOut.is; marks = c.walk-w.ensures.marks }
+pub returns-in-Continue : goal.returns-in-Continue
+returns-in-Continue c = let same = c.walk.ensures.same in record { outcome = settle_left _ _ c.requires c.walk.ensures.state c.in-Continue.is; marks = c.walk.ensures.marks; same = record { queue = same.queue; from = same.from; looked = same.looked; places = same.places ∙ length-set _ _ _; marks = same.marks; notes = same.notes }; held = same_held }

@@ -1,12 +1,9 @@
 use Rattle.search.proofs.Seen.{byte_seen}
-use Rattle.packing.proofs.Lists.{list-start, list-turn, list-end}
+use Rattle.packing.proofs.Lists.{list-start, list-turn}
 use Rattle.search.proofs.bytes.write_seen.Goals as goal
 
 pub loop-v-init : goal.loop-v-init
 loop-v-init c = list-start _ _ _
 
 pub loop-v-preserved : goal.loop-v-preserved
-loop-v-preserved c = list-turn _ _ _ c.requires c.loop-v.invariant c.loop-v-test.true (byte_seen _ _ c.mark_byte.ensures)
-
-pub returns : goal.returns
-returns c = list-end _ _ _ c.loop-v.invariant c.loop-v-test.false
+loop-v-preserved c = list-turn _ _ _ c.requires c.loop-v.invariant c.loop-v-test.true (byte_seen _ _ c.from.ensures)

@@ -1,4 +1,3 @@
-use Prim.Native.Nat.{◌-◌}
 use lib.ListN.{length}
 use Rattle.search.specs.ChokePre.{seen_byte}
 use Rattle.packing.proofs.Lists.{Listed}
@@ -6,6 +5,3 @@ use Rattle.search.proofs.bytes.write_seen.Given as goal
 
 abbrev pub invariant-loop-v : goal.invariant-loop-v
 invariant-loop-v l = Listed (length l.from) (seen_byte l.from) l.initial.out l.out l.v
-
-abbrev pub decreases-loop-v : goal.decreases-loop-v
-decreases-loop-v l = length l.from - l.v

@@ -1,14 +1,12 @@
-use Rattle.search.proofs.RowSteps.{raising_start, raising_done, raising_turn, raising_end}
+use native.Mathlib.Omega.{arith}
+use Rattle.search.proofs.RowSteps.{raising_done, raising_turn, raising_end}
 use Rattle.search.proofs.held.raise.Goals as goal
 
-pub loop-i-init : goal.loop-i-init
-loop-i-init c = raising_start _ _ _
-
 pub returns-then-y-behind : goal.returns-then-y-behind
-returns-then-y-behind c = raising_done _ _ _ c.loop-i.invariant c.loop-i-test.true c.number-behind.ensures c.if-y-behind.true
+returns-then-y-behind c = raising_done _ _ _ c.loop-i.invariant (omega (arith, c.loop-i.auto.row, c.loop-i-test.true)) c.number-behind.ensures c.if-y-behind.true
 
 pub loop-i-preserved : goal.loop-i-preserved
-loop-i-preserved c = raising_turn _ _ _ c.loop-i.invariant c.loop-i-test.true c.number-behind.ensures c.if-y-behind.false
+loop-i-preserved c = raising_turn _ _ _ c.loop-i.invariant (omega (arith, c.loop-i.auto.row, c.loop-i-test.true)) c.number-behind.ensures c.if-y-behind.false
 
 pub returns : goal.returns
-returns c = raising_end _ _ _ c.loop-i.invariant c.loop-i-test.false
+returns c = raising_end _ _ _ c.loop-i.invariant (omega (arith, c.loop-i.auto.row, c.loop-i-test.false))

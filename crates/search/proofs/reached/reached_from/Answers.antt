@@ -1,6 +1,6 @@
 use Rattle.search.proofs.Settling.{marks-room, place-marks}
 use Rattle.search.proofs.ReachedTests.{reached_free, reached_sets, reached_refuses, reached_writes}
-use mathlib.Core.Path.{ap}
+use mathlib.Core.Path.{refl, ap}
 use mathlib.Core.Bool.{not}
 use Rattle.search.proofs.reached.reached_from.Goals as goal
 
@@ -12,17 +12,17 @@ returns-then-not-is_reachable c =
 pub slice_bounds-from-end : goal.slice_bounds-from-end
 slice_bounds-from-end c =
     let args = c.args in
-    marks-room c.nones-from.ensures (reached_free _ _ _ args.queued.now args.seen.now c.is_reachable.ensures (ap not c.if-not-is_reachable.false)).0.few
+    marks-room refl (reached_free _ _ _ args.queued.now args.seen.now c.is_reachable.ensures (ap not c.if-not-is_reachable.false)).0.few
 
 pub slice_bounds-write_sets-end : goal.slice_bounds-write_sets-end
 slice_bounds-write_sets-end c =
     let args = c.args in
-    place-marks c.nones-from.ensures (reached_free _ _ _ args.queued.now args.seen.now c.is_reachable.ensures (ap not c.if-not-is_reachable.false)).0.few
+    place-marks refl (reached_free _ _ _ args.queued.now args.seen.now c.is_reachable.ensures (ap not c.if-not-is_reachable.false)).0.few
 
 pub write_sets-requires : goal.write_sets-requires
 write_sets-requires c =
     let args = c.args in
-    (c.requires, reached_sets _ _ _ args.queued.now args.seen.now c.is_reachable.ensures c.nones-from.ensures (ap not c.if-not-is_reachable.false))
+    reached_sets _ _ _ args.queued.now args.seen.now c.is_reachable.ensures refl (ap not c.if-not-is_reachable.false)
 
 pub returns : goal.returns
 returns c =

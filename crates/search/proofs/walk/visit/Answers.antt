@@ -1,43 +1,24 @@
-use mathlib.Core.Path.{refl}
-use native.Mathlib.Omega.{arith}
-use Rattle.search.proofs.Noting.{noted_same, noted_then, noted-on}
-use Rattle.search.proofs.Looks.{ready_below, visit-start, visit_ready, visit-places, visit_neighbour, visit-turn, visit-ends, visit_out}
+use mathlib.Core.Path.{◌∙◌}
+use Rattle.chains.proofs.LinkMore.{index_told}
+use Rattle.search.proofs.SameWork.{same_then}
+use Rattle.search.proofs.Looks.{visit-turn, visit-ends, visit_out}
 use Rattle.search.proofs.walk.visit.Goals as goal
 
-pub first_end-e-requires : goal.first_end-e-requires
-first_end-e-requires c = (omega (arith, c.requires.0.index.index.room), ready_below c.requires.2)
-
-pub loop-e-init : goal.loop-e-init
-loop-e-init c = (visit-start _ _ _ _ _ _ _ _ c.requires.0.index c.requires.2 c.first_end-e.ensures, (refl, noted_same c.requires.1))
-
-pub neighbour_at-u-requires : goal.neighbour_at-u-requires
-neighbour_at-u-requires c = (visit-places _ _ _ _ _ _ _ _ c.requires.0.index c.requires.2 c.loop-e.invariant.0 c.loop-e-test.true).0
-
-pub look-w-requires : goal.look-w-requires
-look-w-requires c = (
-  visit_neighbour _ _ _ _ _ _ _ _ c.requires.0.index c.requires.2 c.loop-e.invariant.0 c.loop-e-test.true c.neighbour_at-u.ensures,
-  omega (arith, c.loop-e.invariant.0.same.1, c.requires.0.limited),
-  c.loop-e.invariant.1.1.notable,
-  visit_ready _ _ _ _ _ _ _ _ c.requires.0.index c.requires.2 c.loop-e.invariant.0,
-)
-
-pub returns-in-Found : goal.returns-in-Found
-returns-in-Found c = record { state = visit-ends _ _ _ _ _ _ _ _ c.requires.0.index c.requires.2 c.loop-e.invariant.0 c.loop-e-test.true c.neighbour_at-u.ensures c.look-w.ensures.state c.in-Found.is; marks = noted_then c.loop-e.invariant.1.1 c.look-w.ensures.marks }
-
-pub next_end-e-requires : goal.next_end-e-requires
-next_end-e-requires c = (visit-places _ _ _ _ _ _ _ _ c.requires.0.index c.requires.2 c.loop-e.invariant.0 c.loop-e-test.true).1
+pub returns-in_err-look : goal.returns-in_err-look
+returns-in_err-look c = record { state = rw c.from_residual.ensures (visit-ends _ _ _ _ _ _ _ _ (index_told c.requires.0 c.args.plant.now.links.index) c.requires.1 c.loop-e.invariant.state c.loop-e-test.true c.neighbour_at-u.ensures c.look.ensures.state c.in_err-look.was); marks = c.look.ensures.marks ∙ c.loop-e.invariant.noted; same = same_then c.loop-e.invariant.same c.look.ensures.same }
 
 pub loop-e-smaller : goal.loop-e-smaller
 loop-e-smaller c =
-    (visit-turn _ _ _ _ _ _ _ _ c.requires.0.index c.requires.2 c.loop-e.invariant.0 c.loop-e-test.true c.neighbour_at-u.ensures c.look-w.ensures.state c.in-RanOut.is
-    (c.look-w.auto.queue, c.look-w.auto.from) c.next_end-e.ensures).1
+    (visit-turn _ _ _ _ _ _ _ _ (index_told c.requires.0 c.args.plant.now.links.index) c.requires.1 c.loop-e.invariant.state c.loop-e-test.true c.neighbour_at-u.ensures c.look.ensures.state c.in_ok-look.was
+    (c.look.ensures.same.places, c.look.ensures.same.marks) c.next_end-e.ensures).1
 
 pub loop-e-preserved : goal.loop-e-preserved
-loop-e-preserved c = (
-  (visit-turn _ _ _ _ _ _ _ _ c.requires.0.index c.requires.2 c.loop-e.invariant.0 c.loop-e-test.true c.neighbour_at-u.ensures c.look-w.ensures.state c.in-RanOut.is
-      (c.look-w.auto.queue, c.look-w.auto.from) c.next_end-e.ensures).0,
-  noted-on c.loop-e.invariant.1 c.look-w.auto.looked c.look-w.ensures.marks,
-)
+loop-e-preserved c = record {
+  state = (visit-turn _ _ _ _ _ _ _ _ (index_told c.requires.0 c.args.plant.now.links.index) c.requires.1 c.loop-e.invariant.state c.loop-e-test.true c.neighbour_at-u.ensures c.look.ensures.state c.in_ok-look.was
+      (c.look.ensures.same.places, c.look.ensures.same.marks) c.next_end-e.ensures).0;
+  noted = c.look.ensures.marks ∙ c.loop-e.invariant.noted;
+  same = same_then c.loop-e.invariant.same c.look.ensures.same;
+}
 
 pub returns : goal.returns
-returns c = record { state = visit_out _ _ _ _ _ _ _ _ c.requires.0.index c.requires.2 c.loop-e.invariant.0 c.loop-e-test.false; marks = c.loop-e.invariant.1.1 }
+returns c = record { state = visit_out _ _ _ _ _ _ _ _ (index_told c.requires.0 c.args.plant.now.links.index) c.requires.1 c.loop-e.invariant.state c.loop-e-test.false; marks = c.loop-e.invariant.noted; same = c.loop-e.invariant.same }
