@@ -1,12 +1,12 @@
 -- The leader list that the checker is handed: the entries that the bytes say, cut at 1,024.
-use Prim.Native.Nat.{ℕ, zero, suc, ◌*◌, ◌/◌, ◌<◌, ◌≤◌}
+use Prim.Native.Nat.{ℕ, zero, suc, ◌*◌, ◌/◌, ◌<◌, ◌≤◌, min}
 use mathlib.Core.Path.{◌≡◌, refl, sym, ◌∙◌}
 use mathlib.Core.List.{List}
 use native.Mathlib.Omega.{arith}
 use lib.Dec.{ltb}
 use lib.ListN.{length, take}
 use lib.Seq.{length-take-le, get_or-take}
-use borrow.Author.Tests.{lt-ltb, le-ltb, ltb-true, ltb-false}
+use borrow.Author.Tests.{ltb-true, ltb-false}
 use Rattle.packing.specs.Lists.{list_of, written}
 use Rattle.packing.specs.Plant.{GATEWAYS}
 use Rattle.packing.proofs.Tests.{by_bool}
@@ -20,19 +20,8 @@ use Rattle.checker.proofs.Below.{first-only}
 use Rattle.daemon.specs.Check.{entries_in, groups_check}
 use Rattle.daemon.specs.Pre.{entries_read}
 
--- how many entries are read
-module _ (len : ℕ) where
-  pub read-cut : GATEWAYS < len / 2 → GATEWAYS ≡ entries_read len
-  unfolding entries_read
-  read-cut l = rw (lt-ltb GATEWAYS (len / 2) l)
-
-  pub read_all : len / 2 ≤ GATEWAYS → len / 2 ≡ entries_read len
-  unfolding entries_read
-  read_all l = rw (le-ltb GATEWAYS (len / 2) l)
-
-  pub read-few : {k : ℕ} → k ≡ entries_read len → k ≤ GATEWAYS
-  unfolding entries_read
-  read-few e = by_bool (ltb GATEWAYS (len / 2)) (λ q. rw (e, q) (omega arith)) (λ q. rw (e, q) (ltb-false GATEWAYS (len / 2) q))
+pub read-few : (len : ℕ) {k : ℕ} → k ≡ entries_read len → k ≤ GATEWAYS
+read-few len e = omega arith
 
 -- the first values of a list of values
 take-list_of : (n k : ℕ) (f : ℕ → ℕ) → n ≤ k → take n (list_of k f) ≡ list_of n f
@@ -52,6 +41,14 @@ cut_alike file choke k f l = go (file_refusal file) refl
 
 pub checked_bytes : (file leaders choke old : List ℕ) {k r : ℕ} {new : List ℕ} → k ≡ entries_read (length leaders) → new ≡ written k (list_of k (λ i. number leaders (2 * i))) old → r ≡ check_refusal file (take k new) choke
     → r ≡ groups_check file leaders choke
-unfolding entries_read groups_check entries_in
+unfolding groups_check entries_in
 checked_bytes file leaders choke old {k} e f g = g ∙ rw (f, written-front k (list_of k (λ i. number leaders (2 * i))) old (list_of-length k _), e)
-    (by_bool (ltb GATEWAYS (length leaders / 2)) (λ q. rw q (cut_alike file choke (length leaders / 2) (λ i. number leaders (2 * i)) (omega (arith, ltb-true GATEWAYS (length leaders / 2) q)))) (λ q. rw q))
+    (by_bool (ltb GATEWAYS (length leaders / 2))
+    (λ q. rw (cut (ltb-true GATEWAYS (length leaders / 2) q)) (cut_alike file choke (length leaders / 2) (λ i. number leaders (2 * i)) (omega (arith, ltb-true GATEWAYS (length leaders / 2) q))))
+    (λ q. rw (whole (ltb-false GATEWAYS (length leaders / 2) q))))
+  where
+    cut : GATEWAYS < length leaders / 2 → min (length leaders / 2) GATEWAYS ≡ GATEWAYS
+    cut l = omega arith
+
+    whole : length leaders / 2 ≤ GATEWAYS → min (length leaders / 2) GATEWAYS ≡ length leaders / 2
+    whole l = omega arith

@@ -1,6 +1,6 @@
 -- The calls from C: their number, and the bytes that they write.
 use Prim.Native.Nat.{ℕ, ◌<◌, ◌≤◌}
-use mathlib.Core.Path.{◌≡◌, sym, ap, ◌∙◌}
+use mathlib.Core.Path.{◌≡◌, sym, ◌∙◌}
 use mathlib.Core.Bool.{true, false, false≢true}
 use mathlib.Core.List.{List, ◌++◌}
 use native.Mathlib.Omega.{arith}
@@ -15,9 +15,8 @@ use Rattle.planner.specs.declared.Way.{Way}
 use Rattle.planner.specs.declared.Way.TheVariants.{Recursive}
 use Rattle.plant_file.specs.PlantFile.{file_n, file_refusal}
 use Rattle.plant_file.specs.Encode.{low_first}
-use Rattle.plan.specs.declared.Planned.{Planned}
 use Rattle.plan.specs.Plan.{file_moves_by}
-use Rattle.plan.specs.After.{after_refusal, plan_moves_by, planned_by, plan_leaders_by, plan_choke_by}
+use Rattle.plan.specs.After.{after_refusal, plan_after_refusal, plan_moves_by, plan_leaders_by, plan_choke_by}
 use Rattle.plan.proofs.Refusing.{after_none, after-within}
 use Rattle.plan.proofs.After.{after-own, leaders_front, choke_front}
 use Rattle.plan.proofs.FilePlan.{leaders_all, choke_all}
@@ -41,29 +40,26 @@ long-number w file k out {n} is long f g =
     (f ∙ rw fits, g ∙ rw fits)
 
 -- the plan into lists of 1,024 entries
-module _ (w : Way) (file : List ℕ) (k : ℕ) {a b : List ℕ} (ea : a ≡ replicate GATEWAYS 0) (eb : b ≡ replicate GATEWAYS 0) {r : Planned} (of : r ≡ planned_by w file k (length a) (length b)) where
-  plan-is : r.refusal ≡ after_refusal file k false
-  plan-is = ap (λ (p : Planned). p.refusal) of ∙ after-own file k ea eb
+module _ (w : Way) (file : List ℕ) (k : ℕ) {a b : List ℕ} (ea : a ≡ replicate GATEWAYS 0) (eb : b ≡ replicate GATEWAYS 0) {e : ℕ} (of : e ≡ plan_after_refusal file k (length a) (length b)) where
+  plan-is : e ≡ after_refusal file k false
+  plan-is = of ∙ after-own file k ea eb
 
-  pub plan-refuses : (out : List ℕ) → (r.refusal ≡ 0 → ⊥) → (r.refusal ≡ after_refusal file k false) × (out ≡ by_number (after_refusal file k false) (written (bytes_for (file_n file)) (bytes_by w file k) out) out)
+  pub plan-refuses : (out : List ℕ) → (e ≡ 0 → ⊥) → (e ≡ after_refusal file k false) × (out ≡ by_number (after_refusal file k false) (written (bytes_for (file_n file)) (bytes_by w file k) out) out)
   plan-refuses out z = (plan-is, refused _ _ plan-is z)
 
-  module _ (z : r.refusal ≡ 0) {n : ℕ} (is : n ≡ file_n file) {l c : List ℕ} (leaders : l ≡ plan_leaders_by w file k a b) (choke : c ≡ plan_choke_by w file k a b) where
+  module _ (z : e ≡ 0) {n : ℕ} (is : n ≡ file_n file) {l c : List ℕ} (leaders : l ≡ plan_leaders_by w file k a b) (choke : c ≡ plan_choke_by w file k a b) where
     fine : (file_refusal file ≡ 0) × (k ≤ file_n file) × (false ≡ false)
     fine = after_none file k false (sym plan-is ∙ z)
-
-    moved-is : r.moved ≡ file_moves_by w file k
-    unfolding plan_moves_by
-    moved-is = ap (λ (p : Planned). p.moved) of ∙ rw (sym (ap (λ (p : Planned). p.refusal) of) ∙ z)
 
     pub plannable : (out : List ℕ) → bytes_for (file_n file) ≤ length out → Plannable n l c out
     plannable out room =
         record { led = (leaders_front file fine.0 w k fine.1 is ea eb leaders).room; choked = (choke_front file fine.0 w k fine.1 is ea eb choke).room; places = omega arith }
 
-    pub plan_accepts : (out : List ℕ) {out' : List ℕ} → out' ≡ written (bytes_for n) (low_first (take n l) ++ take n c ++ four_bytes r.moved) out
+    pub plan_accepts : (out : List ℕ) {m : ℕ} {out' : List ℕ} → m ≡ plan_moves_by w file k (length a) (length b) → out' ≡ written (bytes_for n) (low_first (take n l) ++ take n c ++ four_bytes m) out
         → (0 ≡ after_refusal file k false) × (out' ≡ by_number (after_refusal file k false) (written (bytes_for (file_n file)) (bytes_by w file k) out) out)
-    unfolding bytes_by
-    plan_accepts out h =
+    unfolding bytes_by plan_moves_by
+    plan_accepts out {m} moved h =
+        let moved-is : m ≡ file_moves_by w file k = moved ∙ rw (sym of ∙ z) in
         (sym z ∙ plan-is, accepted _ _ plan-is z (h ∙ rw ((leaders_front file fine.0 w k fine.1 is ea eb leaders).is, (choke_front file fine.0 w k fine.1 is ea eb choke).is, moved-is, is)))
 
 -- After n placings 24 is not given, and the bytes are the plan's.

@@ -1,11 +1,12 @@
 -- The loops that write a plan's bytes.
-use Prim.Native.Nat.{ℕ, suc, ◌+◌, ◌*◌, ◌/◌, ◌%◌, ◌<◌, ◌≤◌}
+use Prim.Native.Nat.{ℕ, suc, ◌+◌, ◌-◌, ◌*◌, ◌/◌, ◌%◌, ◌<◌, ◌≤◌}
 use mathlib.Core.Path.{◌≡◌, refl, sym, ap, ◌∙◌}
-use mathlib.Core.List.{List, [], ◌∷◌, ◌++◌}
+use mathlib.Core.List.{List, [], ◌∷◌, ◌++◌, append_assoc}
 use native.Mathlib.Numerals.{add-one}
 use native.Mathlib.Omega.{arith}
-use lib.ListN.{length, get_or, set, take, drop, length-set, length-append, drop_of_length-le}
-use lib.Seq.{sets, sets-eq, drop-cons, length-take-le}
+use lib.ListN.{length, get_or, take, drop, length-append, drop_of_length-le}
+use lib.Seq.{sets, sets-eq, drop-drop, drop-cons, length-take-le}
+use borrow.Rule.Slice.PartMut.{post_of}
 use Rattle.packing.specs.Lists.{written}
 use Rattle.packing.proofs.Lists.{sets_append}
 use Rattle.plant_file.specs.Encode.{low_first}
@@ -14,69 +15,33 @@ use Rattle.daemon.specs.Groups.{four_bytes, bytes_for}
 use Rattle.daemon.specs.Why.{set_bytes}
 use Rattle.daemon.specs.Pre.{Plannable, Settable}
 
+-- a part that is copied over is set so
+pub copied : (bytes : List ℕ) (start : ℕ) (out : List ℕ) {new : List ℕ} → start + length bytes ≤ length out → new ≡ bytes
+    → take start out ++ (new ++ post_of start (start + length bytes - start) out) ≡ sets out start bytes
+copied bytes start out room e = rw (e, behind, drop-drop (length bytes) start out) (sym (sets-eq bytes out start room ∙ append_assoc (take start out) bytes (drop (start + length bytes) out)))
+  where
+    behind : start + length bytes - start ≡ length bytes
+    behind = omega arith
+
 -- the first i numbers are written from a place on: what the rest makes of the list
 pub record Twos (numbers : List ℕ) (start : ℕ) (first now : List ℕ) (i : ℕ) : Type 0 where
-  pub upto : i ≤ length numbers
-  pub same : length now ≡ length first
   pub rest : sets now (start + 2 * i) (low_first (drop i numbers)) ≡ sets first start (low_first numbers)
 
 module _ (numbers : List ℕ) (start : ℕ) (first : List ℕ) where
-  pub twos_start : Twos numbers start first first 0
-  twos_start = record { upto = omega arith; same = refl; rest = rw zeroth }
-    where
-      zeroth : start + 2 * 0 ≡ start
-      zeroth = omega arith
-
-  pub twos_turn : {now : List ℕ} {i x a b : ℕ} → Twos numbers start first now i → i < length numbers → x ≡ get_or numbers i 0 → a ≡ x % 256 → b ≡ x / 256
-      → Twos numbers start first (set (set now (start + 2 * i) a) (start + 2 * i + 1) b) (i + 1)
+  pub twos_turn : {now new two : List ℕ} {i : ℕ} → Twos numbers start first now i → i < length numbers → get_or numbers i 0 < 65536
+      → two ≡ get_or numbers i 0 % 256 ∷ get_or numbers i 0 / 256 % 256 ∷ [] → new ≡ sets now (start + 2 * i) two → Twos numbers start first new (i + 1)
   unfolding low_first
-  twos_turn {now} {i} {x} {a} {b} k l e f g =
-      record { upto = omega arith; same = rw (length-set, length-set) k.same; rest = rw (f, g, e, twice, add-one, add-one) (rw (drop-cons numbers i 0 l) at k.rest) }
+  twos_turn {now} {new} {two} {i} k l small e f = record { rest = rw (f, e, high, twice, add-one) (rw (drop-cons numbers i 0 l) at k.rest) }
     where
+      high : get_or numbers i 0 / 256 % 256 ≡ get_or numbers i 0 / 256
+      high = omega arith
+
       twice : start + 2 * (i + 1) ≡ suc (suc (start + 2 * i))
       twice = omega arith
-
-  pub twos_room : {now : List ℕ} {i : ℕ} (a : ℕ) → Twos numbers start first now i → i < length numbers → start + 2 * length numbers ≤ length first → start + 2 * i + 1 < length (set now (start + 2 * i) a)
-  twos_room {now} {i} a k l room = rw length-set (omega (arith, k.same))
 
   pub twos_end : {now : List ℕ} {i : ℕ} → Twos numbers start first now i → length numbers ≤ i → now ≡ sets first start (low_first numbers)
   unfolding low_first
   twos_end {now} {i} k l = rw (drop_of_length-le numbers l) at k.rest
-
--- the first i bytes are written from a place on
-pub record Ones (bytes : List ℕ) (start : ℕ) (first now : List ℕ) (i : ℕ) : Type 0 where
-  pub upto : i ≤ length bytes
-  pub same : length now ≡ length first
-  pub rest : sets now (start + i) (drop i bytes) ≡ sets first start bytes
-
-module _ (bytes : List ℕ) (start : ℕ) (first : List ℕ) where
-  pub ones_start : Ones bytes start first first 0
-  ones_start = record { upto = omega arith; same = refl; rest = rw zeroth }
-    where
-      zeroth : start + 0 ≡ start
-      zeroth = omega arith
-
-  pub ones_turn : {now : List ℕ} {i : ℕ} → Ones bytes start first now i → i < length bytes → Ones bytes start first (set now (start + i) (get_or bytes i 0)) (i + 1)
-  ones_turn {now} {i} k l =
-      record { upto = omega arith; same = rw length-set k.same; rest = rw (more, add-one) (rw (drop-cons bytes i 0 l) at k.rest) }
-    where
-      more : start + (i + 1) ≡ suc (start + i)
-      more = omega arith
-
-  pub ones_end : {now : List ℕ} {i : ℕ} → Ones bytes start first now i → length bytes ≤ i → now ≡ sets first start bytes
-  ones_end {now} {i} k l = rw (drop_of_length-le bytes l) at k.rest
-
--- four bytes, one after the other
-pub four-written : (x start : ℕ) (out : List ℕ)
-    → set (set (set (set out start (x % 256)) (start + 1) ((x / 256) % 256)) (start + 2) ((x / 65536) % 256)) (start + 3) ((x / 16777216) % 256) ≡ sets out start (four_bytes x)
-unfolding four_bytes
-four-written x start out = rw (add-one start, two, three)
-  where
-    two : start + 2 ≡ suc (suc start)
-    two = omega arith
-
-    three : start + 3 ≡ suc (suc (suc start))
-    three = omega arith
 
 -- a list of which some first entries are set is written so
 sets_written : (k : ℕ) (front lent : List ℕ) → length front ≡ k → k ≤ length lent → sets lent 0 front ≡ written k front lent
@@ -104,23 +69,15 @@ four-long x = refl
 
 -- the first n of both lists, and the places for them and for the four bytes
 module _ (n : ℕ) (leaders choke out : List ℕ) (p : Plannable n leaders choke out) where
-  pub numbers_places : 0 + 2 * length (take n leaders) ≤ length out
-  numbers_places = omega (arith, length-take-le n leaders p.led, p.places)
-
-  pub bytes-places : {long : ℕ} → long ≡ length out → 2 * n + length (take n choke) ≤ long
-  bytes-places e = omega (arith, length-take-le n choke p.choked, p.places)
-
-  pub four-places : {long long' : ℕ} → long ≡ length out → long' ≡ long → 3 * n + 4 ≤ long'
-  four-places e f = omega (arith, p.places)
-
   both_long : length (low_first (take n leaders) ++ take n choke) ≡ 3 * n
   both_long = omega (arith, length-append (low_first (take n leaders)) (take n choke), low_long (take n leaders), length-take-le n leaders p.led, length-take-le n choke p.choked)
 
-  pub plan-written : (x : ℕ) {a b new : List ℕ} → a ≡ sets out 0 (low_first (take n leaders)) → b ≡ sets a (2 * n) (take n choke) → new ≡ sets b (3 * n) (four_bytes x)
+  pub plan-written : (x : ℕ) {a b new four : List ℕ} → four ≡ x % 256 ∷ x / 256 % 256 ∷ x / 65536 % 256 ∷ x / 16777216 % 256 ∷ [] → a ≡ sets out 0 (low_first (take n leaders)) → b ≡ sets a (2 * n) (take n choke) → new ≡ sets b (3 * n) four
       → new ≡ written (bytes_for n) (low_first (take n leaders) ++ take n choke ++ four_bytes x) out
-  plan-written x =
+  unfolding four_bytes
+  plan-written x e f g h =
       parts_written (low_first (take n leaders)) (take n choke) (four_bytes x) out (2 * n) (3 * n) (bytes_for n) (omega (arith, low_long (take n leaders), length-take-le n leaders p.led)) both_long
-      (omega (arith, length-append (low_first (take n leaders) ++ take n choke) (four_bytes x), both_long, four-long x)) p.places
+      (omega (arith, length-append (low_first (take n leaders) ++ take n choke) (four_bytes x), both_long, four-long x)) p.places f g (rw e at h)
 
 -- two sets: their counts, the first, the second
 module _ (first second : List ℕ) where

@@ -1,5 +1,5 @@
 -- What the contracts of private functions cite. A reader of the public ones needs none of it.
-use Rattle.std.specs.Prelude.{ℕ, ◌+◌, ◌*◌, ◌/◌, ◌≤◌, cond, List, ltb, length}
+use Rattle.std.specs.Prelude.{ℕ, ◌+◌, ◌*◌, ◌/◌, ◌≤◌, List, min, length}
 use Rattle.packing.specs.Plant.{GATEWAYS}
 use Rattle.daemon.specs.Groups.{bytes_for}
 
@@ -16,5 +16,5 @@ pub record Settable (first second out : List ℕ) : Type 0 where
   pub places : 4 + 2 * length first + 2 * length second ≤ length out
 
 -- how many entries of a leader list with so many bytes are read
-unfoldable pub entries_read : ℕ → ℕ
-entries_read len = cond (ltb GATEWAYS (len / 2)) GATEWAYS (len / 2)
+abbrev pub entries_read : ℕ → ℕ
+entries_read len = min (len / 2) GATEWAYS

@@ -1,5 +1,5 @@
 // A plan as bytes, and two sets of gateways; and a leader list from bytes.
-ghost use Rattle.std.specs.Prelude.{◌≡◌, ◌+◌, ◌*◌, ◌≤◌, ◌/◌, ◌%◌, ◌++◌, length, take};
+ghost use Rattle.std.specs.Prelude.{◌≡◌, ◌+◌, ◌*◌, ◌≤◌, ◌++◌, length, take};
 ghost use Rattle.std.proofs.lemmas.List.Edits.{sets};
 ghost use Rattle.packing.specs.Lists.{list_of, written};
 ghost use Rattle.packing.specs.Plant.{GATEWAYS};
@@ -9,16 +9,12 @@ ghost use Rattle.daemon.specs.Groups.{four_bytes, bytes_for};
 ghost use Rattle.daemon.specs.Why.{set_bytes};
 ghost use Rattle.daemon.specs.Pre.{Plannable, Settable, entries_read};
 
-fn low(x: u16) -> u8
-    ensures { result ≡ x % 256 }
+// Bytes from a place on.
+fn with_bytes(bytes: &[u8], start: usize, out: &mut [u8])
+    requires { start + length bytes.now ≤ length out.old }
+    ensures { out.new ≡ sets out.old start bytes.now }
 {
-    (x % 256) as u8
-}
-
-fn high(x: u16) -> u8
-    ensures { result ≡ x / 256 }
-{
-    (x / 256) as u8
+    out[start..start + bytes.len()].copy_from_slice(bytes);
 }
 
 // Numbers, two bytes each, from a place on.
@@ -26,36 +22,9 @@ fn with_numbers(numbers: &[u16], start: usize, out: &mut [u8])
     requires { start + 2 * length numbers.now ≤ length out.old }
     ensures { out.new ≡ sets out.old start (low_first numbers.now) }
 {
-    let mut i: usize = 0;
-    while i < numbers.len() {
-        let x = numbers[i];
-        out[start + 2 * i] = low(x);
-        out[start + 2 * i + 1] = high(x);
-        i += 1;
+    for (i, x) in numbers.iter().enumerate() {
+        with_bytes(&x.to_le_bytes(), start + 2 * i, out);
     }
-}
-
-// Bytes from a place on.
-fn with_bytes(bytes: &[u8], start: usize, out: &mut [u8])
-    requires { start + length bytes.now ≤ length out.old }
-    ensures { out.new ≡ sets out.old start bytes.now }
-{
-    let mut i: usize = 0;
-    while i < bytes.len() {
-        out[start + i] = bytes[i];
-        i += 1;
-    }
-}
-
-// A number in four bytes from a place on.
-fn with_four(x: u32, start: usize, out: &mut [u8])
-    requires { start + 4 ≤ length out.old }
-    ensures { out.new ≡ sets out.old start (four_bytes x) }
-{
-    out[start] = (x % 256) as u8;
-    out[start + 1] = ((x / 256) % 256) as u8;
-    out[start + 2] = ((x / 65536) % 256) as u8;
-    out[start + 3] = ((x / 16777216) % 256) as u8;
 }
 
 // The first n of the leaders, then the first n choke bytes, then the number moved.
@@ -65,7 +34,7 @@ pub(crate) fn with_plan(n: usize, leaders: &[u16], choke: &[u8], moved: u32, out
 {
     with_numbers(&leaders[..n], 0, out);
     with_bytes(&choke[..n], 2 * n, out);
-    with_four(moved, 3 * n, out);
+    with_bytes(&moved.to_le_bytes(), 3 * n, out);
 }
 
 // How many gateways each set has, then the first set, then the second.
@@ -83,10 +52,7 @@ pub(crate) fn with_sets(first: &[u16], second: &[u16], out: &mut [u8])
 pub(crate) fn entry_count(len: usize) -> usize
     ensures { result ≡ entries_read len }
 {
-    if lists::PLACES < len / 2 {
-        return lists::PLACES;
-    }
-    len / 2
+    (len / 2).min(lists::PLACES)
 }
 
 // The first entries of a leader list, two bytes each, over the front of a list.
@@ -94,9 +60,7 @@ pub(crate) fn with_entries(bytes: &[u8], count: usize, out: &mut [u16])
     requires { (count ≤ length out.old) × (count ≤ GATEWAYS) }
     ensures { out.new ≡ written count (list_of count (λ i. number bytes.now (2 * i))) out.old }
 {
-    let mut i: usize = 0;
-    while i < count {
+    for i in 0..count {
         out[i] = plant_file::bytes::number_at(bytes, 2 * i);
-        i += 1;
     }
 }

@@ -24,9 +24,11 @@ use Rattle.violator.specs.WhyPlaced.{counts_of}
 use Rattle.violator.specs.WhyAlone.{why_conditions, why_refusal, in_first, in_second, first_count, second_count, why_answer, why_first, why_second}
 use Rattle.violator.proofs.WhyTests.{out_of_range}
 use Rattle.plant_file.specs.PlantFile.{file_n, file_links, file_refusal}
+use Rattle.std.specs.Prelude.{Result, Ok, Err, IfOk}
+use Rattle.refusal.specs.declared.Refusal.{Refusal}
+use Rattle.refusal.specs.Refusals.{code}
 use Rattle.plan.specs.Plan.{file_state}
-use Rattle.plan.specs.Why.{file_why_refusal, file_first, file_second, file_why, first_written, second_written}
-use Rattle.plan.specs.declared.why.Why.{Why}
+use Rattle.plan.specs.Why.{file_why_refusal, file_first, file_second, file_counts, first_written, second_written}
 use Rattle.plan.proofs.After.{own, own_room, Front, written_has, file_agrees}
 
 -- the record of an accepted file: its n, and that it is sound
@@ -57,10 +59,9 @@ module _ (file : List ℕ) (v a b : ℕ) {e : ℕ} (of : e ≡ file_refusal file
 
 -- a refused call
 pub asked_refused : (file : List ℕ) (v : ℕ) (first second : List ℕ) {e : ℕ} → e ≡ file_why_refusal file v (length first) (length second) → (e ≡ 0 → ⊥)
-    → (◌≡◌ {A = Why} (record { refusal = e; first = 0; second = 0 }) (file_why file v (length first) (length second))) × ((first ≡ first_written file v first second) × (second ≡ second_written file v first second))
+    → (first ≡ first_written file v first second) × (second ≡ second_written file v first second)
 unfolding first_written second_written
-asked_refused file v first second of h =
-    ((λ i. record { refusal = of i; first = refused (length (file_first file v)) 0 of h i; second = refused (length (file_second file v)) 0 of h i }), (refused _ first of h, refused _ second of h))
+asked_refused file v first second of h = (refused _ first of h, refused _ second of h)
 
 -- a set of the record, by its number and by its list
 module _ (file : List ℕ) (set : ℕ → Bool) where
@@ -81,16 +82,9 @@ module _ (file : List ℕ) (v : ℕ) (first second : List ℕ) (z : file_refusal
   unfolding file_why_refusal
   same_number = first_passed refl z refl
 
-  answer_is : (a : WhyCounts) → a ≡ counts_of (why_answer (file_state file) v (length first) (length second))
-      → ◌≡◌ {A = Why} (record { refusal = a.refusal; first = a.first; second = a.second }) (file_why file v (length first) (length second))
+  counts_are : why_refusal (file_state file) v (length first) (length second) ≡ 0 → counts_of (why_answer (file_state file) v (length first) (length second)) ≡ file_counts file v
   unfolding first_count second_count file_first file_second
-  answer_is a e =
-      ap (λ (x : WhyCounts). record { refusal = x.refusal; first = x.first; second = x.second }) e
-      ∙ (λ i. record {
-        refusal = same_number i;
-        first = by_number (same_number i) (set-counted file (in_first (file_state file) v) z i) 0;
-        second = by_number (same_number i) (set-counted file (in_second (file_state file) v) z i) 0;
-      })
+  counts_are n = rw n (λ i. record { first = set-counted file (in_first (file_state file) v) z i; second = set-counted file (in_second (file_state file) v) z i })
 
   first-is : why_first (file_state file) v first second ≡ first_written file v first second
   unfolding why_first first_written file_first
@@ -100,10 +94,16 @@ module _ (file : List ℕ) (v : ℕ) (first second : List ℕ) (z : file_refusal
   unfolding why_second second_written file_second
   second_is i = by_number (same_number i) (set-written file (in_second (file_state file) v) z second i) second
 
-  pub asked_answered : {a : WhyCounts} {first' second' : List ℕ}
-      → (a ≡ counts_of (why_answer (file_state file) v (length first) (length second))) × ((first' ≡ why_first (file_state file) v first second) × (second' ≡ why_second (file_state file) v first second))
-      → (◌≡◌ {A = Why} (record { refusal = a.refusal; first = a.first; second = a.second }) (file_why file v (length first) (length second))) × ((first' ≡ first_written file v first second) × (second' ≡ second_written file v first second))
-  asked_answered {a = a} (e, (f, g)) = (answer_is a e, (f ∙ first-is, g ∙ second_is))
+  pub asked_answered : (r : Result WhyCounts Refusal) {first' second' : List ℕ} → code r ≡ why_refusal (file_state file) v (length first) (length second)
+      → IfOk r (λ counts. counts ≡ counts_of (why_answer (file_state file) v (length first) (length second)))
+      → (first' ≡ why_first (file_state file) v first second) × (second' ≡ why_second (file_state file) v first second)
+      → (code r ≡ file_why_refusal file v (length first) (length second)) × (IfOk r (λ counts. counts ≡ file_counts file v) × ((first' ≡ first_written file v first second) × (second' ≡ second_written file v first second)))
+  asked_answered r g is (e, f) = (g ∙ same_number, (counted r g is, (e ∙ first-is, f ∙ second_is)))
+    where
+      counted : (r : Result WhyCounts Refusal) → code r ≡ why_refusal (file_state file) v (length first) (length second) → IfOk r (λ counts. counts ≡ counts_of (why_answer (file_state file) v (length first) (length second)))
+          → IfOk r (λ counts. counts ≡ file_counts file v)
+      counted (Ok counts) g is = is ∙ counts_are (sym g)
+      counted (Err e) g is = is
 
 -- where there is a place for each gateway, the lengths do not matter
 roomy : (file : List ℕ) (v a b : ℕ) → file_refusal file ≡ 0 → file_n file ≤ a → file_n file ≤ b → why_refusal (file_state file) v a b ≡ why_refusal (file_state file) v (file_n file) (file_n file)
@@ -121,13 +121,10 @@ asked_own file v {a} {b} ea eb = go (file_refusal file) refl
     go (suc e) z = rw z
 
 -- an accepted call: the file is accepted, no set has more gateways than it, and the front of either list is its set
-module _ (file : List ℕ) (v : ℕ) (first second : List ℕ) {r : Why} (of : r ≡ file_why file v (length first) (length second)) (z : r.refusal ≡ 0) where
-  answers : file_why_refusal file v (length first) (length second) ≡ 0
-  answers = sym (ap (λ (x : Why). x.refusal) of) ∙ z
-
+module _ (file : List ℕ) (v : ℕ) (first second : List ℕ) (answers : 0 ≡ file_why_refusal file v (length first) (length second)) where
   pub asked_accepted : file_refusal file ≡ 0
   unfolding file_why_refusal
-  asked_accepted = (first-none (file_refusal file) _ answers).0
+  asked_accepted = (first-none (file_refusal file) _ (sym answers)).0
 
   pub first-few : length (file_first file v) ≤ file_n file
   unfolding file_first
@@ -137,10 +134,11 @@ module _ (file : List ℕ) (v : ℕ) (first second : List ℕ) {r : Why} (of : r
   unfolding file_second
   second-few = set-few file (in_second (file_state file) v)
 
-  pub first-front : {l : List ℕ} → l ≡ first_written file v first second → Front r.first (file_first file v) l
-  unfolding first_written
-  first-front e = rw (ap (λ (x : Why). x.first) of, e, answers) (written_has (length (file_first file v)) (file_first file v) first refl)
+  module _ {counts : WhyCounts} (of : counts ≡ file_counts file v) where
+    pub first-front : {l : List ℕ} → l ≡ first_written file v first second → Front counts.first (file_first file v) l
+    unfolding first_written
+    first-front e = rw (ap (λ (x : WhyCounts). x.first) of, e, sym answers) (written_has (length (file_first file v)) (file_first file v) first refl)
 
-  pub second-front : {l : List ℕ} → l ≡ second_written file v first second → Front r.second (file_second file v) l
-  unfolding second_written
-  second-front e = rw (ap (λ (x : Why). x.second) of, e, answers) (written_has (length (file_second file v)) (file_second file v) second refl)
+    pub second-front : {l : List ℕ} → l ≡ second_written file v first second → Front counts.second (file_second file v) l
+    unfolding second_written
+    second-front e = rw (ap (λ (x : WhyCounts). x.second) of, e, sym answers) (written_has (length (file_second file v)) (file_second file v) second refl)

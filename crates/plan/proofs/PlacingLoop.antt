@@ -17,11 +17,10 @@ use Rattle.packing.proofs.Tests.{by_bool, clash, below_suc, and_l, not_i, not_te
 use Rattle.packing.proofs.Prefixes.{Among, order-place}
 use Rattle.search.specs.RowPre.{RowsOf}
 use Rattle.search.specs.ChokeSet.{in_choke}
-use Rattle.search.specs.Pre.{PlantLists, Placeable}
+use Rattle.search.specs.Pre.{Placeable}
 use Rattle.search.specs.Dead.{Dead, Past, DeadThen, left_then}
 use Rattle.search.proofs.Dead.{dead_none}
 use Rattle.search.proofs.DeadChoke.{dead_choke}
-use Rattle.search.proofs.States.{lists_told}
 use Rattle.recursion.specs.Pre.{Fits}
 use Rattle.planner.specs.declared.Way.{Way}
 use Rattle.planner.specs.declared.Way.TheVariants.{Queued, Recursive}
@@ -33,7 +32,7 @@ use Rattle.plant_file.proofs.Accepted.{file_allowed}
 use Rattle.plant_file.proofs.GatewayLimits.{limits_in_range}
 use Rattle.plan.specs.Plan.{state_by, file_moves_by}
 use Rattle.plan.specs.Claim.{MovesFit}
-use Rattle.plan.specs.Pre.{is_queued, DeadBy, Placings, DeadChoke}
+use Rattle.plan.specs.Pre.{is_queued, DeadBy, Loaded, Placings, DeadChoke}
 use Rattle.plan.proofs.FileMoves.{file_moves_fit}
 use Rattle.plan.proofs.NextPlacing.{first-moves, placing_placeable, placing_next, placing_feasible, placing_moves_lem, placing_none}
 
@@ -84,11 +83,11 @@ left-nobody w file j limit ls hs none first =
     }
 
 module _
-    (w : Way) (file : List ℕ) (k : ℕ) (ls next os ts : List ℕ) {hs₀ : List ℕ} {rows₀ : List (List ℕ)} {queue₀ dead₀ looked₀ : List ℕ}
-    (p : Placings w file k ls next os ts hs₀ rows₀ queue₀ dead₀ looked₀)
+    (w : Way) (file : List ℕ) (k : ℕ) {ls next os ts : List ℕ} (given : Loaded file ls next os ts) {hs₀ : List ℕ} {rows₀ : List (List ℕ)} {queue₀ dead₀ looked₀ : List ℕ}
+    (p : Placings w file k hs₀ rows₀ queue₀ dead₀ looked₀)
   where
     z : file_refusal file ≡ 0
-    z = p.loaded.accepted
+    z = given.accepted
 
     pub placed-start : Placed w file k ls ts hs₀ rows₀ queue₀ dead₀ looked₀ hs₀ rows₀ queue₀ dead₀ looked₀ 0 0
     placed-start =
@@ -110,13 +109,13 @@ module _
         below = omega (arith, p.within)
 
         is_v : v ≡ at (file_order file) j
-        is_v = is ∙ p.loaded.order j below
+        is_v = is ∙ given.order j below
 
         free : Placeable (file_n file) hs v
         free = rw (now.holders, is_v) (placing_placeable file z w j below)
 
         feasible : Feasible (file_n file) (at ts) (linked ls) (at hs)
-        feasible = rw (now.holders, p.loaded.links) (placing_feasible file z w j below ts p.loaded.limits)
+        feasible = rw (now.holders, given.links) (placing_feasible file z w j below ts given.limits)
 
         -- v has not come before
         new : now.so_far.left v ≡ false
@@ -131,7 +130,7 @@ module _
               free = free;
               none = rw (now.holders, is_v) (placing_none file z w j below);
               feasible = feasible;
-              fits = λ u q. rw (p.loaded.limits u q) (limits_in_range file z u q).1;
+              fits = λ u q. rw (given.limits u q) (limits_in_range file z u q).1;
               table = now.table;
               places = omega (arith, now.long.1, p.places);
               room = omega (arith, now.long.3, p.room);
@@ -146,10 +145,10 @@ module _
 
         after_is : after ≡ (state_by w file (j + 1)).holders
         after_is =
-            ap (λ (l : List ℕ). placed_by w (file_n file) (at ts) l hs v) p.loaded.links
+            ap (λ (l : List ℕ). placed_by w (file_n file) (at ts) l hs v) given.links
             ∙ ap (λ (l : List ℕ). placed_by w (file_n file) (at ts) (file_links file) l v) now.holders
             ∙ ap (placed_by w (file_n file) (at ts) (file_links file) (state_by w file j).holders) is_v
-            ∙ sym (placing_next file z w j below ts p.loaded.limits)
+            ∙ sym (placing_next file z w j below ts given.limits)
 
         -- whoever has no holder then had none before
         still_free : (x : ℕ) → x < file_n file → held (file_n file) (at after) x ≡ false → held (file_n file) (at hs) x ≡ false
@@ -189,10 +188,10 @@ module _
             (λ q. left-nobody w file (j + 1) (at ts) ls after (dead_recursive (file_n file) (at ts) ls hs v dead after dead' w q m ∙ now.so_far.nobody q) (λ r. clash (is_queued w) r q))
 
         pub placed-place : j < length os
-        placed-place = omega (arith, below, p.loaded.order-long)
+        placed-place = omega (arith, below, given.order-long)
 
-        pub placed_past : {n : ℕ} → n ≡ file_n file → PlantLists n ts ls next × Past n (at ts) ls hs v rows queue dead looked
-        placed_past e = (lists_told e (record { index = p.loaded.index; limited = p.loaded.limits-long }), subst (λ (n : ℕ). Past n (at ts) ls hs v rows queue dead looked) (sym e) past)
+        pub placed_past : {n : ℕ} → n ≡ file_n file → Past n (at ts) ls hs v rows queue dead looked
+        placed_past e = subst (λ (n : ℕ). Past n (at ts) ls hs v rows queue dead looked) (sym e) past
 
         -- what place_one leaves
         module _
@@ -205,7 +204,7 @@ module _
             left_then_lem = rw e at d
 
             moves_next : total + r ≡ file_moves_by w file (j + 1)
-            moves_next = omega (arith, now.moves, left_then_lem.1.0, placing_moves_lem file z w j below ts p.loaded.limits, moved-is)
+            moves_next = omega (arith, now.moves, left_then_lem.1.0, placing_moves_lem file z w j below ts given.limits, moved-is)
               where
                 moved-is : moved (file_n file) (at hs) (at after) ≡ moved (file_n file) (at (state_by w file j).holders) (at (state_by w file (j + 1)).holders)
                 moved-is = ap (λ (l : List ℕ). moved (file_n file) (at l) (at after)) now.holders ∙ ap (λ (l : List ℕ). moved (file_n file) (at (state_by w file j).holders) (at l)) after_is
@@ -241,4 +240,4 @@ module _
 
         chosen : j ≡ k → DeadChoke w file k dead
         chosen end q all =
-            (now.so_far.pair.marks, λ u b. dead_choke now.so_far.pair (file_allowed file z).few (every end all q) u b ∙ ap (λ (l : List ℕ). in_choke (file_n file) l hs u) p.loaded.links ∙ ap (λ (l : List ℕ). in_choke (file_n file) (file_links file) l u) (now.holders ∙ ap (λ (i : ℕ). (state_by w file i).holders) end))
+            (now.so_far.pair.marks, λ u b. dead_choke now.so_far.pair (file_allowed file z).few (every end all q) u b ∙ ap (λ (l : List ℕ). in_choke (file_n file) l hs u) given.links ∙ ap (λ (l : List ℕ). in_choke (file_n file) (file_links file) l u) (now.holders ∙ ap (λ (i : ℕ). (state_by w file i).holders) end))

@@ -1,16 +1,13 @@
 -- From the lists of an accepted file to its plan: what the placings start from, and what is written once they are made.
 use Prim.Native.Nat.{ℕ, ◌*◌, ◌<◌, ◌≤◌}
 use mathlib.Core.Path.{◌≡◌, refl, sym, ap, ◌∙◌}
-use mathlib.Core.Bool.{Bool, true, ◌&&◌}
+use mathlib.Core.Bool.{Bool, true}
 use mathlib.Core.List.{List}
 use native.Mathlib.Omega.{arith}
-use lib.Dec.{eqb}
 use lib.ListN.{length, take, replicate, length-replicate}
-use borrow.Author.Tests.{eqb-true}
 use Rattle.packing.specs.Count.{pick}
 use Rattle.packing.specs.Lists.{list_of, written}
 use Rattle.packing.specs.Plant.{GATEWAYS, HIGHEST, NONE, at, first_links}
-use Rattle.packing.proofs.Tests.{and_l, and_r}
 use Rattle.packing.proofs.Lists.{list_of_ext, written-room, written_at, written-front, written-whole, repeated_at}
 use Rattle.sound.specs.Searchable.{searchable}
 use Rattle.sound.proofs.Searchable.{Searchable, searchable-holds, sound_searchable}
@@ -29,14 +26,17 @@ use Rattle.planner.specs.declared.Way.{Way}
 use Rattle.planner.specs.declared.Way.TheVariants.{Queued}
 use Rattle.planner.specs.Calls.{read_leaders, read_choke}
 use Rattle.violator.specs.declared.WhyCounts.{WhyCounts}
-use Rattle.violator.specs.WhyAlone.{why_answer, why_first, why_second}
+use Rattle.violator.specs.WhyAlone.{why_conditions, why_refusal, why_answer, why_first, why_second}
 use Rattle.violator.specs.WhyPlaced.{placed_counts, placed_first, placed_second, counts_of}
-use Rattle.violator.proofs.WhyPlaced.{why_of_record}
+use Rattle.violator.proofs.WhyPlaced.{look_of_record}
 use Rattle.plant_file.specs.PlantFile.{file_n, file_m, file_links, file_order, file_limits, file_refusal}
 use Rattle.plant_file.specs.Indexed.{Indexed}
 use Rattle.plant_file.proofs.LinksByIndex.{links-long, order-long}
 use Rattle.plant_file.proofs.GatewayLimits.{limits-long, limits-at}
 use Rattle.plant_file.proofs.Accepted.{file_allowed}
+use Rattle.std.specs.Prelude.{Result, IfOk}
+use Rattle.refusal.specs.declared.Refusal.{Refusal}
+use Rattle.refusal.specs.Refusals.{code}
 use Rattle.plan.specs.Plan.{state_by, file_state}
 use Rattle.plan.specs.After.{plan_after_refusal}
 use Rattle.plan.specs.Pre.{is_queued, Loaded, Placings, DeadChoke, NobodyIn, Making, Choking, Readable}
@@ -61,10 +61,9 @@ module _ (file : List ℕ) {ls next os ts : List ℕ} (l : Loaded file ls next o
   lent_all_rows is = lent_rows GATEWAYS refl few (omega arith) is
 
   pub lent_making : {k n : ℕ} {rows : List (List ℕ)} {hs queue all looked : List ℕ} → k ≤ file_n file → n ≡ file_n file → NobodyIn (file_n file) rows → hs ≡ replicate GATEWAYS 0 → queue ≡ replicate GATEWAYS 0
-      → all ≡ replicate GATEWAYS NONE → looked ≡ replicate GATEWAYS 0 → Making file k ls next os ts rows hs queue (take n all) looked
+      → all ≡ replicate GATEWAYS NONE → looked ≡ replicate GATEWAYS 0 → Making file k rows hs queue (take n all) looked
   lent_making within e nobody zeros zeros₂ none zeros₃ =
       record {
-        loaded = l;
         within = within;
         nobody = nobody;
         zeros = zeros;
@@ -74,28 +73,29 @@ module _ (file : List ℕ) {ls next os ts : List ℕ} (l : Loaded file ls next o
       }
 
 -- nobody is held yet
-module _ (w : Way) (file : List ℕ) (k : ℕ) {ls next os ts : List ℕ} {rows : List (List ℕ)} {hs queue dead looked : List ℕ} (m : Making file k ls next os ts rows hs queue dead looked) where
-  pub making_room : {n : ℕ} → n ≡ file_n file → n ≤ length hs
-  making_room e = rw (e, m.zeros, length-replicate) (few file m.loaded)
+module _
+    (w : Way) (file : List ℕ) (k : ℕ) {ls next os ts : List ℕ} (given : Loaded file ls next os ts) {rows : List (List ℕ)} {hs queue dead looked : List ℕ} (m : Making file k rows hs queue dead looked)
+  where
+    pub making_room : {n : ℕ} → n ≡ file_n file → n ≤ length hs
+    making_room e = rw (e, m.zeros, length-replicate) (few file given)
 
-  pub making_placings : {n : ℕ} {hs' : List ℕ} → n ≡ file_n file → hs' ≡ written n (replicate n NONE) hs → Placings w file k ls next os ts hs' rows queue dead looked
-  making_placings {n} {hs'} e held =
-      record {
-        loaded = m.loaded;
-        within = m.within;
-        first = held ∙ rw (e, m.zeros) (sym (first-holders file m.loaded.accepted w));
-        table = rows_none (file_n file) hs' (length rows) m.nobody.wide m.nobody.most (λ v l. ap (λ (k : List ℕ). at k v) held ∙ rw e (repeated_at (file_n file) NONE hs v l)) m.nobody.empty;
-        places = m.places;
-        none = m.none;
-        room = m.room;
-      }
+    pub making_placings : {n : ℕ} {hs' : List ℕ} → n ≡ file_n file → hs' ≡ written n (replicate n NONE) hs → Placings w file k hs' rows queue dead looked
+    making_placings {n} {hs'} e held =
+        record {
+          within = m.within;
+          first = held ∙ rw (e, m.zeros) (sym (first-holders file given.accepted w));
+          table = rows_none (file_n file) hs' (length rows) m.nobody.wide m.nobody.most (λ v l. ap (λ (k : List ℕ). at k v) held ∙ rw e (repeated_at (file_n file) NONE hs v l)) m.nobody.empty;
+          places = m.places;
+          none = m.none;
+          room = m.room;
+        }
 
-  -- the lists keep their lengths
-  pub making_places : {l : ℕ} → l ≡ length queue → file_n file ≤ l
-  making_places e = omega (arith, e, m.places)
+    -- the lists keep their lengths
+    pub making_places : {l : ℕ} → l ≡ length queue → file_n file ≤ l
+    making_places e = omega (arith, e, m.places)
 
-  pub making_long : {l : ℕ} → l ≡ length dead → l ≡ file_n file
-  making_long e = e ∙ rw m.none (length-replicate (file_n file) NONE)
+    pub making_long : {l : ℕ} → l ≡ length dead → l ≡ file_n file
+    making_long e = e ∙ rw m.none (length-replicate (file_n file) NONE)
 
 -- a search may be made with the holders of the record made
 made-searchable : (w : Way) (file : List ℕ) (k : ℕ) → file_refusal file ≡ 0 → k ≤ file_n file → Searchable (file_n file) (state_by w file k).holders
@@ -105,48 +105,51 @@ made-searchable w file k z within =
     rw few at (sound_searchable a.made.sound)
 
 -- the choke bytes: by the marks, and by the walk of its own
-module _ (w : Way) (file : List ℕ) (k : ℕ) {ls next : List ℕ} {rows : List (List ℕ)} {hs queue dead choke : List ℕ} (c : Choking w file k ls next rows hs queue dead choke) where
-  module _ {n : ℕ} {q b : Bool} (e : n ≡ file_n file) (is : q ≡ is_queued w) (both : b ≡ (q && eqb k n)) (yes : b ≡ true) where
-    marked : (length dead ≡ file_n file) × ((u : ℕ) → u < file_n file → seen dead u ≡ in_choke (file_n file) (file_links file) (state_by w file k).holders u)
-    marked = c.dead_choke (sym is ∙ and_l q (eqb k n) (sym both ∙ yes)) (eqb-true k n (and_r q (eqb k n) (sym both ∙ yes)) ∙ e)
+module _
+    (w : Way) (file : List ℕ) (k : ℕ) {ls next os ts : List ℕ} (given : Loaded file ls next os ts) {rows : List (List ℕ)} {hs queue dead choke : List ℕ} (c : Choking w file k rows hs queue dead choke)
+  where
+    module _ (queued : w ≡ Queued) {n : ℕ} (e : n ≡ file_n file) (every : k ≡ n) where
+      marked : (length dead ≡ file_n file) × ((u : ℕ) → u < file_n file → seen dead u ≡ in_choke (file_n file) (file_links file) (state_by w file k).holders u)
+      unfolding is_queued
+      marked = c.dead_choke (rw queued refl) (every ∙ e)
 
-    pub choking_room : length dead ≤ length choke
-    choking_room = omega (arith, marked.0, c.room)
+      pub choking_room : length dead ≤ length choke
+      choking_room = omega (arith, marked.0, c.room)
 
-    pub choking_marked : {choke' : List ℕ} → choke' ≡ written (length dead) (list_of (length dead) (seen_byte dead)) choke
+      pub choking_marked : {choke' : List ℕ} → choke' ≡ written (length dead) (list_of (length dead) (seen_byte dead)) choke
+          → choke' ≡ written (file_n file) (list_of (file_n file) (choke_byte (file_n file) (file_links file) (state_by w file k).holders)) choke
+      unfolding choke_byte seen_byte
+      choking_marked f = (rw marked.0 at f) ∙ ap (λ (l : List ℕ). written (file_n file) l choke) (list_of_ext (file_n file) (seen_byte dead) (choke_byte (file_n file) (file_links file) (state_by w file k).holders) (λ u l. ap (λ (b : Bool). pick b 1) (marked.1 u l)))
+
+    made_may : Searchable (file_n file) (state_by w file k).holders
+    made_may = made-searchable w file k given.accepted c.within
+
+    pub choking_marks : {n : ℕ} → n ≡ file_n file → n ≤ length dead
+    choking_marks e = omega (arith, e, c.marks)
+
+    pub choking_works : {n : ℕ} {dead' : List ℕ} → n ≡ file_n file → dead' ≡ written n (replicate n NONE) dead → Workable n rows hs queue dead' choke
+    choking_works {n} {dead'} e f =
+        rw e
+        (record {
+          lent = record { few = made_may.few; entries = rw c.made made_may.holders; places = c.room };
+          table = record { is = c.table; within = rw c.made made_may.within };
+          space = record { places = c.places; unseen = (rw e at f) ∙ written-whole (file_n file) (replicate (file_n file) NONE) dead (length-replicate (file_n file) NONE) (omega (arith, c.marks)) };
+        })
+
+    pub choking_walked : {n : ℕ} {choke' : List ℕ} → n ≡ file_n file → choke' ≡ written n (list_of n (choke_byte n ls hs)) choke
         → choke' ≡ written (file_n file) (list_of (file_n file) (choke_byte (file_n file) (file_links file) (state_by w file k).holders)) choke
-    unfolding choke_byte seen_byte
-    choking_marked f = (rw marked.0 at f) ∙ ap (λ (l : List ℕ). written (file_n file) l choke) (list_of_ext (file_n file) (seen_byte dead) (choke_byte (file_n file) (file_links file) (state_by w file k).holders) (λ u l. ap (λ (b : Bool). pick b 1) (marked.1 u l)))
-
-  made_may : Searchable (file_n file) (state_by w file k).holders
-  made_may = made-searchable w file k c.accepted c.within
-
-  pub choking_marks : {n : ℕ} → n ≡ file_n file → n ≤ length dead
-  choking_marks e = omega (arith, e, c.marks)
-
-  pub choking_works : {n : ℕ} {dead' : List ℕ} → n ≡ file_n file → dead' ≡ written n (replicate n NONE) dead → Workable n rows hs queue dead' choke
-  choking_works {n} {dead'} e f =
-      rw e
-      (record {
-        lent = record { few = made_may.few; entries = rw c.made made_may.holders; places = c.room };
-        table = record { is = c.table; within = rw c.made made_may.within };
-        space = record { places = c.places; unseen = (rw e at f) ∙ written-whole (file_n file) (replicate (file_n file) NONE) dead (length-replicate (file_n file) NONE) (omega (arith, c.marks)) };
-      })
-
-  pub choking_walked : {n : ℕ} {choke' : List ℕ} → n ≡ file_n file → choke' ≡ written n (list_of n (choke_byte n ls hs)) choke
-      → choke' ≡ written (file_n file) (list_of (file_n file) (choke_byte (file_n file) (file_links file) (state_by w file k).holders)) choke
-  choking_walked e f = rw (e, c.links, c.made) at f
+    choking_walked e f = rw (e, given.links, c.made) at f
 
 -- the plan of the lists
-module _ (w : Way) (file : List ℕ) (k : ℕ) {ls next os ts leaders choke : List ℕ} (r : Readable file k ls next os ts leaders choke) where
+module _ (w : Way) (file : List ℕ) (k : ℕ) {ls next os ts : List ℕ} (given : Loaded file ls next os ts) {leaders choke : List ℕ} (r : Readable file k leaders choke) where
   accepted : file_refusal file ≡ 0
-  accepted = r.loaded.accepted
+  accepted = given.accepted
 
   module _ {n : ℕ} {hs : List ℕ} (e : n ≡ file_n file) (made : hs ≡ (state_by w file k).holders) where
     pub reading_choking : {rows : List (List ℕ)} {queue dead : List ℕ} → RowsOf (file_n file) (state_by w file k).holders rows → file_n file ≤ length queue → length dead ≡ file_n file → DeadChoke w file k dead
-        → Choking w file k ls next rows hs queue dead choke
+        → Choking w file k rows hs queue dead choke
     reading_choking table places marks d =
-        record { accepted = accepted; links = r.loaded.links; index = r.loaded.index; within = r.within; made = made; table = rw made table; places = places; marks = marks; dead_choke = d; room = r.room₂ }
+        record { within = r.within; made = made; table = rw made table; places = places; marks = marks; dead_choke = d; room = r.room₂ }
 
     pub reading_leaders : {leaders' : List ℕ} → leaders' ≡ leaders_written n os hs leaders → leaders' ≡ read_leaders (state_by w file k) leaders choke
     unfolding read_leaders
@@ -156,11 +159,11 @@ module _ (w : Way) (file : List ℕ) (k : ℕ) {ls next os ts leaders choke : Li
         let long : file_n file ≤ length (state_by w file k).holders = rw small at a.made.sound.holders-long in
         let mine : leaders' ≡ leaders_written (file_n file) os (state_by w file k).holders leaders = rw (e, made) at f in
         mine
-        ∙ leaders_written_lem (file_n file) os (state_by w file k).holders leaders r.loaded.order-long (record { few = few file r.loaded; entries = long; places = r.room })
+        ∙ leaders_written_lem (file_n file) os (state_by w file k).holders leaders given.order-long (record { few = few file given; entries = long; places = r.room })
         ∙ rw (reads file accepted w k r.within leaders choke r.room r.room₂, small)
         (ap (λ (l : List ℕ). written (file_n file) l leaders)
         (list_of_ext (file_n file) (leader_list (file_n file) os (state_by w file k).holders) (leader_list (file_n file) (state_by w file k).order (state_by w file k).holders)
-        (λ v l. list-by-order (file_n file) os (state_by w file k).order (state_by w file k).holders (λ i q. r.loaded.order i q ∙ sym (a.order i q)) v)))
+        (λ v l. list-by-order (file_n file) os (state_by w file k).order (state_by w file k).holders (λ i q. given.order i q ∙ sym (a.order i q)) v)))
 
   pub reading_choke : {choke' : List ℕ} → choke' ≡ written (file_n file) (list_of (file_n file) (choke_byte (file_n file) (file_links file) (state_by w file k).holders)) choke
       → choke' ≡ read_choke (state_by w file k) leaders choke
@@ -170,34 +173,27 @@ module _ (w : Way) (file : List ℕ) (k : ℕ) {ls next os ts leaders choke : Li
       f ∙ rw (reads file accepted w k r.within leaders choke r.room r.room₂, a.small, a.links)
 
 -- the lists that a check of the file leaves
-module _
-    (file : List ℕ) {number : ℕ} (of : number ≡ file_refusal file) (fine : number ≡ 0) {links₀ order₀ limits₀ links next order limits : List ℕ}
-    (d : number ≡ 0 → Indexed file links₀ order₀ limits₀ links next order limits) {m : ℕ} (is : m ≡ file_m file)
-  where
-    pub loaded-ends : 2 * m ≤ length links
-    loaded-ends = rw (is, (d fine).ends) (written-room (2 * file_m file) (file_links file) links₀ (links-long file))
+module _ (file : List ℕ) (z : file_refusal file ≡ 0) {links₀ order₀ limits₀ links next order limits : List ℕ} (d : Indexed file links₀ order₀ limits₀ links next order limits) where
+  pub loaded-ends : 2 * file_m file ≤ length links
+  loaded-ends = rw d.ends (written-room (2 * file_m file) (file_links file) links₀ (links-long file))
 
-    loaded-links : take (2 * m) links ≡ file_links file
-    loaded-links = rw (is, (d fine).ends) (written-front (2 * file_m file) (file_links file) links₀ (links-long file))
+  loaded-links : take (2 * file_m file) links ≡ file_links file
+  loaded-links = rw d.ends (written-front (2 * file_m file) (file_links file) links₀ (links-long file))
 
-    pub loaded-long : 2 * m ≡ length (take (2 * m) links)
-    loaded-long = sym (ap length loaded-links ∙ links-long file ∙ ap (λ (i : ℕ). 2 * i) (sym is))
+  pub loaded_lists : Loaded file (take (2 * file_m file) links) next order limits
+  loaded_lists =
+      record {
+        accepted = z;
+        links = loaded-links;
+        index = rw loaded-links (index_for (file_n file) (file_links file) (file_ends file z) d.index);
+        order-long = rw d.ordered (written-room (file_n file) (file_order file) order₀ (order-long file));
+        order = λ i l. rw d.ordered (written_at (file_n file) (file_order file) order₀ (order-long file) i l);
+        limits-long = rw d.limited (written-room (file_n file) (file_limits file) limits₀ (limits-long file));
+        limits = λ u l. rw d.limited (written_at (file_n file) (file_limits file) limits₀ (limits-long file) u l ∙ limits-at file u l);
+      }
 
-    pub loaded_lists : Loaded file (take (2 * m) links) next order limits
-    loaded_lists =
-        record {
-          accepted = sym of ∙ fine;
-          links = loaded-links;
-          index = rw loaded-links (index_for (file_n file) (file_links file) (file_ends file (sym of ∙ fine)) (d fine).index);
-          order-long = rw (d fine).ordered (written-room (file_n file) (file_order file) order₀ (order-long file));
-          order = λ i l. rw (d fine).ordered (written_at (file_n file) (file_order file) order₀ (order-long file) i l);
-          limits-long = rw (d fine).limited (written-room (file_n file) (file_limits file) limits₀ (limits-long file));
-          limits = λ u l. rw (d fine).limited (written_at (file_n file) (file_limits file) limits₀ (limits-long file) u l ∙ limits-at file u l);
-        }
-
-pub loaded_readable : {file : List ℕ} {k : ℕ} {ls next os ts : List ℕ} (leaders choke : List ℕ) {e : ℕ} → Loaded file ls next os ts → e ≡ plan_after_refusal file k (length leaders) (length choke) → e ≡ 0
-    → Readable file k ls next os ts leaders choke
-loaded_readable {file} {k} leaders choke l is fine = let (_, within, room, room₂) = plan-places file k (length leaders) (length choke) is fine in record { loaded = l; within = within; room = room; room₂ = room₂ }
+pub called_readable : {file : List ℕ} {k : ℕ} (leaders choke : List ℕ) {e : ℕ} → e ≡ plan_after_refusal file k (length leaders) (length choke) → e ≡ 0 → Readable file k leaders choke
+called_readable {file} {k} leaders choke is fine = let (_, within, room, room₂) = plan-places file k (length leaders) (length choke) is fine in record { within = within; room = room; room₂ = room₂ }
 
 -- why a gateway is alone in the record made
 module _ (file : List ℕ) {ls next os ts : List ℕ} (l : Loaded file ls next os ts) where
@@ -210,13 +206,13 @@ module _ (file : List ℕ) {ls next os ts : List ℕ} (l : Loaded file ls next o
     unfolding file_state
     asking_searchable = rw (e, made_all) (searchable-holds (made-searchable Queued file (file_n file) l.accepted (omega arith)))
 
-    pub asking_answered : (v : ℕ) (first second : List ℕ) {r : WhyCounts} {first' second' : List ℕ}
-        → (r ≡ placed_counts n n ls os hs v (length first) (length second)) × ((first' ≡ placed_first n n ls os hs v first second) × (second' ≡ placed_second n n ls os hs v first second))
-        → (r ≡ counts_of (why_answer (file_state file) v (length first) (length second))) × ((first' ≡ why_first (file_state file) v first second) × (second' ≡ why_second (file_state file) v first second))
+    pub asking_answered : (v : ℕ) (first second : List ℕ) (r : Result WhyCounts Refusal) {first' second' : List ℕ} → code r ≡ why_conditions n n os hs v (length first) (length second)
+        → IfOk r (λ counts. counts ≡ placed_counts n ls hs v) → (first' ≡ placed_first n n ls os hs v first second) × (second' ≡ placed_second n n ls os hs v first second)
+        → (code r ≡ why_refusal (file_state file) v (length first) (length second))
+        × (IfOk r (λ counts. counts ≡ counts_of (why_answer (file_state file) v (length first) (length second)))
+        × ((first' ≡ why_first (file_state file) v first second) × (second' ≡ why_second (file_state file) v first second)))
     unfolding file_state
-    asking_answered v first second (a, (b, c)) =
+    asking_answered v first second r a is lists =
         let g = file_agrees file l.accepted Queued (file_n file) (omega arith) in
-        let (counts, (one, two)) =
-        why_of_record (file_state file) (state_sound file l.accepted) n n ls os hs (ap (λ (s : Small). s.n) g.small ∙ sym e) (ap (λ (s : Small). s.k) g.small ∙ sym e)
-        (ap (λ (s : Small). first_links s.m (file_state file).links) g.small ∙ g.links ∙ sym l.links) (sym made_all) (λ i q. let less : i < file_n file = rw e at q in g.order i less ∙ sym (l.order i less)) v first second in
-        (a ∙ counts, (b ∙ one, c ∙ two))
+        look_of_record (file_state file) (state_sound file l.accepted) n n ls os hs (ap (λ (s : Small). s.n) g.small ∙ sym e) (ap (λ (s : Small). s.k) g.small ∙ sym e)
+        (ap (λ (s : Small). first_links s.m (file_state file).links) g.small ∙ g.links ∙ sym l.links) (sym made_all) (λ i q. let less : i < file_n file = rw e at q in g.order i less ∙ sym (l.order i less)) v first second r a is lists

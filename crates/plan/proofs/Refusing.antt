@@ -1,12 +1,12 @@
 -- The refusals of a plan after so many placings, and what it gives by them.
-use Prim.Native.Nat.{ℕ, ◌<◌, ◌≤◌}
+use Prim.Native.Nat.{ℕ, ◌≤◌}
 use mathlib.Core.Path.{◌≡◌, sym, ap, ◌∙◌}
-use mathlib.Core.Bool.{Bool, true, false, ◌||◌}
+use mathlib.Core.Bool.{Bool, false, ◌||◌}
 use mathlib.Core.List.{List}
 use native.Mathlib.Omega.{arith}
 use lib.Dec.{ltb}
 use lib.ListN.{length}
-use borrow.Author.Tests.{ltb-false, lt-ltb, le-ltb}
+use borrow.Author.Tests.{ltb-false, le-ltb}
 use Rattle.packing.specs.Refusals.{refuse}
 use Rattle.packing.proofs.Tests.{or-none, or_false_l, or_false_r}
 use Rattle.packing.proofs.Refusals.{refuse-none, refused, accepted, first-refused, first_passed, first-none}
@@ -14,28 +14,18 @@ use Rattle.planner.specs.declared.Way.{Way}
 use Rattle.planner.specs.Calls.{read_leaders, read_choke}
 use Rattle.plant_file.specs.PlantFile.{file_n, file_refusal, file_then_short}
 use Rattle.plan.specs.Plan.{state_by, file_moves_by, file_state, plan_refusal, plan_leaders, plan_choke}
-use Rattle.plan.specs.After.{after_refusal, plan_after_refusal, plan_moves_by, planned_by, planned_after, plan_leaders_by, plan_leaders_after, plan_choke_by, plan_choke_after}
-use Rattle.plan.specs.declared.Planned.{Planned}
+use Rattle.plan.specs.After.{after_refusal, plan_after_refusal, plan_moves_by, plan_leaders_by, plan_leaders_after, plan_choke_by, plan_choke_after}
 use Rattle.plan.specs.Claim.{AfterAll}
 
--- the file's number, then 24, then 10: each way to it
+-- the file's number, then 24, then 10
 module _ (file : List ℕ) (k : ℕ) (short : Bool) {e : ℕ} (of : e ≡ file_refusal file) where
   pub after_file : (e ≡ 0 → ⊥) → e ≡ after_refusal file k short
   unfolding after_refusal
   after_file z = first-refused _ of z
 
-  module _ (z : e ≡ 0) {n : ℕ} (is : n ≡ file_n file) where
-    pub after_many : n < k → 24 ≡ after_refusal file k short
-    unfolding after_refusal
-    after_many l = first_passed of z (rw (lt-ltb (file_n file) k (omega arith)))
-
-    pub after_short : k ≤ n → short ≡ true → 10 ≡ after_refusal file k short
-    unfolding after_refusal
-    after_short l s = first_passed of z (rw (le-ltb (file_n file) k (omega arith), s))
-
-    pub after_fine : k ≤ n → short ≡ false → 0 ≡ after_refusal file k short
-    unfolding after_refusal
-    after_fine l s = first_passed of z (rw (le-ltb (file_n file) k (omega arith), s))
+  pub after_passed : {n r : ℕ} → e ≡ 0 → n ≡ file_n file → r ≡ refuse (ltb n k) 24 (refuse short 10 0) → r ≡ after_refusal file k short
+  unfolding after_refusal
+  after_passed z is g = first_passed of z (g ∙ ap (λ (n : ℕ). refuse (ltb n k) 24 (refuse short 10 0)) is)
 
 -- no number: the file is accepted, there are as many gateways, and no list is too short
 pub after_none : (file : List ℕ) (k : ℕ) (short : Bool) → after_refusal file k short ≡ 0 → (file_refusal file ≡ 0) × (k ≤ file_n file) × (short ≡ false)
@@ -50,10 +40,15 @@ pub after-within : (file : List ℕ) (k : ℕ) (short : Bool) → k ≤ file_n f
 unfolding after_refusal file_then_short
 after-within file k short l = rw (le-ltb (file_n file) k l)
 
--- the number as the code finds it
-pub plan-number : (file : List ℕ) (k ls cs : ℕ) {n e : ℕ} {short : Bool} → n ≡ file_n file → short ≡ (ltb ls n || ltb cs n) → e ≡ after_refusal file k short → e ≡ plan_after_refusal file k ls cs
-unfolding plan_after_refusal
-plan-number file k ls cs f g h = h ∙ rw (g, f)
+-- the number as the code finds it, by the lists lent
+module _ (file : List ℕ) (k ls cs : ℕ) {e : ℕ} (of : e ≡ file_refusal file) where
+  pub plan_file : (e ≡ 0 → ⊥) → e ≡ plan_after_refusal file k ls cs
+  unfolding plan_after_refusal
+  plan_file z = after_file file k _ of z
+
+  pub plan_called : {n r : ℕ} {short : Bool} → e ≡ 0 → n ≡ file_n file → short ≡ (ltb ls n || ltb cs n) → r ≡ refuse (ltb n k) 24 (refuse short 10 0) → r ≡ plan_after_refusal file k ls cs
+  unfolding plan_after_refusal
+  plan_called z is few g = after_passed file k _ of z is (g ∙ rw (few, is))
 
 -- where there is a place for each gateway, no list is too short
 pub plan-alone : (file : List ℕ) (k ls cs : ℕ) → file_n file ≤ ls → file_n file ≤ cs → plan_after_refusal file k ls cs ≡ after_refusal file k false
@@ -68,15 +63,14 @@ plan-places file k ls cs f z =
     (a.0, a.1, ltb-false ls _ (or_false_l _ _ a.2), ltb-false cs _ (or_false_r (ltb ls (file_n file)) _ a.2))
 
 module _ (w : Way) (file : List ℕ) (k : ℕ) (leaders choke : List ℕ) {e : ℕ} (of : e ≡ plan_after_refusal file k (length leaders) (length choke)) where
-  pub plan-refused : (e ≡ 0 → ⊥)
-      → (◌≡◌ {A = Planned} (record { refusal = e; moved = 0 }) (planned_by w file k (length leaders) (length choke))) × ((leaders ≡ plan_leaders_by w file k leaders choke) × (choke ≡ plan_choke_by w file k leaders choke))
-  unfolding plan_leaders_by plan_choke_by plan_moves_by
-  plan-refused z = ((λ i. record { refusal = of i; moved = refused (file_moves_by w file k) 0 of z i }), (refused _ _ of z, refused _ _ of z))
+  pub plan-refused : (e ≡ 0 → ⊥) → (leaders ≡ plan_leaders_by w file k leaders choke) × (choke ≡ plan_choke_by w file k leaders choke)
+  unfolding plan_leaders_by plan_choke_by
+  plan-refused z = (refused _ _ of z, refused _ _ of z)
 
   pub plan-accepted : {m : ℕ} {leaders' choke' : List ℕ} → e ≡ 0 → leaders' ≡ read_leaders (state_by w file k) leaders choke → choke' ≡ read_choke (state_by w file k) leaders choke → m ≡ file_moves_by w file k
-      → (◌≡◌ {A = Planned} (record { refusal = 0; moved = m }) (planned_by w file k (length leaders) (length choke))) × ((leaders' ≡ plan_leaders_by w file k leaders choke) × (choke' ≡ plan_choke_by w file k leaders choke))
+      → (m ≡ plan_moves_by w file k (length leaders) (length choke)) × ((leaders' ≡ plan_leaders_by w file k leaders choke) × (choke' ≡ plan_choke_by w file k leaders choke))
   unfolding plan_leaders_by plan_choke_by plan_moves_by
-  plan-accepted z p q m = ((λ i. record { refusal = (sym z ∙ of) i; moved = accepted (file_moves_by w file k) 0 of z m i }), (accepted _ _ of z p, accepted _ _ of z q))
+  plan-accepted z p q m = (accepted _ 0 of z m, (accepted _ _ of z p, accepted _ _ of z q))
 
 -- After n placings 24 is not given, and the record is the file's.
 pub number-all : (file : List ℕ) (ls cs : ℕ) → plan_after_refusal file (file_n file) ls cs ≡ plan_refusal file ls cs
@@ -90,10 +84,10 @@ after-all file leaders choke =
     (same, rw same, rw same)
 
 -- .. so a plan after n placings is the file's plan
-pub plan-whole : (file leaders choke : List ℕ) {n : ℕ} {r : Planned} {leaders' choke' : List ℕ} → n ≡ file_n file
-    → r ≡ planned_after file n (length leaders) (length choke) → leaders' ≡ plan_leaders_after file n leaders choke → choke' ≡ plan_choke_after file n leaders choke
-    → (r.refusal ≡ plan_refusal file (length leaders) (length choke)) × ((leaders' ≡ plan_leaders file leaders choke) × (choke' ≡ plan_choke file leaders choke))
+pub plan-whole : (file leaders choke : List ℕ) {n e : ℕ} {leaders' choke' : List ℕ} → n ≡ file_n file
+    → e ≡ plan_after_refusal file n (length leaders) (length choke) → leaders' ≡ plan_leaders_after file n leaders choke → choke' ≡ plan_choke_after file n leaders choke
+    → (e ≡ plan_refusal file (length leaders) (length choke)) × ((leaders' ≡ plan_leaders file leaders choke) × (choke' ≡ plan_choke file leaders choke))
 unfolding AfterAll
 plan-whole file leaders choke is e f g =
     let same = after-all file leaders choke in
-    (ap (λ (p : Planned). p.refusal) e ∙ rw is same.0, ((rw is at f) ∙ same.1, (rw is at g) ∙ same.2))
+    ((rw is at e) ∙ same.0, ((rw is at f) ∙ same.1, (rw is at g) ∙ same.2))

@@ -6,7 +6,6 @@ use Rattle.planner.specs.declared.Way.TheVariants.{Queued}
 use Rattle.planner.specs.Calls.{read_leaders, read_choke}
 use Rattle.plant_file.specs.PlantFile.{file_n, file_refusal}
 use Rattle.plan.specs.Plan.{state_by, file_moves_by}
-use Rattle.plan.specs.declared.Planned.{Planned}
 
 -- the file's number, then 24 for more placings than there are gateways, then 10: short says that a lent list is too short
 unfoldable pub after_refusal : List ℕ → ℕ → Bool → ℕ
@@ -27,10 +26,6 @@ plan_choke_by w file k leaders choke = by_number (plan_after_refusal file k (len
 unfoldable pub plan_moves_by : Way → List ℕ → ℕ → ℕ → ℕ → ℕ
 plan_moves_by w file k leadersLen chokeLen = by_number (plan_after_refusal file k leadersLen chokeLen) (file_moves_by w file k) 0
 
--- what comes back by value
-abbrev pub planned_by : Way → List ℕ → ℕ → ℕ → ℕ → Planned
-planned_by w file k leadersLen chokeLen = record { refusal = plan_after_refusal file k leadersLen chokeLen; moved = plan_moves_by w file k leadersLen chokeLen }
-
 -- the plan in lists of n entries
 unfoldable pub file_leaders_by : Way → List ℕ → ℕ → List ℕ
 file_leaders_by w file k = plan_leaders_by w file k (replicate (file_n file) 0) (replicate (file_n file) 0)
@@ -47,9 +42,6 @@ plan_choke_after file k leaders choke = plan_choke_by Queued file k leaders chok
 
 abbrev pub plan_moves_after : List ℕ → ℕ → ℕ → ℕ → ℕ
 plan_moves_after file k leadersLen chokeLen = plan_moves_by Queued file k leadersLen chokeLen
-
-abbrev pub planned_after : List ℕ → ℕ → ℕ → ℕ → Planned
-planned_after file k leadersLen chokeLen = planned_by Queued file k leadersLen chokeLen
 
 abbrev pub file_leaders_after : List ℕ → ℕ → List ℕ
 file_leaders_after file k = file_leaders_by Queued file k

@@ -31,9 +31,8 @@ pub record Loaded (file ls next os ts : List ℕ) : Type 0 where
   pub limits-long : file_n file ≤ length ts
   pub limits : (u : ℕ) → u < file_n file → at ts u ≡ file_limit file u
 
--- .. and what k placings work on: holders of which none is one, their rows, a queue, marks of nobody, and room to note whom a search marks
-pub record Placings (w : Way) (file : List ℕ) (k : ℕ) (ls next os ts hs : List ℕ) (rows : List (List ℕ)) (queue dead looked : List ℕ) : Type 0 where
-  pub loaded : Loaded file ls next os ts
+-- what k placings of such a file work on: holders of which none is one, their rows, a queue, marks of nobody, and room to note whom a search marks
+pub record Placings (w : Way) (file : List ℕ) (k : ℕ) (hs : List ℕ) (rows : List (List ℕ)) (queue dead looked : List ℕ) : Type 0 where
   pub within : k ≤ file_n file
   pub first : hs ≡ (state_by w file 0).holders
   pub table : RowsOf (file_n file) hs rows
@@ -52,8 +51,7 @@ pub record NobodyIn (n : ℕ) (rows : List (List ℕ)) : Type 0 where
   pub empty : rows ≡ replicate (length rows) (replicate HIGHEST NONE)
 
 -- what k placings start from: rows with nobody in them, lists of zeros for the holders, a queue, marks of nobody, and room to note whom a search marks
-pub record Making (file : List ℕ) (k : ℕ) (ls next os ts : List ℕ) (rows : List (List ℕ)) (hs queue dead looked : List ℕ) : Type 0 where
-  pub loaded : Loaded file ls next os ts
+pub record Making (file : List ℕ) (k : ℕ) (rows : List (List ℕ)) (hs queue dead looked : List ℕ) : Type 0 where
   pub within : k ≤ file_n file
   pub nobody : NobodyIn (file_n file) rows
   pub zeros : hs ≡ replicate GATEWAYS 0
@@ -62,10 +60,7 @@ pub record Making (file : List ℕ) (k : ℕ) (ls next os ts : List ℕ) (rows :
   pub room : file_n file ≤ length looked
 
 -- what the choke bytes are written from
-pub record Choking (w : Way) (file : List ℕ) (k : ℕ) (ls next : List ℕ) (rows : List (List ℕ)) (hs queue dead choke : List ℕ) : Type 0 where
-  pub accepted : file_refusal file ≡ 0
-  pub links : ls ≡ file_links file
-  pub index : IndexFor (file_n file) ls next
+pub record Choking (w : Way) (file : List ℕ) (k : ℕ) (rows : List (List ℕ)) (hs queue dead choke : List ℕ) : Type 0 where
   pub within : k ≤ file_n file
   pub made : hs ≡ (state_by w file k).holders
   pub table : RowsOf (file_n file) hs rows
@@ -74,9 +69,8 @@ pub record Choking (w : Way) (file : List ℕ) (k : ℕ) (ls next : List ℕ) (r
   pub dead_choke : DeadChoke w file k dead
   pub room : file_n file ≤ length choke
 
--- what a plan is written from
-pub record Readable (file : List ℕ) (k : ℕ) (ls next os ts leaders choke : List ℕ) : Type 0 where
-  pub loaded : Loaded file ls next os ts
+-- what a plan is written to
+pub record Readable (file : List ℕ) (k : ℕ) (leaders choke : List ℕ) : Type 0 where
   pub within : k ≤ file_n file
   pub room : file_n file ≤ length leaders
   pub room₂ : file_n file ≤ length choke

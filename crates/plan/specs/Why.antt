@@ -5,7 +5,7 @@ use Rattle.packing.specs.Refusals.{first_of, by_number}
 use Rattle.violator.specs.WhyAlone.{why_refusal, in_first, in_second}
 use Rattle.plant_file.specs.PlantFile.{file_n, file_refusal}
 use Rattle.plan.specs.Plan.{file_state}
-use Rattle.plan.specs.declared.why.Why.{Why}
+use Rattle.violator.specs.declared.WhyCounts.{WhyCounts}
 
 -- the file's number, then what a look at the record that the file's calls make gives: 30, then 10 for lists of these lengths
 unfoldable pub file_why_refusal : List ℕ → ℕ → ℕ → ℕ → ℕ
@@ -18,14 +18,9 @@ file_first file v = list_where (file_n file) (in_first (file_state file) v)
 unfoldable pub file_second : List ℕ → ℕ → List ℕ
 file_second file v = list_where (file_n file) (in_second (file_state file) v)
 
--- what comes back by value: the counts are 0 on refusal
-abbrev pub file_why : List ℕ → ℕ → ℕ → ℕ → Why
-file_why file v firstLen secondLen =
-    record {
-      refusal = file_why_refusal file v firstLen secondLen;
-      first = by_number (file_why_refusal file v firstLen secondLen) (length (file_first file v)) 0;
-      second = by_number (file_why_refusal file v firstLen secondLen) (length (file_second file v)) 0;
-    }
+-- "their two counts come back"; on a refusal there are none
+abbrev pub file_counts : List ℕ → ℕ → WhyCounts
+file_counts file v = record { first = length (file_first file v); second = length (file_second file v) }
 
 -- the lent lists after the call; as they came on refusal
 unfoldable pub first_written : List ℕ → ℕ → List ℕ → List ℕ → List ℕ

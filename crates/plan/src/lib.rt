@@ -2,57 +2,48 @@
 #![tactic(auto)]
 
 mod ask;
+mod loaded;
 mod placings;
 mod reading;
 pub mod why;
 
-ghost use Rattle.std.specs.Prelude.{◌≡◌, length};
-ghost use Rattle.plant_file.specs.PlantFile.{file_refusal};
+ghost use Rattle.std.specs.Prelude.{◌≡◌, ◌||◌, ltb, length, IfOk};
+ghost use Rattle.packing.specs.Refusals.{refuse};
+ghost use Rattle.refusal.specs.Refusals.{code};
 ghost use Rattle.plant_file.specs.Indexed.{Unlinked};
 ghost use Rattle.plan.specs.Plan.{plan_refusal, plan_leaders, plan_choke};
-ghost use Rattle.plan.specs.After.{after_refusal, plan_after_refusal, planned_by, plan_leaders_by, plan_choke_by, planned_after, plan_leaders_after, plan_choke_after};
+ghost use Rattle.plan.specs.After.{after_refusal, plan_after_refusal, plan_moves_by, plan_moves_after, plan_leaders_by, plan_choke_by, plan_leaders_after, plan_choke_after};
 
+use crate::loaded::LoadedFile;
 use planner::Way;
+use refusal::Refusal;
 
-// A file's number, which is at hand, then 24 for more placings than there are gateways, then 10: short says that a lent list is too short.
-fn number_then(refused: u32, file: &[u8], placings: u32, short: bool) -> u32
-    requires { refused ≡ file_refusal file.now }
-    ensures { result ≡ after_refusal file.now placings short }
+// 24 for more placings than there are gateways, then 10: short says that a lent list is too short.
+fn check_call(n: u16, placings: u32, short: bool) -> Result<(), Refusal>
+    ensures { code result ≡ refuse (ltb n placings) 24 (refuse short 10 0) }
 {
-    if refused != 0 {
-        return refused;
-    }
-    if (plant_file::gateways(file) as u32) < placings {
-        return 24;
+    if (n as u32) < placings {
+        return Err(Refusal::AllPlaced);
     }
     if short {
-        return 10;
+        return Err(Refusal::ListTooShort);
     }
-    0
+    Ok(())
 }
 
-// .. of a file that is checked for it.
-pub fn refusal_after(file: &[u8], placings: u32, short: bool) -> u32
-    ensures { result ≡ after_refusal file.now placings short }
+// Whether one of the lists lent has no place for each of n gateways.
+fn is_short(n: u16, leaders: &[u16], choke: &[u8]) -> bool
+    ensures { result ≡ (ltb (length leaders.now) n || ltb (length choke.now) n) }
 {
-    number_then(plant_file::refusal(file), file, placings, short)
+    leaders.len() < n as usize || choke.len() < n as usize
 }
 
-// .. of one with that number, by the lists lent.
-fn number_of(refused: u32, file: &[u8], placings: u32, leaders: &[u16], choke: &[u8]) -> u32
-    requires { refused ≡ file_refusal file.now }
-    ensures { result ≡ plan_after_refusal file.now placings (length leaders.now) (length choke.now) }
+/// The file's own refusal, then Refusal::AllPlaced, 24, for more placings than there are gateways, then Refusal::ListTooShort, 10: short says that a lent list is too short.
+pub fn check_after(file: &[u8], placings: u32, short: bool) -> Result<(), Refusal>
+    ensures { code result ≡ after_refusal file.now placings short }
 {
-    let n = plant_file::gateways(file) as usize;
-    let short = lists::tests::either(leaders.len() < n, choke.len() < n);
-    number_then(refused, file, placings, short)
-}
-
-// The refusal's number, or 0 for accepted, and how many gateways the placings move, 0 on refusal.
-#[derive(Clone, Copy)]
-pub struct Planned {
-    pub refusal: u32,
-    pub moved: u32,
+    plant_file::check(file)?;
+    check_call(plant_file::gateways(file), placings, short)
 }
 
 // So many links have a place for each end in 1,024 places, which are quicker to clear than places for any plant's.
@@ -60,64 +51,50 @@ const FEW_LINKS: u16 = 512;
 
 // plan_lists_by, with lists for the file's links and the index of them.
 // The file is gone through once, and leaves its lists and the index of its links; nothing of the record that its calls make is checked again.
-fn plan_with(
-    file: &[u8],
+fn plan_with<'a>(
+    file: &'a [u8],
     way: Way,
     placings: u32,
-    links: &mut [u16],
-    next: &mut [u16],
+    links: &'a mut [u16],
+    next: &'a mut [u16],
     leaders: &mut [u16],
     choke: &mut [u8],
-) -> Planned
+) -> Result<u32, Refusal>
     requires { Unlinked file.now links.old next.old }
-    ensures answer { result ≡ planned_by way file.now placings (length leaders.old) (length choke.old) }
+    ensures answer { code result ≡ plan_after_refusal file.now placings (length leaders.old) (length choke.old) }
+    ensures moved { IfOk result (λ moved. moved ≡ plan_moves_by way file.now placings (length leaders.old) (length choke.old)) }
     ensures leaders { leaders.new ≡ plan_leaders_by way file.now placings leaders.old choke.old }
     ensures choke { choke.new ≡ plan_choke_by way file.now placings leaders.old choke.old }
 {
-    let mut order = lists::marks::zeros();
-    let mut limits = lists::marks::bytes(0);
-    let number = plant_file::load_indexed(file, links, next, &mut order, &mut limits);
-    let refused = number_of(number, file, placings, leaders, choke);
-    if refused != 0 {
-        return Planned {
-            refusal: refused,
-            moved: 0,
-        };
-    }
-    let end = 2 * (plant_file::link_count(file) as usize);
-    let moved = reading::read_lists(
-        file,
-        way,
-        placings,
-        &limits,
-        &links[..end],
-        next,
-        &order,
-        leaders,
-        choke,
-    );
-    Planned { refusal: 0, moved }
+    let mut order = [0u16; lists::PLACES];
+    let mut limits = [0u8; lists::PLACES];
+    plant_file::load_indexed(file, links, next, &mut order, &mut limits)?;
+    let n = plant_file::gateways(file);
+    check_call(n, placings, is_short(n, leaders, choke))?;
+    let loaded = LoadedFile::new(file, links, next, &order, &limits);
+    Ok(reading::read_lists(&loaded, way, placings, leaders, choke))
 }
 
-// The leader list and the choke bytes after so many placings in one way, and how many gateways these move. Nothing is written on refusal.
+// The leader list and the choke bytes after so many placings in one way. Answers how many gateways these move. Nothing is written on refusal.
 pub fn plan_lists_by(
     file: &[u8],
     way: Way,
     placings: u32,
     leaders: &mut [u16],
     choke: &mut [u8],
-) -> Planned
-    ensures answer { result ≡ planned_by way file.now placings (length leaders.old) (length choke.old) }
+) -> Result<u32, Refusal>
+    ensures answer { code result ≡ plan_after_refusal file.now placings (length leaders.old) (length choke.old) }
+    ensures moved { IfOk result (λ moved. moved ≡ plan_moves_by way file.now placings (length leaders.old) (length choke.old)) }
     ensures leaders { leaders.new ≡ plan_leaders_by way file.now placings leaders.old choke.old }
     ensures choke { choke.new ≡ plan_choke_by way file.now placings leaders.old choke.old }
 {
     if plant_file::link_count(file) <= FEW_LINKS {
-        let mut links = lists::marks::zeros();
-        let mut next = chains::build::small_index();
+        let mut links = [0u16; lists::PLACES];
+        let mut next = [lists::NONE; chains::SMALL];
         return plan_with(file, way, placings, &mut links, &mut next, leaders, choke);
     }
-    let mut links = lists::marks::ends();
-    let mut next = chains::build::empty_index();
+    let mut links = [0u16; lists::ENDS];
+    let mut next = [lists::NONE; chains::SLOTS];
     plan_with(file, way, placings, &mut links, &mut next, leaders, choke)
 }
 
@@ -127,8 +104,9 @@ pub fn plan_lists_after(
     placings: u32,
     leaders: &mut [u16],
     choke: &mut [u8],
-) -> Planned
-    ensures answer { result ≡ planned_after file.now placings (length leaders.old) (length choke.old) }
+) -> Result<u32, Refusal>
+    ensures answer { code result ≡ plan_after_refusal file.now placings (length leaders.old) (length choke.old) }
+    ensures moved { IfOk result (λ moved. moved ≡ plan_moves_after file.now placings (length leaders.old) (length choke.old)) }
     ensures leaders { leaders.new ≡ plan_leaders_after file.now placings leaders.old choke.old }
     ensures choke { choke.new ≡ plan_choke_after file.now placings leaders.old choke.old }
 {
@@ -136,10 +114,11 @@ pub fn plan_lists_after(
 }
 
 // The leader list and the choke bytes of a file's plan: after all placings. Nothing is written on refusal.
-pub fn plan_lists(file: &[u8], leaders: &mut [u16], choke: &mut [u8]) -> u32
-    ensures answer { result ≡ plan_refusal file.now (length leaders.old) (length choke.old) }
+pub fn plan_lists(file: &[u8], leaders: &mut [u16], choke: &mut [u8]) -> Result<(), Refusal>
+    ensures answer { code result ≡ plan_refusal file.now (length leaders.old) (length choke.old) }
     ensures leaders { leaders.new ≡ plan_leaders file.now leaders.old choke.old }
     ensures choke { choke.new ≡ plan_choke file.now leaders.old choke.old }
 {
-    plan_lists_after(file, plant_file::gateways(file) as u32, leaders, choke).refusal
+    plan_lists_after(file, plant_file::gateways(file) as u32, leaders, choke)?;
+    Ok(())
 }

@@ -6,7 +6,7 @@ use mathlib.Core.List.{List}
 use native.Mathlib.Omega.{arith}
 use lib.Dec.{eqb, ltb, leb}
 use lib.ListN.{length}
-use borrow.Author.Tests.{eq-eqb, ne_eqb, ltb-false, leb-false, eqb-true, eqb-false, not-false}
+use borrow.Author.Tests.{ne_eqb, ltb-false, leb-false, eqb-true, eqb-false, not-false}
 use Rattle.packing.specs.Orders.{repeats_or_outside}
 use Rattle.packing.specs.Plant.{GATEWAYS, LINKS, LOWEST, HIGHEST, linked}
 use Rattle.packing.specs.Refusals.{refuse}
@@ -16,10 +16,7 @@ use Rattle.sound.specs.Sound.{is_limit}
 use Rattle.sound.proofs.Meaning.{limit_means}
 use Rattle.planner.specs.Refusals.{open_refusal, link_conditions, order_conditions, limit_conditions, place_conditions, read_conditions}
 
--- 26 is named first: an unsound record gives it, a sound one what the conditions give
-pub unsound_number : {v b : Bool} (rest : ℕ) → v ≡ b → v ≡ false → 26 ≡ refuse (not b) 26 rest
-unsound_number rest e f = rw (sym e ∙ f)
-
+-- 26 is named first: a sound record gives what the conditions give
 pub sound_number : {v b : Bool} {e rest : ℕ} → v ≡ b → v ≡ true → e ≡ rest → e ≡ refuse (not b) 26 rest
 sound_number e f g = rw (sym e ∙ f) g
 
@@ -77,14 +74,10 @@ limit_allowed_lem n k u limit g z =
     let (low, high) = limit_means limit (not-false (is_limit limit) f33.0) in
     (omega (arith, ltb-false 0 k f22.0), leb-false n u f30.0, low, high)
 
--- .. of place, and what gives its numbers
+-- .. of place, and where it is met
 pub place_allowed : (n k : ℕ) → place_conditions n k ≡ 0 → k ≡ n → ⊥
 unfolding place_conditions
 place_allowed n k z = eqb-false k n (refuse-none (eqb k n) 24 0 (omega arith) z).0
-
-pub place_full : (n k : ℕ) → k ≡ n → 24 ≡ place_conditions n k
-unfolding place_conditions
-place_full n k e = rw (eq-eqb k n e)
 
 pub place-next : (n k : ℕ) → (k ≡ n → ⊥) → 0 ≡ place_conditions n k
 unfolding place_conditions

@@ -1,35 +1,36 @@
 -- What a sound record has for the calls that place its next gateway and read it.
 use Prim.Native.Nat.{ℕ, ◌*◌, ◌≤◌}
 use mathlib.Core.Path.{◌≡◌, refl, sym, ap, ◌∙◌}
-use mathlib.Core.Bool.{Bool, true, false, not}
+use mathlib.Core.Bool.{true, false, not}
 use mathlib.Core.List.{List}
 use native.Mathlib.Omega.{arith}
 use lib.ListN.{length, take}
 use lib.Seq.{length-take-le}
+use Rattle.std.specs.Prelude.{Option, Some}
 use borrow.Author.Tests.{le-ltb, not-false}
 use Rattle.packing.specs.Lists.{list_of, written}
 use Rattle.packing.specs.Plant.{GATEWAYS, ENDS, NONE, at, first_links}
 use Rattle.packing.specs.Holders.{held}
 use Rattle.packing.specs.Moved.{moved}
 use Rattle.packing.proofs.Turns.{Says}
+use Rattle.packing.proofs.Refusals.{refuse-none}
 use Rattle.chains.specs.Build.{Joining}
 use Rattle.chains.specs.Index.{Index, IndexFor}
 use Rattle.chains.proofs.LinkMore.{joining-linked, index_for}
 use Rattle.search.specs.ChokeSet.{choke_byte, choke_written}
-use Rattle.search.specs.declared.Placed.{Placed}
-use Rattle.search.specs.Pre.{PlantLists, Placeable}
-use Rattle.search.proofs.Tested.{chokeable-holds, choke_written_lem}
-use Rattle.sound.specs.Sound.{is_sound}
+use Rattle.search.specs.Pre.{Placeable}
+use Rattle.search.proofs.Tested.{placeable-holds, chokeable-holds, choke_written_lem}
 use Rattle.sound.proofs.Meaning.{Sound, sound_means, means_sound}
 use Rattle.sound.proofs.Facts.{sound_facts}
 use Rattle.sound.proofs.Searchable.{sound_searchable}
 use Rattle.stars.specs.Stars.{leader_list, leaders_written}
 use Rattle.stars.proofs.Lent.{leaders_written_lem}
 use Rattle.planner.specs.State.{State, links_of, limit_of, sound_state}
+use Rattle.planner.specs.Calls.{record_refusal}
 use Rattle.planner.specs.Turns.{SoundFacts}
 use Rattle.planner.specs.declared.Way.{Way}
 use Rattle.planner.specs.Ways.{placed_by, after_by, answer_by}
-use Rattle.planner.proofs.Ways.{ways_placed, answer_moved}
+use Rattle.planner.proofs.Ways.{ways_placed, answer_placed}
 
 -- what it is for a record to be sound
 abbrev pub SoundState : State → Type 0
@@ -51,23 +52,21 @@ sound_tested s sound = means_sound s.small.n s.small.t s.small.m s.small.k s.lin
 pub sound_says : (s : State) → SoundState s → SoundFacts s
 sound_says s sound = (says_sound s).holds (sound_tested s sound)
 
--- a record that passed the test of soundness
-pub checked : (n t m k : ℕ) (ls os hs ts : List ℕ) {v : Bool} → v ≡ is_sound n t m k ls os hs ts → not v ≡ false → Sound n t m k ls os hs ts
-checked n t m k ls os hs ts {v} e f = sound_means n t m k ls os hs ts (sym e ∙ not-false v f)
+-- a record that the check of soundness does not refuse
+pub checked : (s : State) → 0 ≡ record_refusal s → SoundState s
+unfolding record_refusal
+checked s z = tested_sound s (not-false (sound_state s) (refuse-none (not (sound_state s)) 26 0 (omega arith) (sym z)).0)
 
--- its links have an index
-pub sound_joining : {n t m k : ℕ} {ls os hs ts : List ℕ} → Sound n t m k ls os hs ts → (length (take (2 * m) ls) ≤ ENDS) × Joining (take (2 * m) ls)
+-- its links have an index, ..
+pub sound_joining : (s : State) {ls : List ℕ} → SoundState s → ls ≡ links_of s → (length ls ≤ ENDS) × Joining ls
 unfolding first_links
-sound_joining {n} {m = m} {ls = ls} sound = (omega (arith, length-take-le (2 * m) ls sound.links-long, sound.few-links), joining-linked n (take (2 * m) ls) sound.few sound.ends)
+sound_joining s sound e =
+    rw e (omega (arith, length-take-le (2 * s.small.m) s.links sound.links-long, sound.few-links), joining-linked s.small.n (take (2 * s.small.m) s.links) sound.few sound.ends)
 
 -- .. which is one for its gateways
-pub sound_index : {n t m k : ℕ} {ls os hs ts next : List ℕ} → Sound n t m k ls os hs ts → Index (take (2 * m) ls) next → IndexFor n (take (2 * m) ls) next
+pub sound_index : (s : State) {ls next : List ℕ} → SoundState s → ls ≡ links_of s → Index ls next → IndexFor s.small.n ls next
 unfolding first_links
-sound_index {n} {m = m} {ls = ls} sound d = index_for n (take (2 * m) ls) sound.ends d
-
--- .. beside a limit for each of them
-pub sound_lists : {n t m k : ℕ} {ls os hs ts next : List ℕ} → Sound n t m k ls os hs ts → Index (take (2 * m) ls) next → PlantLists n ts (take (2 * m) ls) next
-sound_lists sound d = record { index = sound_index sound d; limited = sound.limits-long }
+sound_index s {ls} sound e d = index_for s.small.n ls (rw e sound.ends) d
 
 -- one with no holder is not held
 pub none-unheld : (n : ℕ) (hs : List ℕ) (v : ℕ) → n ≤ GATEWAYS → at hs v ≡ NONE → held n (at hs) v ≡ false
@@ -91,10 +90,10 @@ module _ (s : State) (sound : SoundState s) where
   next-placed w more e = e ∙ ways_placed w (limit_of s) (links_of s) (next-placeable more)
 
   -- .. and so many are moved
-  pub next-moved : (w : Way) {a : Placed} → (s.small.k ≡ s.small.n → ⊥) → a ≡ answer_by w s.small.n (limit_of s) (links_of s) s.holders (at s.order s.small.k)
-      → a.moved ≡ moved s.small.n (at s.holders) (at (placed_by w s.small.n (limit_of s) (links_of s) s.holders (at s.order s.small.k)))
+  pub next-moved : (w : Way) {a : Option ℕ} → (s.small.k ≡ s.small.n → ⊥) → a ≡ answer_by w s.small.n (limit_of s) (links_of s) s.holders (at s.order s.small.k)
+      → a ≡ Some (moved s.small.n (at s.holders) (at (placed_by w s.small.n (limit_of s) (links_of s) s.holders (at s.order s.small.k))))
   next-moved w more e =
-      ap (λ (b : Placed). b.moved) e ∙ answer_moved w _ _ _ _ _ ∙ ap (λ (l : List ℕ). moved s.small.n (at s.holders) (at l)) (next-placed w more refl)
+      e ∙ answer_placed w _ _ _ _ _ (placeable-holds (next-placeable more)) ∙ ap (λ (l : List ℕ). Some (moved s.small.n (at s.holders) (at l))) (next-placed w more refl)
 
   -- the leader list and the choke bytes are written where there is a place for each
   pub leaders_placed : (leaders : List ℕ) {leaders' : List ℕ} → s.small.n ≤ length leaders → leaders' ≡ leaders_written s.small.n s.order s.holders leaders

@@ -1,11 +1,14 @@
 -- Both searches are ways of placing, in the list of holders: one lemma for every way.
 use Prim.Native.Nat.{ℕ, ◌<◌}
 use mathlib.Core.Path.{◌≡◌, refl}
+use mathlib.Core.Bool.{true}
 use mathlib.Core.List.{List}
+use Rattle.std.specs.Prelude.{Some}
 use Rattle.packing.specs.Plant.{at, linked}
 use Rattle.packing.specs.Holders.{Feasible}
 use Rattle.packing.specs.Moved.{moved}
 use Rattle.packing.proofs.Placing.{PlacedIn}
+use Rattle.search.specs.Search.{placeable}
 use Rattle.search.specs.Moved.{moved_by}
 use Rattle.search.specs.Pre.{Placeable}
 use Rattle.search.proofs.Placing.{placed_in}
@@ -35,8 +38,8 @@ unfolding placed_by
 ways_limits Queued same ls {hs} p = placed-limits same ls hs p
 ways_limits Recursive same ls {hs} {v} p = recursive_limits same ls hs v
 
--- the number that each answers
-pub answer_moved : (w : Way) (n : ℕ) (limit : ℕ → ℕ) (ls hs : List ℕ) (v : ℕ) → (answer_by w n limit ls hs v).moved ≡ moved n (at hs) (at (after_by w n limit ls hs v))
+-- what each answers where v may be placed: the number moved
+pub answer_placed : (w : Way) (n : ℕ) (limit : ℕ → ℕ) (ls hs : List ℕ) (v : ℕ) → placeable n hs v ≡ true → answer_by w n limit ls hs v ≡ Some (moved n (at hs) (at (after_by w n limit ls hs v)))
 unfolding moved_by recursive_moved
-answer_moved Queued n limit ls hs v = refl
-answer_moved Recursive n limit ls hs v = refl
+answer_placed Queued n limit ls hs v p = rw p refl
+answer_placed Recursive n limit ls hs v p = rw p refl

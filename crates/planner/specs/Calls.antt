@@ -67,7 +67,11 @@ conditions_of n k m l room (read leaders choke) = read_conditions n (length lead
 unfoldable pub conditions : State → Call → ℕ
 conditions s c = conditions_of s.small.n s.small.k s.small.m (links_of s) (length s.links) c
 
--- "26. The record is not sound.", the first to be named
+-- "26. The record is not sound."
+unfoldable pub record_refusal : State → ℕ
+record_refusal s = refuse (not (sound_state s)) 26 0
+
+-- .. and it is the first to be named
 unfoldable pub call_refusal : State → Call → ℕ
 call_refusal s c = refuse (not (sound_state s)) 26 (conditions s c)
 

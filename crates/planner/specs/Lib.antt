@@ -3,6 +3,7 @@ pub mod Refusals
 pub mod State
 pub mod Ways
 pub mod Calls
+pub mod Tried
 pub mod Members
 pub mod Told
 pub mod Run

@@ -3,19 +3,20 @@
 
 pub mod members;
 mod refusals;
+mod steps;
 
 ghost use Rattle.std.specs.Prelude.{◌≡◌};
-ghost use Rattle.packing.specs.Plant.{at};
-ghost use Rattle.search.specs.Pre.{PlantLists};
+ghost use Rattle.refusal.specs.Refusals.{code};
 ghost use Rattle.planner.specs.State.{state_of};
 ghost use Rattle.planner.specs.Calls as calls;
-ghost use Rattle.planner.specs.Calls.{answer_of, open_call, call, place_answer_of, read_leaders, read_choke};
-ghost use Rattle.planner.specs.Ways.{after_by, answer_by};
+ghost use Rattle.planner.specs.Calls.{answer_of, open_call, record_refusal, call, place_answer_of, read_leaders, read_choke};
+ghost use Rattle.planner.specs.Tried.{answered, place_answered};
 
-use search::Placed;
+use refusal::Refusal;
+use sound::Record;
 
 // 01's small part: n gateways, limit T, m links, k placed.
-#[derive(Clone, Copy)]
+#[derive(Clone, Copy, Debug, PartialEq, Eq)]
 pub struct Small {
     pub n: u16,
     pub t: u8,
@@ -24,48 +25,92 @@ pub struct Small {
 }
 
 // The refusal's number, or 0 for accepted, and the small part after the call.
-#[derive(Clone, Copy)]
+// No Result: 01 gives the small part beside the number, also on refusal, and answer_of and the theorems over calls speak of both.
+#[derive(Clone, Copy, Debug, PartialEq, Eq)]
 pub struct Answer {
     pub refusal: u32,
     pub small: Small,
 }
 
-// The same of a placing, with the number of gateways that have another holder after it.
-#[derive(Clone, Copy)]
+// The same of a placing, with the number of gateways that have another holder after it. The other calls have no such number, so it is a struct of its own.
+#[derive(Clone, Copy, Debug, PartialEq, Eq)]
 pub struct PlaceAnswer {
     pub refusal: u32,
     pub small: Small,
     pub moved: u16,
 }
 
+impl Answer {
+    // By the small part before the call, and what the call's steps gave.
+    fn of(before: Small, tried: Result<Small, Refusal>) -> Answer
+        ensures { result ≡ answered before tried }
+    {
+        match tried {
+            Ok(small) => Answer { refusal: 0, small },
+            Err(refusal) => Answer {
+                refusal: refusal.number(),
+                small: before,
+            },
+        }
+    }
+}
+
+impl PlaceAnswer {
+    // .. of a placing: the small part after it, and how many it moved.
+    fn of(before: Small, tried: Result<(Small, u16), Refusal>) -> PlaceAnswer
+        ensures { result ≡ place_answered before tried }
+    {
+        match tried {
+            Ok((small, moved)) => PlaceAnswer {
+                refusal: 0,
+                small,
+                moved,
+            },
+            Err(refusal) => PlaceAnswer {
+                refusal: refusal.number(),
+                small: before,
+                moved: 0,
+            },
+        }
+    }
+}
+
 // The searches that find a holder for the next: 01's, by a queue, and the short one of 02, change 7.
-#[derive(Clone, Copy)]
+// No closure: a closed kind, of which placed_by and the theorems of the two ways speak by case.
+#[derive(Clone, Copy, Debug, PartialEq, Eq, Hash)]
 pub enum Way {
     Queued,
     Recursive,
 }
 
-// Places v by one of them, with the index of the links.
-fn search_by(
-    way: Way,
-    n: u16,
-    v: u16,
-    limits: &[u8],
-    links: &[u16],
-    next: &[u16],
-    holders: &mut [u16],
-) -> Placed
-    requires { PlantLists n limits.now links.now next.now }
-    ensures answer { result ≡ answer_by way n (at limits.now) links.now holders.old v }
-    ensures holders { holders.new ≡ after_by way n (at limits.now) links.now holders.old v }
-{
-    match way {
-        Way::Queued => search::place(n, v, limits, links, next, holders),
-        Way::Recursive => recursion::place(n, v, limits, links, next, holders),
-    }
-}
-
 impl Small {
+    /// Refusal::NotSound, 26, where the record is not sound. The numbers may be any, and the lists of any lengths and contents.
+    #[tactic(auto, unfolding(crate::specs::Calls::record_refusal, crate::specs::State::sound_state))]
+    pub fn check(
+        self,
+        links: &[u16],
+        order: &[u16],
+        holders: &[u16],
+        limits: &[u8],
+    ) -> Result<(), Refusal>
+        ensures { code result ≡ record_refusal (state_of self links.now order.now holders.now limits.now) }
+    {
+        let record = Record {
+            n: self.n,
+            t: self.t,
+            m: self.m,
+            k: self.k,
+            links,
+            order,
+            holders,
+            limits,
+        };
+        if record.is_sound() {
+            return Ok(());
+        }
+        Err(Refusal::NotSound)
+    }
+
     // Order 0, 1, .., no holder, the limit T for each gateway, no link, none placed. The links are lent with the other lists; nothing of them is read or written.
     pub fn open(
         n: u16,
@@ -80,25 +125,13 @@ impl Small {
         ensures holders { holders.new ≡ (open_call n t links.now order.old holders.old limits.old).state.holders }
         ensures limits { limits.new ≡ (open_call n t links.now order.old holders.old limits.old).state.limits }
     {
-        let refusal = refusals::of_open(n, t, order, holders, limits);
-        if refusal != 0 {
-            return Answer {
-                refusal,
-                small: Small {
-                    n: 0,
-                    t: 2,
-                    m: 0,
-                    k: 0,
-                },
-            };
-        }
-        lists::fill::with_places(n as usize, order);
-        lists::fill::with_none(n as usize, holders);
-        lists::fill::with_byte(n as usize, t, limits);
-        Answer {
-            refusal: 0,
-            small: Small { n, t, m: 0, k: 0 },
-        }
+        let none = Small {
+            n: 0,
+            t: 2,
+            m: 0,
+            k: 0,
+        };
+        Answer::of(none, Small::try_open(n, t, links, order, holders, limits))
     }
 
     // Appends the link a-b.
@@ -114,30 +147,7 @@ impl Small {
         ensures answer { result ≡ answer_of (call (state_of self links.old order.now holders.now limits.now) (calls.link a b)) }
         ensures links { links.new ≡ (call (state_of self links.old order.now holders.now limits.now) (calls.link a b)).state.links }
     {
-        let n = self.n;
-        let t = self.t;
-        let m = self.m;
-        let k = self.k;
-        if !sound::is_sound(n, t, m, k, links, order, holders, limits) {
-            return Answer {
-                refusal: 26,
-                small: self,
-            };
-        }
-        let refusal = refusals::of_link(n, k, m, links, a, b);
-        if refusal != 0 {
-            return Answer {
-                refusal,
-                small: self,
-            };
-        }
-        let at = 2 * (m as usize);
-        links[at] = a;
-        links[at + 1] = b;
-        Answer {
-            refusal: 0,
-            small: Small { n, t, m: m + 1, k },
-        }
+        Answer::of(self, self.try_link(links, order, holders, limits, a, b))
     }
 
     // Replaces the order.
@@ -152,26 +162,7 @@ impl Small {
         ensures answer { result ≡ answer_of (call (state_of self links.now order.old holders.now limits.now) (calls.order numbers.now)) }
         ensures order { order.new ≡ (call (state_of self links.now order.old holders.now limits.now) (calls.order numbers.now)).state.order }
     {
-        let n = self.n;
-        let k = self.k;
-        if !sound::is_sound(n, self.t, self.m, k, links, order, holders, limits) {
-            return Answer {
-                refusal: 26,
-                small: self,
-            };
-        }
-        let refusal = refusals::of_order(n, k, numbers);
-        if refusal != 0 {
-            return Answer {
-                refusal,
-                small: self,
-            };
-        }
-        lists::fill::with_list(numbers, order);
-        Answer {
-            refusal: 0,
-            small: self,
-        }
+        Answer::of(self, self.try_order(links, order, holders, limits, numbers))
     }
 
     // Replaces one gateway's limit, before the first placing.
@@ -187,26 +178,10 @@ impl Small {
         ensures answer { result ≡ answer_of (call (state_of self links.now order.now holders.now limits.old) (calls.set_limit gateway limit)) }
         ensures limits { limits.new ≡ (call (state_of self links.now order.now holders.now limits.old) (calls.set_limit gateway limit)).state.limits }
     {
-        let n = self.n;
-        let k = self.k;
-        if !sound::is_sound(n, self.t, self.m, k, links, order, holders, limits) {
-            return Answer {
-                refusal: 26,
-                small: self,
-            };
-        }
-        let refusal = refusals::of_limit(n, k, gateway, limit);
-        if refusal != 0 {
-            return Answer {
-                refusal,
-                small: self,
-            };
-        }
-        limits[gateway as usize] = limit;
-        Answer {
-            refusal: 0,
-            small: self,
-        }
+        Answer::of(
+            self,
+            self.try_set_limit(links, order, holders, limits, gateway, limit),
+        )
     }
 
     // The next in the order is kept or left. So that it finds a holder, others may change theirs; all whose holder changed are counted.
@@ -249,41 +224,7 @@ impl Small {
         ensures answer { result ≡ place_answer_of (state_of self links.now order.now holders.old limits.now) (calls.place_by way) }
         ensures holders { holders.new ≡ (call (state_of self links.now order.now holders.old limits.now) (calls.place_by way)).state.holders }
     {
-        let n = self.n;
-        let t = self.t;
-        let m = self.m;
-        let k = self.k;
-        if !sound::is_sound(n, t, m, k, links, order, holders, limits) {
-            return PlaceAnswer {
-                refusal: 26,
-                small: self,
-                moved: 0,
-            };
-        }
-        if k == n {
-            return PlaceAnswer {
-                refusal: 24,
-                small: self,
-                moved: 0,
-            };
-        }
-        let end = 2 * (m as usize);
-        let next = chains::build::index_of(&links[..end]);
-        // It is done: the next of a sound record may be placed.
-        let placed = search_by(
-            way,
-            n,
-            order[k as usize],
-            limits,
-            &links[..end],
-            &next,
-            holders,
-        );
-        PlaceAnswer {
-            refusal: 0,
-            small: Small { n, t, m, k: k + 1 },
-            moved: placed.moved,
-        }
+        PlaceAnswer::of(self, self.try_place_by(way, links, order, holders, limits))
     }
 
     // Writes the leader list and the choke bytes of the holders so far.
@@ -300,30 +241,9 @@ impl Small {
         ensures leaders { leaders.new ≡ read_leaders (state_of self links.now order.now holders.now limits.now) leaders.old choke.old }
         ensures choke { choke.new ≡ read_choke (state_of self links.now order.now holders.now limits.now) leaders.old choke.old }
     {
-        let n = self.n;
-        let m = self.m;
-        let k = self.k;
-        if !sound::is_sound(n, self.t, m, k, links, order, holders, limits) {
-            return Answer {
-                refusal: 26,
-                small: self,
-            };
-        }
-        let refusal = refusals::of_read(n, leaders, choke);
-        if refusal != 0 {
-            return Answer {
-                refusal,
-                small: self,
-            };
-        }
-        let end = 2 * (m as usize);
-        // Both answers are true: the lengths were tested above.
-        stars::leaders(n, order, holders, leaders);
-        let next = chains::build::index_of(&links[..end]);
-        search::choke::choke_set(n, &links[..end], &next, holders, choke);
-        Answer {
-            refusal: 0,
-            small: self,
-        }
+        Answer::of(
+            self,
+            self.try_read(links, order, holders, limits, leaders, choke),
+        )
     }
 }

@@ -3,42 +3,40 @@ ghost use Rattle.std.specs.Prelude.{◌≡◌, ◌≤◌, length};
 ghost use Rattle.packing.specs.Lists.{written};
 ghost use Rattle.packing.specs.Plant.{GATEWAYS, at};
 ghost use Rattle.packing.specs.Grouping.{members_of};
+ghost use Rattle.refusal.specs.Refusals.{code};
 ghost use Rattle.planner.specs.Members.{listed_leaders, members_conditions, members_refusal, members_part, members_list};
 
 use lists::PLACES;
 use lists::counts::member_count;
 use lists::tests::is_member;
+use refusal::Refusal;
 
-// How many entries of a leader list are looked at.
-fn looked_at(leaders: &[u16]) -> usize
-    ensures { result ≡ length (listed_leaders leaders.now) }
+// The entries of a leader list that are looked at.
+#[tactic(auto, using(std::proofs::lemmas::List::take_min), unfolding(crate::specs::Members::listed_leaders))]
+fn looked_at(leaders: &[u16]) -> &[u16]
+    ensures { result.now ≡ listed_leaders leaders.now }
 {
-    if leaders.len() < PLACES {
-        return leaders.len();
-    }
-    PLACES
+    &leaders[..PLACES.min(leaders.len())]
 }
 
 // The first refusal by a list whose entries all count.
-fn of_listed(list: &[u16], u: u16, room: usize) -> u32
+#[tactic(auto, using(crate::proofs::MembersLaws::counted), unfolding(crate::specs::Members::members_conditions))]
+fn of_listed(list: &[u16], u: u16, room: usize) -> Result<(), Refusal>
     requires { length list.now ≤ GATEWAYS }
-    ensures { result ≡ members_conditions list.now u room }
+    ensures { code result ≡ members_conditions list.now u room }
 {
     let at = u as usize;
-    if list.len() <= at {
-        return 11;
-    }
-    if list[at] != u {
-        return 11;
+    if list.len() <= at || list[at] != u {
+        return Err(Refusal::NotALeader);
     }
     let count = member_count(list.len() as u16, list, u) as usize;
     if count == 0 {
-        return 11;
+        return Err(Refusal::NotALeader);
     }
     if room < count {
-        return 10;
+        return Err(Refusal::ListTooShort);
     }
-    0
+    Ok(())
 }
 
 // Writes the members to the front of out and returns their count.
@@ -49,39 +47,38 @@ fn write_listed(list: &[u16], u: u16, out: &mut [u16]) -> usize
 {
     let n = list.len() as u16;
     let mut count: usize = 0;
-    let mut w: u16 = 0;
-    while w < n {
+    for w in 0..n {
         if is_member(list, u, w) {
             out[count] = w;
             count += 1;
         }
-        w += 1;
     }
     count
 }
 
-// Why members refuses, 11 or 10, where it has room for so many numbers; 0 where it does not.
-pub fn members_refusal(leaders: &[u16], leader: u16, room: usize) -> u32
-    ensures { result ≡ members_refusal leaders.now leader room }
+/// Refusal::NotALeader, 11, or Refusal::ListTooShort, 10, where members refuses in a list with room for so many numbers.
+#[tactic(auto, unfolding(crate::specs::Members::members_refusal))]
+pub fn members_refusal(leaders: &[u16], leader: u16, room: usize) -> Result<(), Refusal>
+    ensures { code result ≡ members_refusal leaders.now leader room }
 {
-    let end = looked_at(leaders);
-    of_listed(&leaders[..end], leader, room)
+    of_listed(looked_at(leaders), leader, room)
 }
 
 // Writes a leader's members, ascending, to the front of out and returns their count, or 0 on refusal.
+// No Result: 01 says that the part which members hands back is empty on refusal, and that a second call tells why.
 // This call says what the whole of out holds afterwards. members hands a part of out back, and no promise on the rest can stand beside that.
 pub fn write_members(leaders: &[u16], leader: u16, out: &mut [u16]) -> usize
     ensures count { result ≡ length (members_part leaders.now leader (length out.old)) }
     ensures out { out.new ≡ members_list leaders.now leader out.old }
 {
-    if members_refusal(leaders, leader, out.len()) != 0 {
-        return 0;
+    match members_refusal(leaders, leader, out.len()) {
+        Ok(()) => write_listed(looked_at(leaders), leader, out),
+        Err(_) => 0,
     }
-    let end = looked_at(leaders);
-    write_listed(&leaders[..end], leader, out)
 }
 
 // A leader's members, ascending, as the front part of out; an empty part on refusal, and members_refusal tells which.
+#[tactic(auto, using(crate::proofs::MembersLaws::part_is, crate::proofs::MembersLaws::part_long))]
 pub fn members<'a>(leaders: &[u16], leader: u16, out: &'a mut [u16]) -> &'a mut [u16]
     ensures { result.now ≡ members_part leaders.now leader (length out.old) }
 {

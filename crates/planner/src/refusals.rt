@@ -1,107 +1,115 @@
-// The first refusal of each call, in 01's turn; 0 where no condition holds.
+// The first refusal of each call, in 01's turn; Ok where no condition holds.
 ghost use Rattle.std.specs.Prelude.{◌≡◌, ◌≤◌, ◌*◌, length};
 ghost use Rattle.packing.specs.Plant.{GATEWAYS, first_links};
-ghost use Rattle.planner.specs.Refusals.{open_refusal, link_conditions, order_conditions, limit_conditions, read_conditions};
+ghost use Rattle.refusal.specs.Refusals.{code};
+ghost use Rattle.planner.specs.Refusals.{open_refusal, link_conditions, order_conditions, limit_conditions, place_conditions, read_conditions};
 
+use crate::Small;
 use lists::{GATEWAYS, HIGHEST, LINKS, LOWEST};
+use refusal::Refusal;
 use sound::links::is_linked;
 
-pub(crate) fn of_open(n: u16, t: u8, order: &[u16], holders: &[u16], limits: &[u8]) -> u32
-    ensures { result ≡ open_refusal n t order.now holders.now limits.now }
+#[tactic(auto, unfolding(crate::specs::Refusals::open_refusal))]
+pub(crate) fn of_open(
+    n: u16,
+    t: u8,
+    order: &[u16],
+    holders: &[u16],
+    limits: &[u8],
+) -> Result<(), Refusal>
+    ensures { code result ≡ open_refusal n t order.now holders.now limits.now }
 {
     if GATEWAYS < n {
-        return 1;
+        return Err(Refusal::TooManyGateways);
     }
-    if t < LOWEST {
-        return 2;
+    if t < LOWEST || HIGHEST < t {
+        return Err(Refusal::LimitOutOfRange);
     }
-    if HIGHEST < t {
-        return 2;
+    let places = n as usize;
+    if order.len() < places || holders.len() < places || limits.len() < places {
+        return Err(Refusal::ListTooShort);
     }
-    if order.len() < n as usize {
-        return 10;
-    }
-    if holders.len() < n as usize {
-        return 10;
-    }
-    if limits.len() < n as usize {
-        return 10;
-    }
-    0
+    Ok(())
 }
 
 // After 26. links is the whole lent list, of which the first m links count.
-pub(crate) fn of_link(n: u16, k: u16, m: u16, links: &[u16], a: u16, b: u16) -> u32
-    requires { 2 * m ≤ length links.now }
-    ensures { result ≡ link_conditions n k m (first_links m links.now) (length links.now) a b }
+#[tactic(auto, unfolding(crate::specs::Refusals::link_conditions, packing::specs::Plant::first_links))]
+pub(crate) fn of_link(small: Small, links: &[u16], a: u16, b: u16) -> Result<(), Refusal>
+    requires { 2 * small.m ≤ length links.now }
+    ensures { code result ≡ link_conditions small.n small.k small.m (first_links small.m links.now) (length links.now) a b }
 {
-    if 0 < k {
-        return 22;
+    if 0 < small.k {
+        return Err(Refusal::AfterFirstPlacing);
     }
-    if n <= a {
-        return 3;
-    }
-    if n <= b {
-        return 3;
+    if small.n <= a || small.n <= b {
+        return Err(Refusal::EndOutOfRange);
     }
     if a == b {
-        return 4;
+        return Err(Refusal::EndsEqual);
     }
-    let end = 2 * (m as usize);
+    let end = 2 * (small.m as usize);
     if is_linked(&links[..end], a, b) {
-        return 20;
+        return Err(Refusal::AlreadyLinked);
     }
-    if m == LINKS {
-        return 21;
+    if small.m == LINKS || links.len() < end + 2 {
+        return Err(Refusal::NoPlaceForLink);
     }
-    if links.len() < end + 2 {
-        return 21;
-    }
-    0
+    Ok(())
 }
 
 // After 26.
-pub(crate) fn of_order(n: u16, k: u16, numbers: &[u16]) -> u32
-    requires { n ≤ GATEWAYS }
-    ensures { result ≡ order_conditions n k numbers.now }
+#[tactic(auto, using(sound::proofs::Orders::order_answer), unfolding(crate::specs::Refusals::order_conditions))]
+pub(crate) fn of_order(small: Small, numbers: &[u16]) -> Result<(), Refusal>
+    requires { small.n ≤ GATEWAYS }
+    ensures { code result ≡ order_conditions small.n small.k numbers.now }
 {
-    if 0 < k {
-        return 22;
+    if 0 < small.k {
+        return Err(Refusal::AfterFirstPlacing);
     }
-    if numbers.len() != n as usize {
-        return 5;
+    if numbers.len() != small.n as usize {
+        return Err(Refusal::WrongOrderLength);
     }
-    if !sound::is_order(n, numbers) {
-        return 6;
+    if !sound::is_order(small.n, numbers) {
+        return Err(Refusal::NotAnOrder);
     }
-    0
+    Ok(())
 }
 
 // After 26.
-pub(crate) fn of_limit(n: u16, k: u16, gateway: u16, limit: u8) -> u32
-    ensures { result ≡ limit_conditions n k gateway limit }
+#[tactic(auto, unfolding(crate::specs::Refusals::limit_conditions))]
+pub(crate) fn of_limit(small: Small, gateway: u16, limit: u8) -> Result<(), Refusal>
+    ensures { code result ≡ limit_conditions small.n small.k gateway limit }
 {
-    if 0 < k {
-        return 22;
+    if 0 < small.k {
+        return Err(Refusal::AfterFirstPlacing);
     }
-    if n <= gateway {
-        return 30;
+    if small.n <= gateway {
+        return Err(Refusal::OutOfRangeUnplacedOrKept);
     }
     if !sound::is_limit(limit) {
-        return 33;
+        return Err(Refusal::LimitNotAllowed);
     }
-    0
+    Ok(())
 }
 
 // After 26.
-pub(crate) fn of_read(n: u16, leaders: &[u16], choke: &[u8]) -> u32
-    ensures { result ≡ read_conditions n (length leaders.now) (length choke.now) }
+#[tactic(auto, unfolding(crate::specs::Refusals::place_conditions))]
+pub(crate) fn of_place(small: Small) -> Result<(), Refusal>
+    ensures { code result ≡ place_conditions small.n small.k }
 {
-    if leaders.len() < n as usize {
-        return 10;
+    if small.k == small.n {
+        return Err(Refusal::AllPlaced);
     }
-    if choke.len() < n as usize {
-        return 10;
+    Ok(())
+}
+
+// After 26.
+#[tactic(auto, unfolding(crate::specs::Refusals::read_conditions))]
+pub(crate) fn of_read(small: Small, leaders: &[u16], choke: &[u8]) -> Result<(), Refusal>
+    ensures { code result ≡ read_conditions small.n (length leaders.now) (length choke.now) }
+{
+    if leaders.len() < small.n as usize || choke.len() < small.n as usize {
+        return Err(Refusal::ListTooShort);
     }
-    0
+    Ok(())
 }

@@ -1,72 +1,43 @@
 -- The tests of the call, and what they say.
-use Prim.Native.Nat.{ℕ, ◌+◌, ◌<◌, ◌≤◌}
-use mathlib.Core.Path.{◌≡◌, refl, sym, ◌∙◌}
+use Prim.Native.Nat.{ℕ, zero, suc, ◌<◌, ◌≤◌}
+use mathlib.Core.Path.{◌≡◌, refl, sym, ap, ◌∙◌}
 use mathlib.Core.Bool.{Bool, true, false, not, ◌||◌}
 use mathlib.Core.List.{List}
-use native.Mathlib.Nat.{le_antisymm}
 use native.Mathlib.Numerals.{add-one}
 use native.Mathlib.Omega.{arith}
-use lib.Dec.{eqb, ltb, leb}
-use borrow.Author.Tests.{eq-eqb, ne_eqb, lt-ltb, le-ltb, lt-leb, le-leb, ltb-false, leb-false, not-true, not-false}
+use lib.Dec.{ltb, leb}
+use lib.ListN.{length, take, get_or}
+use lib.Seq.{take_all}
+use Rattle.std.specs.List.{list_any, range_with_len}
+use Rattle.std.proofs.lemmas.List.Folds.{list_any_more}
+use Rattle.std.proofs.lemmas.List.FromFn.{length-range_with_len, get_or-range_with_len}
+use borrow.Author.Tests.{le-leb, ltb-false, leb-false, not-false}
 use Rattle.packing.specs.Count.{any}
 use Rattle.packing.specs.Plant.{at}
 use Rattle.packing.specs.Holders.{held}
-use Rattle.packing.proofs.Tests.{or-none, or_false_l, or_false_r, any_intro}
+use Rattle.packing.proofs.Tests.{or_false_l, or_false_r}
 use Rattle.packing.proofs.Refusals.{refuse-none}
 use Rattle.search.specs.Pre.{Placeable}
 use Rattle.sound.proofs.Searchable.{Searchable}
 use Rattle.violator.specs.WhyAlone.{is_placed, why_conditions}
 
--- whether v is placed: it does not stand at the places looked at
-module _ (k : ℕ) (os : List ℕ) (v : ℕ) where
-  pub record Unfound (i : ℕ) : Type 0 where
-    pub upto : i ≤ k
-    pub none : any i (λ j. eqb (at os j) v) ≡ false
+-- the test of each number below k, as the library makes it
+tested-below : (p : ℕ → Bool) (k i : ℕ) → i ≤ k → any i p ≡ list_any p (take i (range_with_len 0 k))
+unfolding any
+tested-below p k zero l = refl
+tested-below p k (suc i) l =
+    let below : i < length (range_with_len 0 k) = omega (arith, length-range_with_len 0 k) in
+    let more = rw add-one at (list_any_more p (range_with_len 0 k) i 0 below) in
+    let here : get_or (range_with_len 0 k) i 0 ≡ i = omega (arith, get_or-range_with_len 0 k i 0 (omega arith)) in
+    ap (λ (b : Bool). b || p i) (tested-below p k i (omega arith)) ∙ ap (λ (x : ℕ). list_any p (take i (range_with_len 0 k)) || p x) (sym here) ∙ sym more
 
-  pub placed-start : Unfound 0
-  unfolding any
-  placed-start = record { upto = omega arith; none = refl }
+pub any_of_range : (p : ℕ → Bool) (k : ℕ) → list_any p (range_with_len 0 k) ≡ any k p
+any_of_range p k = sym (tested-below p k k (omega arith) ∙ ap (λ (l : List ℕ). list_any p l) (take_all k (range_with_len 0 k) (omega (arith, length-range_with_len 0 k))))
 
-  pub placed-next : {i x : ℕ} → Unfound i → i < k → x ≡ at os i → (x ≡ v → ⊥) → Unfound (i + 1)
-  unfolding any
-  placed-next {i} u l e other = record { upto = omega arith; none = rw add-one (or-none (any i (λ j. eqb (at os j) v)) (eqb (at os i) v) u.none (ne_eqb (at os i) v (λ q. other (e ∙ q)))) }
-
-  pub placed-found : {i x : ℕ} → i < k → x ≡ at os i → x ≡ v → true ≡ is_placed k os v
-  unfolding is_placed
-  placed-found {i} l e q = sym (any_intro k (λ j. eqb (at os j) v) i l (eq-eqb (at os i) v (sym e ∙ q)))
-
-  pub placed_end : {i : ℕ} → Unfound i → k ≤ i → false ≡ is_placed k os v
-  unfolding is_placed
-  placed_end u l = sym (rw (le_antisymm u.upto l) at u.none)
-
--- each refusal in its turn
-module _ (n k : ℕ) (os hs : List ℕ) (v a b : ℕ) where
-  pub out_of_range : n ≤ v → 30 ≡ why_conditions n k os hs v a b
-  unfolding why_conditions
-  out_of_range l = rw (le-leb n v l)
-
-  module _ (l : v < n) {p : Bool} (e : p ≡ is_placed k os v) where
-    pub unplaced : not p ≡ true → 30 ≡ why_conditions n k os hs v a b
-    unfolding why_conditions
-    unplaced f = rw (lt-leb n v l, sym e ∙ not-true p f)
-
-    module _ (f : not p ≡ false) {h : ℕ} (q : h ≡ at hs v) where
-      pub kept : h < n → 30 ≡ why_conditions n k os hs v a b
-      unfolding why_conditions
-      kept m = rw (lt-leb n v l, sym e ∙ not-false p f, ← q, lt-ltb h n m)
-
-      module _ (m : n ≤ h) where
-        pub short_first : a < n → 10 ≡ why_conditions n k os hs v a b
-        unfolding why_conditions
-        short_first r = rw (lt-leb n v l, sym e ∙ not-false p f, ← q, le-ltb h n m, lt-ltb a n r)
-
-        pub short_second : n ≤ a → b < n → 10 ≡ why_conditions n k os hs v a b
-        unfolding why_conditions
-        short_second r r' = rw (lt-leb n v l, sym e ∙ not-false p f, ← q, le-ltb h n m, le-ltb a n r, lt-ltb b n r')
-
-        pub none-refused : n ≤ a → n ≤ b → 0 ≡ why_conditions n k os hs v a b
-        unfolding why_conditions
-        none-refused r r' = rw (lt-leb n v l, sym e ∙ not-false p f, ← q, le-ltb h n m, le-ltb a n r, le-ltb b n r')
+-- a number that is no gateway
+pub out_of_range : (n k : ℕ) (os hs : List ℕ) (v a b : ℕ) → n ≤ v → 30 ≡ why_conditions n k os hs v a b
+unfolding why_conditions
+out_of_range n k os hs v a b l = rw (le-leb n v l)
 
 -- the test of 30 fails: v is in range, placed and left
 pub record PlacedLeft (n k : ℕ) (os hs : List ℕ) (v : ℕ) : Type 0 where

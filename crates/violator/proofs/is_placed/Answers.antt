@@ -1,14 +1,14 @@
-use Rattle.violator.proofs.WhyTests.{placed-start, placed-next, placed-found, placed_end}
+use Rattle.std.proofs.Common.{rules, tests, ◌∙◌, refl, arith, ℕ}
+use Rattle.std.proofs.lemmas.Iterator.{YieldsList-from_range}
+use Rattle.std.proofs.lemmas.Iterator.Search.{any_from_yields_List}
+use lib.Dec.{eqb}
+use Rattle.packing.specs.Plant.{at}
+use Rattle.violator.specs.WhyAlone.{is_placed}
+use Rattle.violator.proofs.WhyTests.{any_of_range}
 use Rattle.violator.proofs.is_placed.Goals as goal
 
-pub loop-i-init : goal.loop-i-init
-loop-i-init c = placed-start _ _ _
-
-pub returns-then-entry-v : goal.returns-then-entry-v
-returns-then-entry-v c = placed-found _ _ _ c.loop-i-test.true c.entry.ensures c.if-entry-v.true
-
-pub loop-i-preserved : goal.loop-i-preserved
-loop-i-preserved c = placed-next _ _ _ c.loop-i.invariant c.loop-i-test.true c.entry.ensures c.if-entry-v.false
-
 pub returns : goal.returns
-returns c = placed_end _ _ _ c.loop-i.invariant c.loop-i-test.false
+unfolding is_placed
+returns c =
+    let a = any_from_yields_List (λ (i : ℕ). eqb (at c.args.order.now i) c.args.v) _ _ c.any.result c.any.ensures.ran (YieldsList-from_range 0 c.args.k c.args.k refl (omega arith)) (λ x b q k. search (rules, tests)) in
+    a ∙ any_of_range _ _

@@ -1,18 +1,13 @@
-use Rattle.plan.proofs.ReadingLists.{choking_room, choking_marked, choking_marks, choking_works, choking_walked}
-use Rattle.chains.proofs.LinkMore.{index_told}
+use Rattle.packing.specs.Lists.{written}
+use Rattle.plan.proofs.ReadingLists.{choking_room, choking_marked, choking_works}
 use Rattle.plan.proofs.reading.write_choke.Goals as goal
 
 pub write_seen-requires : goal.write_seen-requires
-write_seen-requires c = choking_room _ _ _ c.requires c.gateways-n.ensures c.is_queued.ensures c.both.ensures c.if-both.true
+write_seen-requires c = choking_room _ _ _ c.args.loaded.now.lists c.requires c.in-Queued.is c.args.loaded.now.gateways c.if-placings-n.true
 
-pub returns-then-both : goal.returns-then-both
-returns-then-both c = choking_marked _ _ _ c.requires c.gateways-n.ensures c.is_queued.ensures c.both.ensures c.if-both.true c.write_seen.ensures
-
-pub with_none-requires : goal.with_none-requires
-with_none-requires c = choking_marks _ _ _ c.requires c.gateways-n.ensures
+pub returns-in-Queued : goal.returns-in-Queued
+returns-in-Queued c = choking_marked _ _ _ c.args.loaded.now.lists c.requires c.in-Queued.is c.args.loaded.now.gateways c.if-placings-n.true c.write_seen.ensures
 
 pub write_set-requires : goal.write_set-requires
-write_set-requires c = (index_told c.gateways-n.ensures c.requires.index, choking_works _ _ _ c.requires c.gateways-n.ensures c.with_none.ensures)
-
-pub returns : goal.returns
-returns c = choking_walked _ _ _ c.requires c.gateways-n.ensures c.write_set.ensures
+unfolding written
+write_set-requires c = choking_works _ _ _ c.args.loaded.now.lists c.requires c.args.loaded.now.gateways c.with_value.ensures

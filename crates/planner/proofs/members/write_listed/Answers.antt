@@ -7,17 +7,11 @@ use Rattle.planner.proofs.members.write_listed.Goals.{then-is_member, else-is_me
 pub loop-w-init : goal.loop-w-init
 loop-w-init c = gather_start _ _ _
 
-pub offset_bounds-out-count : goal.offset_bounds-out-count
-offset_bounds-out-count c = omega (arith, c.loop-w.invariant.tallied.few)
-
 pub bounds-out-count : goal.bounds-out-count
 unfolding members_of
 bounds-out-count c =
     let inv = c.loop-w.invariant in
     omega (arith, inv.same, gather_place _ _ _ inv c.loop-w-test.true c.is_member.ensures c.requires.1 c.if-is_member.true)
-
-pub overflow_add-count : goal.overflow_add-count
-overflow_add-count c = omega (arith, c.loop-w.invariant.tallied.few)
 
 pub loop-w-preserved : goal.loop-w-preserved
 unfolding members_of
