@@ -1,140 +1,119 @@
 // The largest plant: 1,024 gateways, 8,192 links, each made by a call of link, placed to the end and read.
-use crate::{lines, parts};
-use planner::{Answer, Small};
+use crate::lines;
+use crate::parts::{LARGE, LARGE_LINKS};
+use planner::{Answer, PlaceAnswer, Small};
 use std::io;
 
-// The i-th link of 8,192: each gateway to the eight after it.
-fn linked(
-    s: Small,
-    links: &mut [u16],
-    order: &[u16],
-    holders: &[u16],
-    limits: &[u8],
-    i: u16,
-) -> Answer {
-    let a = i % lists::GATEWAYS;
-    let b = (a + i / lists::GATEWAYS + 1) % lists::GATEWAYS;
-    s.link(links, order, holders, limits, a, b)
+// The small part and the lists that are lent to each call.
+#[derive(Drop)]
+struct Plant {
+    small: Small,
+    links: [u16; LARGE_LINKS],
+    order: [u16; LARGE],
+    holders: [u16; LARGE],
+    limits: [u8; LARGE],
 }
 
-fn fill(s: Small, links: &mut [u16], order: &[u16], holders: &[u16], limits: &[u8]) -> Small {
-    let mut now = s;
-    let mut i: u16 = 0;
-    while i < lists::LINKS {
-        let r = linked(now, links, order, holders, limits, i);
-        now = r.small;
-        i += 1;
+impl Plant {
+    fn open() -> Plant {
+        let links = [9u16; LARGE_LINKS];
+        let mut order = [9u16; LARGE];
+        let mut holders = [9u16; LARGE];
+        let mut limits = [9u8; LARGE];
+        let opened = Small::open(
+            lists::GATEWAYS,
+            lists::LOWEST,
+            &links,
+            &mut order,
+            &mut holders,
+            &mut limits,
+        );
+        Plant {
+            small: opened.small,
+            links,
+            order,
+            holders,
+            limits,
+        }
     }
-    now
-}
 
-fn place_all(s: Small, links: &[u16], order: &[u16], holders: &mut [u16], limits: &[u8]) -> Small {
-    let mut now = s;
-    let mut i: u16 = 0;
-    while i < lists::GATEWAYS {
-        let r = now.place(links, order, holders, limits);
-        now = r.small;
-        i += 1;
+    fn link(&mut self, a: u16, b: u16) -> Answer {
+        let answer = self.small.link(
+            &mut self.links,
+            &self.order,
+            &self.holders,
+            &self.limits,
+            a,
+            b,
+        );
+        self.small = answer.small;
+        answer
     }
-    now
-}
 
-// All but those alone.
-fn covered(leaders: &[u16]) -> u16 {
-    lists::GATEWAYS - lists::counts::count_of(lists::GATEWAYS, leaders, lists::NONE)
-}
+    fn place(&mut self) -> PlaceAnswer {
+        let answer = self
+            .small
+            .place(&self.links, &self.order, &mut self.holders, &self.limits);
+        self.small = answer.small;
+        answer
+    }
 
-fn one_more_link(
-    rt: &impl Print,
-    s: Small,
-    links: &mut [u16],
-    order: &[u16],
-    holders: &[u16],
-    limits: &[u8],
-) -> io::Result<()> {
-    lines::text(rt, b"8192 links:")?;
-    lines::small(rt, s)?;
-    lines::four(rt, links, 16382)?;
-    let r = s.link(links, order, holders, limits, 0, 512);
-    lines::answer(rt, b"\none more link", r)?;
-    lines::four(rt, links, 16382)?;
-    lines::end(rt)
-}
+    // 8,192 links: each gateway to the eight after it.
+    fn fill(&mut self) {
+        for i in 0..lists::LINKS {
+            let a = i % lists::GATEWAYS;
+            let b = (a + i / lists::GATEWAYS + 1) % lists::GATEWAYS;
+            self.link(a, b);
+        }
+    }
 
-fn one_more_placing(
-    rt: &impl Print,
-    s: Small,
-    links: &[u16],
-    order: &[u16],
-    holders: &mut [u16],
-    limits: &[u8],
-) -> io::Result<()> {
-    lines::text(rt, b"1024 placed:")?;
-    lines::small(rt, s)?;
-    let r = s.place(links, order, holders, limits);
-    lines::placed(rt, b"\none more placing", r)?;
-    lines::end(rt)
-}
+    fn one_more_link(&mut self, rt: &impl Print) -> io::Result<()> {
+        print!(rt; "8192 links:")?;
+        lines::small(rt, self.small)?;
+        lines::list(rt, &self.links[16382..16386])?;
+        lines::answer(rt, b"\none more link", self.link(0, 512))?;
+        lines::list(rt, &self.links[16382..16386])?;
+        println!(rt;)
+    }
 
-fn show_read(
-    rt: &impl Print,
-    s: Small,
-    links: &[u16],
-    order: &[u16],
-    holders: &[u16],
-    limits: &[u8],
-) -> io::Result<()> {
-    let mut leaders = parts::large(lists::NONE);
-    let mut choke = lists::marks::bytes(9);
-    let r = s.read(links, order, holders, limits, &mut leaders, &mut choke);
-    lines::answer(rt, b"read", r)?;
-    lines::text(rt, b" | covered")?;
-    lines::number(rt, covered(&leaders) as u64)?;
-    lines::four(rt, &leaders, 1022)?;
-    lines::end(rt)
-}
+    fn one_more_placing(&mut self, rt: &impl Print) -> io::Result<()> {
+        print!(rt; "1024 placed:")?;
+        lines::small(rt, self.small)?;
+        lines::placed(rt, b"\none more placing", self.place())?;
+        println!(rt;)
+    }
 
-fn prepare(links: &mut [u16], order: &mut [u16], holders: &mut [u16], limits: &mut [u8]) -> Small {
-    let opened = Small::open(
-        lists::GATEWAYS,
-        lists::LOWEST,
-        links,
-        order,
-        holders,
-        limits,
-    );
-    fill(opened.small, links, order, holders, limits)
-}
-
-fn finish(
-    rt: &impl Print,
-    s: Small,
-    links: &[u16],
-    order: &[u16],
-    holders: &mut [u16],
-    limits: &[u8],
-) -> io::Result<()> {
-    let placed = place_all(s, links, order, holders, limits);
-    one_more_placing(rt, placed, links, order, holders, limits)?;
-    show_read(rt, placed, links, order, holders, limits)
-}
-
-fn whole(
-    rt: &impl Print,
-    links: &mut [u16],
-    order: &mut [u16],
-    holders: &mut [u16],
-    limits: &mut [u8],
-) -> io::Result<()> {
-    let s = prepare(links, order, holders, limits);
-    one_more_link(rt, s, links, order, holders, limits)?;
-    finish(rt, s, links, order, holders, limits)
+    fn show_read(&self, rt: &impl Print) -> io::Result<()> {
+        let mut leaders = [lists::NONE; LARGE];
+        let mut choke = [9u8; lists::PLACES];
+        let r = self.small.read(
+            &self.links,
+            &self.order,
+            &self.holders,
+            &self.limits,
+            &mut leaders,
+            &mut choke,
+        );
+        lines::answer(rt, b"read", r)?;
+        // All but those alone.
+        let covered = leaders
+            .iter()
+            .take(lists::PLACES)
+            .filter(|u| **u != lists::NONE)
+            .count();
+        print!(rt; " | covered {covered}")?;
+        lines::list(rt, &leaders[1022..1026])?;
+        println!(rt;)
+    }
 }
 
 pub(crate) fn run(rt: &impl Print) -> io::Result<()> {
-    let mut links = parts::large_links(9);
-    let mut order = parts::large(9);
-    let mut holders = parts::large(9);
-    let mut limits = parts::large_bytes(9);
-    whole(rt, &mut links, &mut order, &mut holders, &mut limits)
+    let mut plant = Plant::open();
+    plant.fill();
+    plant.one_more_link(rt)?;
+    for _ in 0..lists::GATEWAYS {
+        plant.place();
+    }
+    plant.one_more_placing(rt)?;
+    plant.show_read(rt)
 }

@@ -16,36 +16,16 @@ mod ordering;
 mod parts;
 mod placing;
 mod reading;
+mod record;
 mod script;
 mod soundness;
 mod star;
 
-ghost use Rattle.std.specs.Prelude.{◌≤◌, length};
-
-use std::io::{self, Read};
-
-// Room for a script half as long again.
-fn room() -> [u8; 16384] {
-    [0u8; 16384]
-}
-
-// Reads until the room is full, the input ends or a read fails, and returns how many bytes it put at the front.
-fn read_full<R: Read>(reader: &mut R, file: &mut [u8]) -> usize
-    ensures { result ≤ length file.new }
-{
-    let mut done: usize = 0;
-    while done < file.len() {
-        match reader.read(&mut file[done..]) {
-            Ok(0) => break,
-            Ok(count) => done += count,
-            Err(_) => break,
-        }
-    }
-    done
-}
+use std::io;
 
 fn main(rt: HostRuntime) -> io::Result<()> {
-    let mut file = room();
-    let count = read_full(&mut rt.reader(), &mut file);
+    // Room for a script half as long again.
+    let mut file = [0u8; 16384];
+    let count = input::read_full(&mut rt.reader(), &mut file);
     script::run(&rt, &file[..count])
 }

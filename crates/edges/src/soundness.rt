@@ -1,8 +1,9 @@
 // Each clause of soundness broken alone, told by link: 22 on the sound record, whose first two are placed, and 26 on each other.
 // The record: 4 gateways, T and each limit 2, links 0-1, 0-2, 0-3, order 1 2 0 3, 0 holds 1 and 2.
-use crate::{lines, parts};
+use crate::lines;
+use crate::parts::{self, LARGE, LARGE_LINKS, Numbers};
 use planner::Small;
-use std::io;
+use std::{array, io};
 
 fn probe(
     rt: &impl Print,
@@ -20,35 +21,38 @@ fn probe(
 }
 
 // n, T, m, k, the lengths of links, order and holders, the last link, the order, the holders, and the limits' length and five limits
-pub(crate) fn case(rt: &impl Print, label: &[u8], a: &[u16]) -> io::Result<()> {
-    let mut links = [0u16, 1, 0, 2, lists::entry(a, 9), lists::entry(a, 10)];
-    let five = parts::five(parts::rest(a, 20));
-    let limits = parts::front_bytes(&five, parts::place(a, 19));
+pub(crate) fn case(rt: &impl Print, label: &[u8], a: &Numbers) -> io::Result<()> {
+    let mut links = [0u16, 1, 0, 2, a[9], a[10]];
+    let limits = [a[20], a[21], a[22], a[23], a[24]].map(parts::byte);
     let s = Small {
-        n: lists::entry(a, 2),
-        t: parts::byte(a, 3),
-        m: lists::entry(a, 4),
-        k: lists::entry(a, 5),
+        n: a[2],
+        t: parts::byte(a[3]),
+        m: a[4],
+        k: a[5],
     };
     probe(
         rt,
         label,
         s,
-        parts::front_mut(&mut links, parts::place(a, 6)),
-        parts::front(parts::rest(a, 11), parts::place(a, 7)),
-        parts::front(parts::rest(a, 15), parts::place(a, 8)),
-        limits,
+        parts::front_mut(&mut links, usize::from(a[6])),
+        parts::front(&a[11..], usize::from(a[7])),
+        parts::front(&a[15..], usize::from(a[8])),
+        parts::front(&limits, usize::from(a[19])),
     )
 }
 
 // Any n and m: the order 0, 1, .., and the link 0-1 each time.
 pub(crate) fn large(rt: &impl Print, label: &[u8], n: u16, m: u16) -> io::Result<()> {
-    let mut links = parts::large_links(0);
-    let mut order = parts::large(0);
-    let holders = parts::large(lists::NONE);
-    let limits = parts::large_bytes(2);
-    parts::count_up(&mut links, 2);
-    parts::count_up(&mut order, 65536);
+    let mut links: [u16; LARGE_LINKS] = array::from_fn(|i| (i % 2) as u16);
+    let order: [u16; LARGE] = array::from_fn(|i| (i % 65536) as u16);
     let s = Small { n, t: 2, m, k: 1 };
-    probe(rt, label, s, &mut links, &order, &holders, &limits)
+    probe(
+        rt,
+        label,
+        s,
+        &mut links,
+        &order,
+        &[lists::NONE; LARGE],
+        &[2; LARGE],
+    )
 }

@@ -1,57 +1,18 @@
 -- The text for a file: each way to it, and how long it can be.
 use Prim.Native.Nat.{ℕ, zero, suc, ◌≤◌}
 use mathlib.Core.Path.{◌≡◌, refl, sym, ap, ◌∙◌}
-use mathlib.Core.Bool.{Bool, true, false, not, ◌||◌}
-use mathlib.Core.List.{List, [], ◌∷◌, ◌++◌}
+use mathlib.Core.List.{List}
 use native.Mathlib.Omega.{arith}
-use lib.Dec.{eqb, ltb, leb}
 use lib.ListN.{length, take, replicate, length-replicate}
 use lib.Seq.{sets, length-sets, length-take-le}
-use Rattle.packing.specs.Plant.{GATEWAYS, LINKS, LOWEST, HIGHEST, linked}
-use Rattle.packing.specs.Orders.{repeats_or_outside}
-use Rattle.packing.specs.Refusals.{refuse, first_of}
-use Rattle.plant_file.specs.PlantFile.{file_version, file_n, file_t, file_m, file_links, file_order, file_length, limits_allowed, begins_plt, ends_refusal, links_refusal, file_refusal, file_then_short}
+use Rattle.packing.specs.Plant.{GATEWAYS}
+use Rattle.plant_file.specs.PlantFile.{file_n, file_t}
 use Rattle.plant_file.proofs.Accepted.{file_allowed}
 use Rattle.plan.specs.Plan.{plan_refusal, plan_leaders, plan_choke}
 use Rattle.plan.proofs.FilePlan.{plan_accepts}
 use Rattle.report.specs.Text as text
 use Rattle.report.proofs.Lengths.{listing_short, refused-length}
 use Rattle.listing.specs.Listed.{text_by, file_text}
-
--- refusal numbers are small
-refuse-small : (b : Bool) {e later : ℕ} → e ≤ 33 → later ≤ 33 → refuse b e later ≤ 33
-refuse-small true p q = p
-refuse-small false p q = q
-
-first_small : (e : ℕ) {later : ℕ} → e ≤ 33 → later ≤ 33 → first_of e later ≤ 33
-first_small zero p q = q
-first_small (suc e) p q = p
-
-links-small : (n : ℕ) (earlier l : List ℕ) → links_refusal n earlier l ≤ 33
-unfolding links_refusal ends_refusal
-links-small n earlier [] = omega arith
-links-small n earlier (a ∷ []) = omega arith
-links-small n earlier (a ∷ b ∷ rest) =
-    first_small (ends_refusal n earlier a b) (refuse-small (leb n a || leb n b) (omega arith) (refuse-small (eqb a b) (omega arith) (refuse-small (linked earlier a b) (omega arith) (omega arith))))
-    (links-small n (earlier ++ (a ∷ b ∷ [])) rest)
-
-file_small : (file : List ℕ) → file_refusal file ≤ 33
-unfolding file_refusal
-file_small file =
-    refuse-small (ltb (length file) 10) (omega arith)
-    (refuse-small (not (begins_plt file)) (omega arith)
-    (refuse-small (not (eqb (file_version file) 1 || eqb (file_version file) 2)) (omega arith)
-    (refuse-small (ltb GATEWAYS (file_n file)) (omega arith)
-    (refuse-small (ltb (file_t file) LOWEST || ltb HIGHEST (file_t file)) (omega arith)
-    (refuse-small (ltb LINKS (file_m file)) (omega arith)
-    (refuse-small (not (eqb (length file) (file_length file))) (omega arith)
-    (first_small (links_refusal (file_n file) [] (file_links file)) (links-small (file_n file) [] (file_links file))
-    (refuse-small (repeats_or_outside (file_n file) (file_order file)) (omega arith)
-    (refuse-small (not (limits_allowed file)) (omega arith) (omega arith))))))))))
-
-pub plan-small : (file : List ℕ) (ls cs : ℕ) {e : ℕ} → e ≡ plan_refusal file ls cs → e ≤ 33
-unfolding plan_refusal file_then_short
-plan-small file ls cs g = rw g (first_small (file_refusal file) (file_small file) (refuse-small (ltb ls (file_n file) || ltb cs (file_n file)) (omega arith) (omega arith)))
 
 pub text_refused : (e : ℕ) (listing : List ℕ) → (e ≡ 0 → ⊥) → text_by e listing ≡ text.refused_line e
 text_refused zero listing h = absurd (h refl)

@@ -3,19 +3,13 @@ use Prim.Native.Nat.{ℕ, zero, suc, ◌+◌, ◌-◌, ◌*◌, ◌/◌, ◌%◌
 use mathlib.Core.Path.{◌≡◌, refl, ◌∙◌}
 use mathlib.Core.List.{List, [], ◌∷◌, ◌++◌}
 use native.Mathlib.Omega.{arith}
-use lib.Dec.{ltb}
 use lib.ListN.{length, length-append, get_or-append}
 use lib.Seq.{get_or-append_seam}
-use borrow.Author.Tests.{ltb-true, ltb-false}
 use Rattle.packing.specs.Plant.{at}
-use Rattle.packing.proofs.Tests.{by_bool, below_suc}
-use Rattle.report.specs.Text.{digits_in, digits}
+use Rattle.packing.proofs.Tests.{below_suc}
 use Rattle.report.specs.Decimal.{figure, Decimal, InDecimal}
-
--- ten times itself so many times
-tens : ℕ → ℕ
-tens zero = 1
-tens (suc p) = 10 * tens p
+use Rattle.report.proofs.Digits.{decimal_is}
+use Rattle.std.proofs.lemmas.Fmt.{decimal_by_steps}
 
 figure_last : (x : ℕ) (bytes : List ℕ) (b : ℕ) → figure x (bytes ++ (b ∷ [])) ≡ 10 * figure x bytes + (b - 48)
 unfolding figure
@@ -47,13 +41,6 @@ decimal_more x front l d =
         (λ e. rw (e, get_or-append_seam front (48 + x % 10) [] 0) (omega arith, omega arith))
         (λ e. rw (get_or-append front ((48 + x % 10) ∷ []) 0 i e) (d.digit i e))
 
-decimal : (p x : ℕ) → x < tens (suc p) → Decimal x (digits_in (suc p) x)
-unfolding digits_in tens
-decimal zero x l = by_bool (ltb x 10) (λ e. rw e (decimal_one x (ltb-true x 10 e))) (λ e. absurd (omega (arith, ltb-false x 10 e)))
-decimal (suc p) x l =
-    by_bool (ltb x 10) (λ e. rw e (decimal_one x (ltb-true x 10 e)))
-    (λ e. rw e (decimal_more x (digits_in (suc p) (x / 10)) (ltb-false x 10 e) (decimal p (x / 10) (omega arith))))
-
 pub in_decimal : InDecimal
-unfolding InDecimal digits tens
-in_decimal x l = decimal 4 x (omega arith)
+unfolding InDecimal
+in_decimal x l = rw (← decimal_is x l) (decimal_by_steps Decimal decimal_one (λ n front h d. decimal_more n front h d) x (omega arith))

@@ -1,13 +1,15 @@
 -- Laws of the digits and of numbers listed.
-use Prim.Native.Nat.{ℕ, zero, suc, ◌+◌, ◌*◌, ◌/◌, ◌%◌, ◌<◌, ◌≤◌}
+use Prim.Native.Nat.{ℕ, zero, suc, ◌+◌, ◌*◌, ◌/◌, ◌%◌, ◌^◌, ◌<◌, ◌≤◌}
 use mathlib.Core.Path.{◌≡◌, refl, sym, ap, ◌∙◌}
-use mathlib.Core.Bool.{Bool, true, false, cond}
+use mathlib.Core.Bool.{Bool, cond}
 use mathlib.Core.List.{List, [], ◌∷◌, ◌++◌, append_assoc, append-nil}
 use native.Mathlib.Numerals.{add-one}
 use native.Mathlib.Omega.{arith}
 use lib.Dec.{ltb}
 use lib.ListN.{length, length-append}
-use borrow.Author.Tests.{lt-ltb, le-ltb}
+use borrow.Author.Tests.{lt-ltb, ltb-true, ltb-false}
+use Rattle.std.specs.Fmt.{decimal}
+use Rattle.std.proofs.lemmas.Fmt.{decimal_digit, decimal_step, length-decimal-le}
 use Rattle.packing.proofs.Tests.{by_bool}
 use Rattle.packing.specs.Lists.{list_where}
 use Rattle.report.specs.Text.{digits_in, digits, spaced}
@@ -18,32 +20,17 @@ power : ℕ → ℕ
 power zero = 10
 power (suc places) = 10 * power places
 
--- more places than a number has digits change nothing
-places-enough : (places x : ℕ) → x < power places → digits_in (suc places) x ≡ digits_in (suc (suc places)) x
+decimal_in : (places x : ℕ) → x < power places → x < 2 ^ 64 → decimal x ≡ digits_in (suc places) x
 unfolding digits_in power
-places-enough zero x h = simp (lt-ltb x 10 h)
-places-enough (suc places) x h =
-    by_bool (ltb x 10) (λ e. simp e)
-    (λ e. simp e (ap (λ (l : List ℕ). l ++ ((48 + x % 10) ∷ [])) (places-enough places (x / 10) (omega arith))))
+decimal_in zero x h k = simp (lt-ltb x 10 h) (decimal_digit x h)
+decimal_in (suc places) x h k =
+    by_bool (ltb x 10) (λ e. simp e (decimal_digit x (ltb-true x 10 e)))
+    (λ e. simp e (decimal_step x (ltb-false x 10 e) k ∙ ap (λ (l : List ℕ). l ++ ((48 + x % 10) ∷ [])) (decimal_in places (x / 10) (omega (arith, ltb-false x 10 e)) (omega arith))))
 
-digits-four : (x : ℕ) → x < 10000 → digits x ≡ digits_in 4 x
+-- the digits of a number are those that the library writes
+pub decimal_is : (x : ℕ) → x < 65536 → decimal x ≡ digits x
 unfolding digits power
-digits-four x h = sym (places-enough 3 x h)
-
--- the digits of a number: one digit, or those of its tens and then the last
-pub digits_last : (x : ℕ) → x < 10 → (48 + x % 10) ∷ [] ≡ digits x
-unfolding digits_in digits
-digits_last x h = simp (lt-ltb x 10 h) (ap (λ (y : ℕ). (48 + y) ∷ []) (small x h))
-  where
-    small : (y : ℕ) → y < 10 → y % 10 ≡ y
-    small y k = omega arith
-
-digits_ten : (x : ℕ) → 10 ≤ x → digits_in 4 (x / 10) ++ ((48 + x % 10) ∷ []) ≡ digits x
-unfolding digits digits_in
-digits_ten x h = simp (le-ltb x 10 h)
-
-pub digits_more : (x : ℕ) → 10 ≤ x → x < 65536 → digits (x / 10) ++ ((48 + x % 10) ∷ []) ≡ digits x
-digits_more x h k = rw (digits-four (x / 10) (omega arith)) (digits_ten x h)
+decimal_is x h = decimal_in 4 x (omega arith) (omega arith)
 
 digits_in_short : (places x : ℕ) → length (digits_in places x) ≤ places
 unfolding digits_in
@@ -57,7 +44,7 @@ unfolding digits
 digits_short x = digits_in_short 5 x
 
 pub digits_short_four : (x : ℕ) → x < 10000 → length (digits x) ≤ 4
-digits_short_four x h = rw (digits-four x h) (digits_in_short 4 x)
+digits_short_four x h = rw (← decimal_is x (omega arith)) (length-decimal-le 4 x (omega arith) h (omega arith))
 
 pub spaced-append : (a b : List ℕ) → spaced (a ++ b) ≡ spaced a ++ spaced b
 unfolding spaced
@@ -68,12 +55,9 @@ pub spaced-one : (x : ℕ) → (32 ∷ []) ++ digits x ≡ spaced (x ∷ [])
 unfolding spaced
 spaced-one x = sym (append-nil (32 ∷ digits x))
 
-pub spaced_wanted : (x : ℕ) {b : Bool} → b ≡ true → spaced (x ∷ []) ≡ spaced (cond b (x ∷ []) [])
-spaced_wanted x e = rw e
-
-pub spaced_unwanted : (x : ℕ) {b : Bool} → b ≡ false → [] ≡ spaced (cond b (x ∷ []) [])
-unfolding spaced
-spaced_unwanted x e = rw e
+-- a number listed, or none, by a test's answer
+pub spaced_if : (x : ℕ) {b d : Bool} → b ≡ d → spaced (cond b (x ∷ []) []) ≡ spaced (cond d (x ∷ []) [])
+spaced_if x e = rw e
 
 -- the numbers with p, listed: one more at each i, if it has p
 pub listed_grows : (n : ℕ) (p : ℕ → Bool) → Growing n (λ i. spaced (list_where i p)) (λ i. spaced (cond (p i) (i ∷ []) []))

@@ -16,6 +16,7 @@ use Rattle.packing.specs.Grouping.{follows, members_of, is_alone, covered}
 use Rattle.packing.proofs.Tests.{by_bool}
 use Rattle.packing.proofs.Sums.{sum_ext, sum_mono, sum-zero, sum_add, sum_swap, sum_single, count_bound}
 use Rattle.report.specs.Text.{word_gateways, word_limit, word_covered, word_lead, word_members, word_alone, word_choke, word_refused, digits, spaced, field, line, covered_count, line_one, lead_line, lead_lines, alone_line, choke_line, listing, refused_line}
+use Rattle.report.specs.declared.put.Text.{Text}
 use Rattle.report.specs.Pre.{Near}
 use Rattle.report.proofs.Digits.{spaced-append, digits_short, digits_short_four}
 
@@ -179,8 +180,8 @@ listing-length most n t leaders choke few narrow =
     picked false k h = omega arith
 
 -- of 16 bits, as the code has n
-pub listing-near : (n t : ℕ) (leaders choke : List ℕ) → n < 65536 → Near 0 (listing n t leaders choke)
-listing-near n t leaders choke few = record { by = omega (arith, listing-length 6 n t leaders choke (omega arith) (λ v l. width_five v)) }
+pub listing-near : (n t : ℕ) (leaders choke : List ℕ) {text : Text} → text.place ≡ 0 → n < 65536 → Near text (listing n t leaders choke)
+listing-near n t leaders choke z few = record { by = omega (arith, listing-length 6 n t leaders choke (omega arith) (λ v l. width_five v)) }
 
 -- of a plant, whose n is at most 1,024
 pub listing_short : (n t : ℕ) (leaders choke : List ℕ) → n ≤ GATEWAYS → length (listing n t leaders choke) ≤ 16437
@@ -190,5 +191,5 @@ pub refused-length : (e : ℕ) → length (refused_line e) ≤ 14
 unfolding refused_line
 refused-length e = omega (arith, line-length word_refused (e ∷ []), one-length e, width_five e)
 
-pub refused-near : (e : ℕ) → Near 0 (refused_line e)
-refused-near e = record { by = omega (arith, refused-length e) }
+pub refused-near : (e : ℕ) {text : Text} → text.place ≡ 0 → Near text (refused_line e)
+refused-near e z = record { by = omega (arith, refused-length e) }

@@ -1,26 +1,23 @@
--- What the writers of a text ask and give. Each writes its text into a lent list from a place on, and hands on the place after it.
-use Rattle.std.specs.Prelude.{ℕ, ◌+◌, ◌≤◌, ◌≡◌, Bool, List, eqb, length}
+-- What the writers of a text ask and give. Each writes its text into a lent list from a place on, and moves the place on.
+use Rattle.std.specs.Prelude.{ℕ, ◌+◌, ◌<◌, ◌≤◌, ◌≡◌, Bool, List, length}
 use Rattle.std.proofs.lemmas.List.Edits.{sets}
-use Rattle.packing.specs.Plant.{at}
-use Rattle.packing.specs.Grouping.{follows, is_alone}
-use Rattle.report.specs.declared.listed.Which.{Which}
-use Rattle.report.specs.declared.listed.Which.TheVariants.{Members, Alone, Choke}
+use Rattle.report.specs.declared.put.Text.{Text}
 
 -- No listing is longer: at most 18 bytes for each of 65,535 gateways, and 55 (proofs/Lengths: listing-near).
 abbrev pub FAR : ℕ
 FAR = 1179685
 
--- the text from a place on ends by FAR, so the code can count its places
-pub record Near (place : ℕ) (text : List ℕ) : Type 0 where
-  pub by : place + length text ≤ FAR
+-- the text from the old place on ends by FAR, so the code can count its places
+pub record Near (old : Text) (text : List ℕ) : Type 0 where
+  pub by : old.place + length text ≤ FAR
 
--- the text stands in the list from a place on, as far as the list goes, and next is the place after it
-pub record Put (text before : List ℕ) (place : ℕ) (after : List ℕ) (next : ℕ) : Type 0 where
-  pub end : next ≡ place + length text
-  pub list : after ≡ sets before place text
+-- the text stands in the list from the old place on, as far as the list goes, and the new place is the one after it
+pub record Put (text : List ℕ) (old new : Text) : Type 0 where
+  pub end : new.place ≡ old.place + length text
+  pub list : new.out.now ≡ sets old.out.now old.place text
+  -- still the same list that was lent
+  pub lent : new.out.ghost_name ≡ old.out.ghost_name
 
--- whether a line lists a gateway
-abbrev pub is_listed : Which → List ℕ → List ℕ → ℕ → Bool
-is_listed (Members u) leaders choke v = follows (at leaders) u v
-is_listed Alone leaders choke v = is_alone (at leaders) v
-is_listed Choke leaders choke v = eqb (at choke v) 1
+-- what a test may answer of each gateway below n is p
+abbrev pub Tells : ℕ → (ℕ → Bool → Type 0) → (ℕ → Bool) → Type 0
+Tells n answers p = (v : ℕ) (b : Bool) → v < n → answers v b → b ≡ p v

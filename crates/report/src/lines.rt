@@ -1,83 +1,72 @@
-// The listing's lines, each written as in put.
+// The listing's lines.
+ghost use Rattle.std.specs.Prelude.{◌≡◌, ℕ, Bool};
 ghost use Rattle.packing.specs.Lists.{list_where};
 ghost use Rattle.report.specs.Text as text;
-ghost use Rattle.report.specs.Pre.{Near, Put, is_listed};
+ghost use Rattle.report.specs.Pre.{Near, Put, Tells};
 
-use crate::listed::{Which, covered, is_listed};
-use crate::put;
+use crate::put::Text;
 
-// The numbers that a line lists.
-fn numbers(
-    which: Which,
-    n: u16,
-    leaders: &[u16],
-    choke: &[u8],
-    out: &mut [u8],
-    place: usize,
-) -> usize
-    requires { Near place (text.spaced (list_where n (is_listed which leaders.now choke.now))) }
-    ensures { Put (text.spaced (list_where n (is_listed which leaders.now choke.now))) out.old place out.new result }
+// The number covered: all but those alone.
+fn covered(n: u16, leaders: &[u16]) -> u16
+    ensures { result ≡ text.covered_count n leaders.now }
 {
-    let mut next = place;
-    let mut v: u16 = 0;
-    while v < n {
-        next = put::listed_if(is_listed(which, leaders, choke, v), v, out, next);
-        v += 1;
+    n - lists::counts::count_of(n, leaders, lists::NONE)
+}
+
+impl<'a> Text<'a> {
+    // The numbers of the gateways that a line lists.
+    fn numbers<F: Fn(u16) -> bool + Drop>(&mut self, n: u16, is_listed: F)
+        requires call { F.IsAlwaysCallable is_listed }
+        requires near { (p : ℕ → Bool) × Tells n (F.post is_listed) p × Near self.old (text.spaced (list_where n p)) }
+        ensures { (p : ℕ → Bool) → Tells n (F.post is_listed) p → Put (text.spaced (list_where n p)) self.old self.new }
+    {
+        for v in 0..n {
+            if is_listed(v) {
+                self.listed(v);
+            }
+        }
     }
-    next
-}
 
-// A word, these numbers, and the line feed. Both lists are passed, and which says which of them is read.
-pub(crate) fn line(
-    word: &[u8],
-    which: Which,
-    n: u16,
-    leaders: &[u16],
-    choke: &[u8],
-    out: &mut [u8],
-    place: usize,
-) -> usize
-    requires { Near place (text.line word.now (list_where n (is_listed which leaders.now choke.now))) }
-    ensures { Put (text.line word.now (list_where n (is_listed which leaders.now choke.now))) out.old place out.new result }
-{
-    let mut next = put::text(word, out, place);
-    next = numbers(which, n, leaders, choke, out, next);
-    put::byte(b'\n', out, next)
-}
-
-// gateways N limit T covered C
-pub(crate) fn one(n: u16, t: u8, leaders: &[u16], out: &mut [u8], place: usize) -> usize
-    requires { Near place (text.line_one n t leaders.now) }
-    ensures { Put (text.line_one n t leaders.now) out.old place out.new result }
-{
-    let mut next = put::field(b"gateways", n, out, place);
-    next = put::field(b" limit", t as u16, out, next);
-    next = put::field(b" covered", covered(n, leaders), out, next);
-    put::byte(b'\n', out, next)
-}
-
-// lead U: members, if u leads
-fn lead(n: u16, leaders: &[u16], choke: &[u8], u: u16, out: &mut [u8], place: usize) -> usize
-    requires { Near place (text.lead_line n leaders.now u) }
-    ensures { Put (text.lead_line n leaders.now u) out.old place out.new result }
-{
-    if lists::entry(leaders, u) != u {
-        return place;
+    // A word, these numbers, and the line feed.
+    pub(crate) fn line<F: Fn(u16) -> bool + Drop>(&mut self, word: &[u8], n: u16, is_listed: F)
+        requires call { F.IsAlwaysCallable is_listed }
+        requires near { (p : ℕ → Bool) × Tells n (F.post is_listed) p × Near self.old (text.line word.now (list_where n p)) }
+        ensures { (p : ℕ → Bool) → Tells n (F.post is_listed) p → Put (text.line word.now (list_where n p)) self.old self.new }
+    {
+        self.bytes(word);
+        self.numbers(n, is_listed);
+        self.byte(b'\n');
     }
-    let next = put::field(b"lead", u, out, place);
-    line(b":", Which::Members(u), n, leaders, choke, out, next)
-}
 
-// a line a group
-pub(crate) fn leads(n: u16, leaders: &[u16], choke: &[u8], out: &mut [u8], place: usize) -> usize
-    requires { Near place (text.lead_lines n n leaders.now) }
-    ensures { Put (text.lead_lines n n leaders.now) out.old place out.new result }
-{
-    let mut next = place;
-    let mut u: u16 = 0;
-    while u < n {
-        next = lead(n, leaders, choke, u, out, next);
-        u += 1;
+    // gateways N limit T covered C
+    pub(crate) fn one(&mut self, n: u16, t: u8, leaders: &[u16])
+        requires { Near self.old (text.line_one n t leaders.now) }
+        ensures { Put (text.line_one n t leaders.now) self.old self.new }
+    {
+        self.field(b"gateways", n);
+        self.field(b" limit", u16::from(t));
+        self.field(b" covered", covered(n, leaders));
+        self.byte(b'\n');
     }
-    next
+
+    // lead U: members, if u leads
+    fn lead(&mut self, n: u16, leaders: &[u16], u: u16)
+        requires { Near self.old (text.lead_line n leaders.now u) }
+        ensures { Put (text.lead_line n leaders.now u) self.old self.new }
+    {
+        if lists::entry(leaders, u) == u {
+            self.field(b"lead", u);
+            self.line(b":", n, |v| lists::tests::is_member(leaders, u, v));
+        }
+    }
+
+    // a line a group
+    pub(crate) fn leads(&mut self, n: u16, leaders: &[u16])
+        requires { Near self.old (text.lead_lines n n leaders.now) }
+        ensures { Put (text.lead_lines n n leaders.now) self.old self.new }
+    {
+        for u in 0..n {
+            self.lead(n, leaders, u);
+        }
+    }
 }

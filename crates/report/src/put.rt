@@ -1,76 +1,58 @@
-// Each writes a text into out from a place on and returns the place after it. What would stand past out's end is left out.
-ghost use Rattle.std.specs.Prelude.{◌+◌, ◌%◌, cond, [], ◌∷◌};
+// A text that is written into a lent list from a place on. Each method writes its part and moves the place on. What would stand past the list's end is left out.
+ghost use Rattle.std.specs.Prelude.{[], ◌∷◌};
 ghost use Rattle.report.specs.Text.{digits, spaced, field};
 ghost use Rattle.report.specs.Pre.{Near, Put};
 
-pub(crate) fn byte(b: u8, out: &mut [u8], place: usize) -> usize
-    requires { Near place (b ∷ []) }
-    ensures { Put (b ∷ []) out.old place out.new result }
-{
-    if out.len() <= place {
-        return place + 1;
+#[derive(Drop)]
+pub(crate) struct Text<'a> {
+    pub(crate) out: &'a mut [u8],
+    pub(crate) place: usize,
+}
+
+impl<'a> Text<'a> {
+    pub(crate) fn byte(&mut self, b: u8)
+        requires { Near self.old (b ∷ []) }
+        ensures { Put (b ∷ []) self.old self.new }
+    {
+        if self.place < self.out.len() {
+            self.out[self.place] = b;
+        }
+        self.place += 1;
     }
-    out[place] = b;
-    place + 1
-}
 
-pub(crate) fn text(text: &[u8], out: &mut [u8], place: usize) -> usize
-    requires { Near place text.now }
-    ensures { Put text.now out.old place out.new result }
-{
-    let mut next = place;
-    let mut i: usize = 0;
-    while i < text.len() {
-        next = byte(text[i], out, next);
-        i += 1;
+    pub(crate) fn bytes(&mut self, bytes: &[u8])
+        requires { Near self.old bytes.now }
+        ensures { Put bytes.now self.old self.new }
+    {
+        for b in bytes {
+            self.byte(*b);
+        }
     }
-    next
-}
 
-fn last_digit(x: u16, out: &mut [u8], place: usize) -> usize
-    requires { Near place ((48 + x % 10) ∷ []) }
-    ensures { Put ((48 + x % 10) ∷ []) out.old place out.new result }
-{
-    byte(b'0' + (x % 10) as u8, out, place)
-}
-
-// A number in decimal: the digits of its tens, then the last.
-fn number(x: u16, out: &mut [u8], place: usize) -> usize
-    requires { Near place (digits x) }
-    ensures { Put (digits x) out.old place out.new result }
-{
-    if x < 10 {
-        return last_digit(x, out, place);
+    // A number in decimal.
+    fn number(&mut self, x: u16)
+        requires { Near self.old (digits x) }
+        ensures { Put (digits x) self.old self.new }
+    {
+        let mut buffer = itoa::Buffer::new();
+        self.bytes(buffer.format(x).as_bytes());
     }
-    let next = number(x / 10, out, place);
-    last_digit(x, out, next)
-}
 
-// A number listed: with one space before it.
-fn listed(x: u16, out: &mut [u8], place: usize) -> usize
-    requires { Near place (spaced (x ∷ [])) }
-    ensures { Put (spaced (x ∷ [])) out.old place out.new result }
-{
-    let next = byte(b' ', out, place);
-    number(x, out, next)
-}
-
-// A number listed if it is wanted.
-pub(crate) fn listed_if(wanted: bool, x: u16, out: &mut [u8], place: usize) -> usize
-    requires { Near place (spaced (cond wanted (x ∷ []) [])) }
-    ensures { Put (spaced (cond wanted (x ∷ []) [])) out.old place out.new result }
-{
-    if wanted {
-        return listed(x, out, place);
+    // A number listed: with one space before it.
+    pub(crate) fn listed(&mut self, x: u16)
+        requires { Near self.old (spaced (x ∷ [])) }
+        ensures { Put (spaced (x ∷ [])) self.old self.new }
+    {
+        self.byte(b' ');
+        self.number(x);
     }
-    place
-}
 
-// A word, and a number listed after it.
-pub(crate) fn field(word: &[u8], x: u16, out: &mut [u8], place: usize) -> usize
-    requires { Near place (field word.now x) }
-    ensures { Put (field word.now x) out.old place out.new result }
-{
-    let next = text(word, out, place);
-    listed(x, out, next)
+    // A word, and a number listed after it.
+    pub(crate) fn field(&mut self, word: &[u8], x: u16)
+        requires { Near self.old (field word.now x) }
+        ensures { Put (field word.now x) self.old self.new }
+    {
+        self.bytes(word);
+        self.listed(x);
+    }
 }
