@@ -4,7 +4,7 @@ use Rattle.packing.specs.Plant.{NONE, GATEWAYS, at, linked, neighbours}
 use Rattle.packing.specs.Lists.{member_of}
 use Rattle.packing.proofs.Links.{neighbours-linked, linked_sym}
 use Rattle.chains.specs.Index.{root_of, Index}
-use Rattle.chains.proofs.Following.{Standing, chain_first, chain_next, chain-end, chain_there, chain-places}
+use Rattle.chains.proofs.Following.{Standing, chain_first, chain_next, chain-end, chain_there}
 
 -- the loop's invariant: y is among x's neighbours by the links from the end at place e on, or x and y are not linked
 pub record Sought (ls : List ℕ) (x y e : ℕ) : Type 0 where
@@ -18,9 +18,6 @@ module _ (ls next : List ℕ) (x y : ℕ) (d : Index ls next) (below : x < GATEW
       rw q (record { rest = ap (λ (l : List ℕ). member_of l y) (sym rest) ∙ neighbours-linked ls x y; stands = stands })
 
   module _ {e : ℕ} (s : Sought ls x y e) (there : e ≡ NONE → ⊥) where
-    pub sought_places : (e < length ls) × (e < length next)
-    sought_places = chain-places d below s.stands there
-
     next_one : (neighbours (drop (2 * (e / 2)) ls) x ≡ at ls e ∷ neighbours (drop (2 * (at next e / 2)) ls) x) × Standing ls x (at next e) × (e < at next e)
     next_one = chain_next d below (chain_there d below s.stands there)
 
@@ -35,9 +32,6 @@ module _ (ls next : List ℕ) (x y : ℕ) (d : Index ls next) (below : x < GATEW
     module _ {z j : ℕ} (q : z ≡ at ls e) (f : z ≡ y → ⊥) (on : j ≡ at next e) where
       pub sought_turn : Sought ls x y j
       sought_turn = rw on (record { rest = rw (ne_eqb (at ls e) y (λ r. f (q ∙ r))) at here; stands = next_one.1 })
-
-      pub sought_less : j ≤ NONE → NONE - j < NONE - e
-      sought_less few = omega (arith, next_one.2, on, few)
 
   pub sought_end : {e : ℕ} → Sought ls x y e → e ≡ NONE → false ≡ linked ls x y
   unfolding member_of

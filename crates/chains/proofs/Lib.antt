@@ -4,3 +4,4 @@ pub mod Hanging
 pub mod BuiltIndex
 pub mod LinkMore
 pub mod Finding
+pub mod Along

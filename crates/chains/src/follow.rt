@@ -3,18 +3,18 @@ ghost use Rattle.std.specs.Prelude.{◌≡◌, ◌<◌, ◌⊎◌, length};
 ghost use Rattle.packing.specs.Plant.{GATEWAYS, linked};
 ghost use Rattle.chains.specs.Index.{Index};
 
+use crate::chain::Chain;
+
 // Whether x and y are linked, by the chain of x.
 fn is_there(links: &[u16], next: &[u16], x: u16, y: u16) -> bool
     requires { Index links.now next.now × (x < GATEWAYS) }
     ensures { result ≡ linked links.now x y }
 {
-    let mut e = crate::first_end(next, x);
-    // along the chain: no index is counted
-    while e != lists::NONE {
-        if crate::neighbour_at(links, e) == y {
+    let end = crate::first_end(next, x);
+    for u in (Chain { links, next, end }) {
+        if u == y {
             return true;
         }
-        e = crate::next_end(next, e);
     }
     false
 }

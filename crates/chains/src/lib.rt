@@ -2,6 +2,7 @@
 #![tactic(auto)]
 
 pub mod build;
+pub mod chain;
 pub mod follow;
 
 ghost use Rattle.std.specs.Prelude.{◌≡◌, ◌<◌, ◌≤◌, length};

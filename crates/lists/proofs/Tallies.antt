@@ -2,7 +2,7 @@
 use Prim.Native.Nat.{ℕ, ◌+◌, ◌<◌, ◌≤◌}
 use mathlib.Core.Path.{◌≡◌, sym, ap, ◌∙◌}
 use mathlib.Core.List.{List}
-use native.Mathlib.Nat.{add-zero, le_antisymm}
+use native.Mathlib.Nat.{add-zero}
 use native.Mathlib.Numerals.{add-one}
 use native.Mathlib.Omega.{arith}
 use lib.Dec.{eqb, ltb}
@@ -64,6 +64,3 @@ module _ (n : ℕ) (l : List ℕ) where
 
   pub counted-turn : {counts counts' : List ℕ} {i x k : ℕ} → Counted n l counts i → i < n → x ≡ at l i → k ≡ at counts x → counts' ≡ set counts x (k + 1) → Counted n l counts' (i + 1)
   counted-turn {i = i} c h f g e = record { upto = omega arith; is = e ∙ rw (g, c.is, f) (tally_suc l i) }
-
-  pub counted-end : {counts : List ℕ} {i : ℕ} → Counted n l counts i → n ≤ i → counts ≡ tally_of n l
-  counted-end {i = i} c h = c.is ∙ ap (λ (m : ℕ). tally_of m l) (le_antisymm c.upto h)

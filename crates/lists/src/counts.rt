@@ -8,7 +8,7 @@ ghost use Rattle.packing.specs.Grouping.{member_count};
 use crate::tests::is_member;
 use crate::{PLACES, entry, put};
 
-// How many numbers below n pass a test.
+// How many numbers below n pass a test. A loop: filter and count took a third more time.
 pub fn count_where<F: Fn(u16) -> bool>(n: u16, test: F) -> u16
     requires { F.IsAlwaysCallable test }
     ensures { (p : ℕ → Bool) → ((v : ℕ) (b : Bool) → v < n → F.post test v b → b ≡ p v) → result ≡ count n p }
@@ -48,8 +48,8 @@ pub fn tally(n: u16, list: &[u16]) -> [u16; PLACES]
     counts
 }
 
-#[tactic(auto, unfolding(packing::specs::Grouping::member_count))]
 // How many others than u have u's number as their entry.
+#[tactic(auto, unfolding(packing::specs::Grouping::member_count))]
 pub fn member_count(n: u16, list: &[u16], u: u16) -> u16
     ensures { result ≡ member_count n (at list.now) u }
 {

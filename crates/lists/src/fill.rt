@@ -1,4 +1,5 @@
 // Writes the front of a lent list, and nothing past it.
+// The loops here and in the crates above write by index: over list[..n].iter_mut().enumerate() they would say the same in more words, since the value goes by the index.
 ghost use Rattle.std.specs.Prelude.{◌≡◌, ◌≤◌, ◌++◌, drop, length, replicate};
 ghost use Rattle.packing.specs.Plant.{GATEWAYS};
 ghost use Rattle.packing.specs.Lists.{written};
@@ -24,8 +25,8 @@ pub fn with_value<T: Copy>(n: usize, value: T, list: &mut [T])
     }
 }
 
-#[tactic(auto, unfolding(packing::specs::Lists::written))]
 // another list's numbers
+#[tactic(auto, unfolding(packing::specs::Lists::written))]
 pub fn with_list(numbers: &[u16], list: &mut [u16])
     requires { length numbers.now ≤ length list.old }
     ensures { list.new ≡ written (length numbers.now) numbers.now list.old }

@@ -1,8 +1,9 @@
-// Functions on lists of numbers by gateway. What is past a list's end counts as 0, and what has no place is not written; only those of module fill ask for room, counts::tally_into for zeros, and counts::count_where for a test that may be called.
+// Functions on lists of numbers by gateway. What is past a list's end counts as 0, and what has no place is not written; only those of modules fill and listed ask for room, counts::tally_into for zeros, and counts::count_where and listed::write_them for a test that may be called.
 #![tactic(auto)]
 
 pub mod counts;
 pub mod fill;
+pub mod listed;
 pub mod marks;
 pub mod tests;
 
@@ -18,6 +19,7 @@ pub const LOWEST: u8 = 2;
 
 pub const HIGHEST: u8 = 16;
 
+// A number and no Option: it is 01's for the record's holders, of which every theorem speaks, and 02's for rows (change 3, "then 65535"). Marks and chains are fixed lists of numbers too: lists of Options would be twice as long, since an Option<u16> takes four bytes.
 pub const NONE: u16 = 65535;
 
 // The lengths of lists with a place for each gateway, and with two places for each link.
@@ -32,7 +34,7 @@ pub fn entry(list: &[u16], i: u16) -> u16
     list.get(i as usize).copied().unwrap_or(0)
 }
 
-// The byte at i, and 0 past the end. One generic word for both would be this library chain again.
+// The byte at i, and 0 past the end. entry and byte differ in the type of the entry and of the place: one word for both would have to be called with a cast of the place at each of entry's forty calls.
 pub fn byte(list: &[u8], i: usize) -> u8
     ensures { result ≡ at list.now i }
 {

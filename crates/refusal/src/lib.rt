@@ -9,48 +9,48 @@ use std::fmt;
 
 #[derive(Clone, Copy, Debug, PartialEq, Eq, Hash)]
 pub enum Refusal {
-    /// 1: n above 1,024
-    TooManyGateways,
-    /// 2: T below 2 or above 16
-    LimitOutOfRange,
-    /// 3: a link end not below n
-    EndOutOfRange,
-    /// 4: both ends equal
-    EndsEqual,
-    /// 5: a new order not n numbers long
-    WrongOrderLength,
-    /// 6: an order that repeats a number or has one not below n
-    NotAnOrder,
-    /// 7: the file doesn't begin with PLT
-    NotAPlantFile,
-    /// 8: the file's version is neither 1 nor 2
-    UnknownVersion,
-    /// 9: the file has fewer than 10 bytes, or not the length its header gives
-    WrongFileLength,
-    /// 10: a lent list too short
-    ListTooShort,
-    /// 11: the number is outside the leader list, doesn't lead itself there, or has no members
-    NotALeader,
-    /// 12: the file's m is above 8,192
-    TooManyLinks,
-    /// 20: the link is there already
-    AlreadyLinked,
-    /// 21: m is 8,192, or the lent link list has no place for two more numbers
-    NoPlaceForLink,
-    /// 22: a link, an order or a limit after the first placing
-    AfterFirstPlacing,
-    /// 24: place when k = n
-    AllPlaced,
-    /// 26: the record is not sound
-    NotSound,
-    /// 30: the gateway is out of range, unplaced or kept
-    OutOfRangeUnplacedOrKept,
-    /// 31: a leader list under n entries or not a packing
-    NotAGrouping,
-    /// 32: a choke list under n bytes, a byte above 1, or a difference that is off
-    NotTheDifference,
-    /// 33: a limit that is none of 2 to 16, in a file a limit byte of 1 or above 16
-    LimitNotAllowed,
+    /// n above 1,024
+    TooManyGateways = 1,
+    /// T below 2 or above 16
+    LimitOutOfRange = 2,
+    /// a link end not below n
+    EndOutOfRange = 3,
+    /// both ends equal
+    EndsEqual = 4,
+    /// a new order not n numbers long
+    WrongOrderLength = 5,
+    /// an order that repeats a number or has one not below n
+    NotAnOrder = 6,
+    /// the file doesn't begin with PLT
+    NotAPlantFile = 7,
+    /// the file's version is neither 1 nor 2
+    UnknownVersion = 8,
+    /// the file has fewer than 10 bytes, or not the length its header gives
+    WrongFileLength = 9,
+    /// a lent list too short
+    ListTooShort = 10,
+    /// the number is outside the leader list, doesn't lead itself there, or has no members
+    NotALeader = 11,
+    /// the file's m is above 8,192
+    TooManyLinks = 12,
+    /// the link is there already
+    AlreadyLinked = 20,
+    /// m is 8,192, or the lent link list has no place for two more numbers
+    NoPlaceForLink = 21,
+    /// a link, an order or a limit after the first placing
+    AfterFirstPlacing = 22,
+    /// place when k = n
+    AllPlaced = 24,
+    /// the record is not sound
+    NotSound = 26,
+    /// the gateway is out of range, unplaced or kept
+    OutOfRangeUnplacedOrKept = 30,
+    /// a leader list under n entries or not a packing
+    NotAGrouping = 31,
+    /// a choke list under n bytes, a byte above 1, or a difference that is off
+    NotTheDifference = 32,
+    /// a limit that is none of 2 to 16, in a file a limit byte of 1 or above 16
+    LimitNotAllowed = 33,
 }
 
 impl Refusal {
@@ -58,29 +58,7 @@ impl Refusal {
     pub fn number(self) -> u32
         ensures { result ≡ number self }
     {
-        match self {
-            Refusal::TooManyGateways => 1,
-            Refusal::LimitOutOfRange => 2,
-            Refusal::EndOutOfRange => 3,
-            Refusal::EndsEqual => 4,
-            Refusal::WrongOrderLength => 5,
-            Refusal::NotAnOrder => 6,
-            Refusal::NotAPlantFile => 7,
-            Refusal::UnknownVersion => 8,
-            Refusal::WrongFileLength => 9,
-            Refusal::ListTooShort => 10,
-            Refusal::NotALeader => 11,
-            Refusal::TooManyLinks => 12,
-            Refusal::AlreadyLinked => 20,
-            Refusal::NoPlaceForLink => 21,
-            Refusal::AfterFirstPlacing => 22,
-            Refusal::AllPlaced => 24,
-            Refusal::NotSound => 26,
-            Refusal::OutOfRangeUnplacedOrKept => 30,
-            Refusal::NotAGrouping => 31,
-            Refusal::NotTheDifference => 32,
-            Refusal::LimitNotAllowed => 33,
-        }
+        self as u32
     }
 }
 

@@ -14,8 +14,8 @@ fn is_within(n: u16, holders: &[u16]) -> bool
     holders_within(n, &[lists::HIGHEST; lists::PLACES], holders)
 }
 
-#[tactic(auto, unfolding(crate::specs::Searchable::searchable))]
 // Any number, and a list of any length and contents.
+#[tactic(auto, unfolding(crate::specs::Searchable::searchable))]
 pub fn is_searchable(n: u16, holders: &[u16]) -> bool
     ensures { result ≡ searchable n holders.now }
 {

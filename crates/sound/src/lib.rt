@@ -11,24 +11,24 @@ ghost use Rattle.packing.specs.Lists.{fits};
 ghost use Rattle.packing.specs.Plant.{GATEWAYS, at, first_links};
 ghost use Rattle.sound.specs.Sound.{is_sound, is_order, is_limit, numbers_sound, lists_long, limits_sound, ends_sound, once_each, holders_linked, holders_within, only_placed_held};
 
-#[tactic(auto, unfolding(crate::specs::Sound::is_limit))]
 // Whether a gateway may have this limit.
+#[tactic(auto, unfolding(crate::specs::Sound::is_limit))]
 pub fn is_limit(limit: u8) -> bool
     ensures { result ≡ is_limit limit }
 {
     lists::LOWEST <= limit && limit <= lists::HIGHEST
 }
 
-#[tactic(auto, unfolding(packing::specs::Lists::fits))]
 // Whether n is in range, and n entries are lent in a list that is read by gateway and in one that is written.
+#[tactic(auto, unfolding(packing::specs::Lists::fits))]
 pub fn is_fitting(n: u16, read: usize, out: usize) -> bool
     ensures { result ≡ fits n read out }
 {
     n <= lists::GATEWAYS && n as usize <= read && n as usize <= out
 }
 
-#[tactic(auto, unfolding(crate::specs::Sound::is_order))]
 // Whether a list may be an order of n gateways. Any number, and a list of any length and contents.
+#[tactic(auto, unfolding(crate::specs::Sound::is_order))]
 pub fn is_order(n: u16, numbers: &[u16]) -> bool
     ensures { result ≡ is_order n numbers.now }
 {

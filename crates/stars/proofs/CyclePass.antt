@@ -1,6 +1,6 @@
 -- The pass over the cycles: the first met of a cycle is the lowest number on it, and once the cycle is read all on it have their leader.
 use Prim.Native.Nat.{ℕ, suc, ◌+◌, ◌-◌, ◌<◌, ◌≤◌}
-use mathlib.Core.Path.{◌≡◌, sym, ap, ◌∙◌}
+use mathlib.Core.Path.{◌≡◌, refl, sym, ap, ◌∙◌}
 use mathlib.Core.Logic.{⊎_elim}
 use mathlib.Core.Bool.{true, false, cond}
 use mathlib.Core.List.{List}
@@ -12,16 +12,23 @@ use lib.Seq.{get_or-set_same, get_or-set_other}
 use borrow.Author.Tests.{eqb-true, eqb-false, ltb-true, ltb-false, not-true}
 use Rattle.packing.specs.Plant.{NONE, at}
 use Rattle.packing.proofs.Tests.{by_bool, below_suc, clash, not_test}
-use Rattle.stars.specs.Stars.{back, on_cycle, leads_in_trees, begins, cut, leads}
-use Rattle.stars.specs.Pre.{Treed, Unmet, Rounded, Broken, Led, Reading, goes_with, marked}
+use Rattle.stars.specs.Stars.{back, on_cycle, next_on_cycle, leads_in_trees, begins, cut, leads}
+use Rattle.stars.specs.Pre.{SameRounds, Treed, Unmet, Rounded, Broken, Led, Reading, goes_with, marked}
 use Rattle.stars.specs.declared.rounds.Round.{Round}
+use Rattle.stars.specs.declared.rounds.Rounds.{Rounds}
 use Rattle.stars.proofs.Tables.{Refilled}
 use Rattle.stars.proofs.Cycles.{back_add, round-back, cycle_below, cycle_back, cycle_return}
 use Rattle.stars.proofs.Leads.{Begins, begins_means, begins-is, cut-leads, cut-begins, cut_cycle, leads_tree}
 use Rattle.stars.proofs.Groups.{cut_starts}
 
-pub reading_start : {n : ℕ} {hs ds ls xs : List ℕ} → Treed n hs ds ls → Refilled n NONE xs → Reading n hs 0 ds ls xs
-reading_start {n} {hs} {ds} {ls} h e =
+pub same_rounds : {a : Rounds} → SameRounds a a
+same_rounds = record { n = refl; holders = refl; read = refl; leading = refl; nexts = refl }
+
+pub rounds_then : {a b c : Rounds} → SameRounds a b → SameRounds b c → SameRounds a c
+rounds_then p q = record { n = q.n ∙ p.n; holders = q.holders ∙ p.holders; read = q.read ∙ p.read; leading = q.leading ∙ p.leading; nexts = q.nexts ∙ p.nexts }
+
+pub reading_start : {a : Rounds} → Treed a.n a.holders.now a.read.now a.leading.now → Refilled a.n NONE a.nexts.now → Reading a 0
+reading_start {a} h e =
     record {
       few = h.few;
       upto = omega arith;
@@ -31,33 +38,31 @@ reading_start {n} {hs} {ds} {ls} h e =
       trees = λ x l off. h.trees x l ∙ rw off;
       met = λ x l. absurd (omega arith);
       whole = λ x l on t. clash _ t (h.trees x l ∙ rw on);
-      leading = λ x l. h.leading x l ∙ by_bool (on_cycle n hs x) (λ on. rw (h.trees x l, on)) (λ off. rw (h.trees x l, off) (sym (leads_tree n hs (omega (arith, h.few)) x off)));
-      next = λ x l t quiet. e.each x l ∙ rw (cut_cycle n hs x (off_cycle x l t));
+      leading = λ x l. h.leading x l ∙ by_bool (on_cycle a.n a.holders.now x) (λ on. rw (h.trees x l, on)) (λ off. rw (h.trees x l, off) (sym (leads_tree a.n a.holders.now (omega (arith, h.few)) x off)));
+      next = λ x l t quiet. e.each x l ∙ rw (cut_cycle a.n a.holders.now x (off_cycle x l t));
       blank = λ x l t. e.each x l;
     }
   where
-    off_cycle : (x : ℕ) → x < n → marked ds x ≡ true → on_cycle n hs x ≡ false
-    off_cycle x l t = not-true (on_cycle n hs x) (sym (h.trees x l) ∙ t)
-
--- one that is marked is passed by
-pub reading_on : {n : ℕ} {hs : List ℕ} {v : ℕ} {ds ls xs : List ℕ} → Reading n hs v ds ls xs → v < n → marked ds v ≡ true → Reading n hs (v + 1) ds ls xs
-reading_on {v = v} r l t =
-    record {
-      few = r.few;
-      upto = omega arith;
-      read-long = r.read-long;
-      leading-long = r.leading-long;
-      next-long = r.next-long;
-      trees = r.trees;
-      met = λ x k. below_suc x v (rw add-one at k) (λ q. rw q t) (r.met x);
-      whole = r.whole;
-      leading = r.leading;
-      next = r.next;
-      blank = r.blank;
-    }
+    off_cycle : (x : ℕ) → x < a.n → marked a.read.now x ≡ true → on_cycle a.n a.holders.now x ≡ false
+    off_cycle x l t = not-true (on_cycle a.n a.holders.now x) (sym (h.trees x l) ∙ t)
 
 -- v is not marked: its cycle is not read
-module _ {n : ℕ} {hs : List ℕ} {v : ℕ} {ds ls xs : List ℕ} (r : Reading n hs v ds ls xs) (l : v < n) (f : marked ds v ≡ false) where
+module _ {a : Rounds} {v : ℕ} (r : Reading a v) (l : v < a.n) (f : marked a.read.now v ≡ false) where
+  abbrev n : ℕ
+  n = a.n
+
+  abbrev hs : List ℕ
+  hs = a.holders.now
+
+  abbrev ds : List ℕ
+  ds = a.read.now
+
+  abbrev ls : List ℕ
+  ls = a.leading.now
+
+  abbrev xs : List ℕ
+  xs = a.nexts.now
+
   few : n ≤ NONE
   few = omega (arith, r.few)
 
@@ -70,7 +75,7 @@ module _ {n : ℕ} {hs : List ℕ} {v : ℕ} {ds ls xs : List ℕ} (r : Reading 
   unread : (j : ℕ) → marked ds (back n hs j v) ≡ false
   unread j = not_test (marked ds (back n hs j v)) (λ t. let (m, e) = cycle_return n hs v on j in clash _ (rw e at (r.whole (back n hs j v) (inside j) (cycle_back n hs v on j) t m)) f)
 
-  pub reading_unmet : Unmet n hs ds v
+  pub reading_unmet : Unmet a v
   reading_unmet = record { few = r.few; long = r.read-long; below = l; on = on; none = unread }
 
   -- it is the lowest on its cycle
@@ -80,7 +85,10 @@ module _ {n : ℕ} {hs : List ℕ} {v : ℕ} {ds ls xs : List ℕ} (r : Reading 
   in_trees : (j : ℕ) → marked ls (back n hs j v) ≡ leads_in_trees n hs (back n hs j v)
   in_trees j = r.leading (back n hs j v) (inside j) ∙ rw (unread j)
 
-  module _ {es : List ℕ} {c : Round} (g : Rounded n hs ls ds es v c) where
+  module _ {a' : Rounds} {c : Round} (g : Rounded a a' v c) where
+    abbrev es : List ℕ
+    es = a'.read.now
+
     abbrev s : ℕ
     s = c.start
 
@@ -115,24 +123,39 @@ module _ {n : ℕ} {hs : List ℕ} {v : ℕ} {ds ls xs : List ℕ} (r : Reading 
         ⊎_elim (λ q. clash _ (start-leads q) (rw e at (b.none m)))
         (λ (q, none). omega (arith, q, rw e at (b.low m), lowest j, ap (back n hs j) q)) g.start
 
-    pub reading_broken : Broken n hs ls c.start c.arcs
+    pub reading_broken : Broken a' c
     reading_broken =
         record {
-          few = r.few;
-          long = r.leading-long;
-          below = start-inside;
-          on = start-on;
+          few = rw g.same.n r.few;
+          long = rw g.leading r.leading-long;
+          below = rw g.same.n start-inside;
+          on = rw (g.same.n, g.same.holders) start-on;
           some = g.some;
-          round = rw (whole, g.on.1) at (round-back n hs v (c.arcs - 1) (rw whole g.round) g.on.0);
-          stops = start-cut;
-          only = start-only;
-          trees = start-trees;
+          round = rw (g.same.n, g.same.holders) (rw (whole, g.on.1) at (round-back n hs v (c.arcs - 1) (rw whole g.round) g.on.0));
+          stops = rw (g.same.n, g.same.holders) start-cut;
+          only = rw (g.same.n, g.same.holders) start-only;
+          trees = rw (g.same.n, g.same.holders, g.leading) start-trees;
         }
       where
         whole : suc (c.arcs - 1) ≡ c.arcs
         whole = omega (arith, g.some)
 
-    module _ {ms ys : List ℕ} {next : ℕ} (b : Led n hs ls ms c.start next) (e : ys ≡ set xs c.start next) where
+    module _ {z : Rounds} {next : ℕ} (b : Led a' z c.start next) where
+      abbrev ms : List ℕ
+      ms = z.leading.now
+
+      abbrev ys : List ℕ
+      ys = set xs s next
+
+      led_leading : (j : ℕ) → marked ms (back n hs j s) ≡ leads n hs (back n hs j s)
+      led_leading = rw (g.same.n, g.same.holders) at b.leading
+
+      led_others : (x : ℕ) → ((j : ℕ) → back n hs j s ≡ x → ⊥) → marked ms x ≡ marked ls x
+      led_others = rw (g.same.n, g.same.holders, g.leading) at b.others
+
+      led_next : next ≡ next_on_cycle n hs s
+      led_next = rw (g.same.n, g.same.holders) at b.next
+
       -- v's cycle, as seen from its start
       on-round : (j : ℕ) → (k : ℕ) × (back n hs k s ≡ back n hs j v)
       on-round j = let (m, q) = cycle_return n hs v on g.on.0 in (j + m, back_add n hs j m s ∙ ap (back n hs j) (rw g.on.1 at q))
@@ -156,12 +179,12 @@ module _ {n : ℕ} {hs : List ℕ} {v : ℕ} {ds ls xs : List ℕ} (r : Reading 
 
       next_other : (x : ℕ) → ((j : ℕ) → back n hs j s ≡ x → ⊥) → at ys x ≡ at xs x
       unfolding back
-      next_other x away = rw e (get_or-set_other xs s x next 0 (λ q. away 0 (sym q)))
+      next_other x away = get_or-set_other xs s x next 0 (λ q. away 0 (sym q))
 
       lead-all : (x : ℕ) → x < n → marked ms x ≡ cond (marked es x) (leads n hs x) (leads_in_trees n hs x)
       lead-all x k =
-          parts x (λ t away. b.others x away ∙ r.leading x k ∙ rw (t, g.keeps x t)) (λ w t away. b.others x away ∙ r.leading x k ∙ rw (t, w))
-          (λ j q. rw (← q, now_read j) (b.leading j))
+          parts x (λ t away. led_others x away ∙ r.leading x k ∙ rw (t, g.keeps x t)) (λ w t away. led_others x away ∙ r.leading x k ∙ rw (t, w))
+          (λ j q. rw (← q, now_read j) (led_leading j))
 
       next-all : (x : ℕ) → x < n → leads n hs x ≡ false → marked es x ≡ true → at ys x ≡ goes_with n hs x
       next-all x k quiet t =
@@ -169,25 +192,40 @@ module _ {n : ℕ} {hs : List ℕ} {v : ℕ} {ds ls xs : List ℕ} (r : Reading 
           (λ j q. by_bool (eqb x s) (λ w. start (eqb-true x s w)) (λ w. other j q (eqb-false x s w)))
         where
           start : x ≡ s → at ys x ≡ goes_with n hs x
-          start w = rw (w, e, start-cut) (get_or-set_same xs s next 0 (omega (arith, start-inside, r.few, r.next-long)) ∙ b.next)
+          start w = rw (w, start-cut) (get_or-set_same xs s next 0 (omega (arith, start-inside, r.few, r.next-long)) ∙ led_next)
 
           other : (j : ℕ) → back n hs j s ≡ x → (x ≡ s → ⊥) → at ys x ≡ goes_with n hs x
           other j q apart =
               let kept : cut n hs x ≡ false = not_test (cut n hs x) (λ t. apart (sym q ∙ start-only j (rw q (begins-is n hs (cut_starts n hs few x k quiet t))))) in
-              rw (e, kept) (get_or-set_other xs s x next 0 apart ∙ r.blank x k (rw q at (not-read j)))
+              rw kept (get_or-set_other xs s x next 0 apart ∙ r.blank x k (rw q at (not-read j)))
 
-      pub reading_turn : Reading n hs (v + 1) es ms ys
-      reading_turn =
+      pub reading_turn : {y : Rounds} → SameRounds z y → y.read.now ≡ z.read.now → y.leading.now ≡ ms → y.nexts.now ≡ set z.nexts.now s next → Reading y (v + 1)
+      reading_turn {y} same read leading nexts =
           record {
-            few = r.few;
-            upto = omega arith;
-            read-long = g.long;
-            leading-long = b.long;
-            next-long = rw e (r.next-long ∙ sym (length-set xs c.start next));
-            trees = λ x k off. g.keeps x (r.trees x k off);
-            met = λ x k. below_suc x v (rw add-one at k) (λ q. rw q first_read) (λ q. g.keeps x (r.met x q));
-            whole = λ x k o t j. by_bool (marked ds x) (λ w. g.keeps _ (r.whole x k o w j)) (λ w. let (i, q) = g.only x t w in rw (← q, ← back_add n hs j i v) (g.marks (j + i)));
-            leading = lead-all;
-            next = λ x k t quiet. next-all x k quiet t;
-            blank = λ x k t. parts x (λ w away. clash _ (g.keeps x w) t) (λ _ w away. next_other x away ∙ r.blank x k w) (λ j q. clash _ (rw q at (now_read j)) t);
+            few = rw n-is r.few;
+            upto = rw n-is (omega arith);
+            read-long = rw (n-is, read-is) g.long;
+            leading-long = rw leading b.long;
+            next-long = rw nexts-are (r.next-long ∙ sym (length-set xs s next));
+            trees = rw (n-is, holders-are, read-is) (λ x k off. g.keeps x (r.trees x k off));
+            met = rw read-is (λ x k. below_suc x v (rw add-one at k) (λ q. rw q first_read) (λ q. g.keeps x (r.met x q)));
+            whole = rw (n-is, holders-are, read-is) (λ x k o t j. by_bool (marked ds x) (λ w. g.keeps _ (r.whole x k o w j)) (λ w. let (i, q) = g.only x t w in rw (← q, ← back_add n hs j i v) (g.marks (j + i))));
+            leading = rw (n-is, holders-are, read-is, leading) lead-all;
+            next = rw (n-is, holders-are, read-is, nexts-are) (λ x k t quiet. next-all x k quiet t);
+            blank = rw (n-is, read-is, nexts-are) (λ x k t. parts x (λ w away. clash _ (g.keeps x w) t) (λ _ w away. next_other x away ∙ r.blank x k w) (λ j q. clash _ (rw q at (now_read j)) t));
           }
+        where
+          whole-way : SameRounds a y
+          whole-way = rounds_then g.same (rounds_then b.same same)
+
+          n-is : y.n ≡ n
+          n-is = whole-way.n
+
+          holders-are : y.holders.now ≡ hs
+          holders-are = whole-way.holders
+
+          read-is : y.read.now ≡ es
+          read-is = read ∙ b.read
+
+          nexts-are : y.nexts.now ≡ ys
+          nexts-are = nexts ∙ rw (b.nexts ∙ g.nexts)

@@ -14,7 +14,8 @@ use Rattle.packing.specs.Plant.{at}
 use Rattle.packing.proofs.Tests.{by_bool, below_suc, clash}
 use Rattle.packing.proofs.Sums.{count_bound}
 use Rattle.stars.specs.Stars.{holder, back}
-use Rattle.stars.specs.Pre.{Unmet, Rounded, marked}
+use Rattle.stars.specs.Pre.{SameRounds, Unmet, Rounded, marked}
+use Rattle.stars.specs.declared.rounds.Rounds.{Rounds}
 use Rattle.stars.proofs.Tables.{mark-here, mark_other, mark-keeps}
 use Rattle.stars.proofs.Cycles.{holder-at, back_gap, round-back, round-met, cycle_below, cycle_return}
 use Rattle.stars.proofs.Without.{unmarked_less}
@@ -36,7 +37,19 @@ pub record Rounding (n : ℕ) (hs ls ds : List ℕ) (v : ℕ) (es : List ℕ) (s
   pub on : (j : ℕ) × (back n hs j v ≡ start)
   pub found : (marked ls start ≡ true) ⊎ ((start ≡ v) × ((j : ℕ) → j < i → marked ls (back n hs j v) ≡ false))
 
-module _ {n : ℕ} {hs ds : List ℕ} {v : ℕ} (ls : List ℕ) (m : Unmet n hs ds v) where
+module _ {a : Rounds} {v : ℕ} (m : Unmet a v) where
+  abbrev n : ℕ
+  n = a.n
+
+  abbrev hs : List ℕ
+  hs = a.holders.now
+
+  abbrev ds : List ℕ
+  ds = a.read.now
+
+  abbrev ls : List ℕ
+  ls = a.leading.now
+
   pub rounding_start : Rounding n hs ls ds v ds v 0 v
   unfolding back
   rounding_start =
@@ -104,8 +117,8 @@ module _ {n : ℕ} {hs ds : List ℕ} {v : ℕ} (ls : List ℕ) (m : Unmet n hs 
               (λ q. let (j, l, w) = r.only x (sym (other x (eqb-false x u q)) ∙ s) o in (j, omega arith, w))
 
     -- u is marked: the loop has come to v again
-    pub rounding_end : not b ≡ false → Rounded n hs ls ds es v record { start = start; arcs = i }
-    rounding_end t =
+    pub rounding_end : not b ≡ false → {z : Rounds} → SameRounds a z → z.leading.now ≡ ls → z.nexts.now ≡ a.nexts.now → es ≡ z.read.now → Rounded a z v record { start = start; arcs = i }
+    rounding_end t same leading nexts read =
         let (j, l, w) = r.only u (sym e ∙ not-false b t) (rw r.here (m.none i)) in
         let gap : back n hs (suc (i - suc j)) (back n hs j v) ≡ back n hs j v = back_gap n hs j i v l (w ∙ r.here) in
         let (d, q) = cycle_return n hs v m.on j in
@@ -113,14 +126,17 @@ module _ {n : ℕ} {hs ds : List ℕ} {v : ℕ} (ls : List ℕ) (m : Unmet n hs 
         let first : j ≡ 0 = by_bool (ltb 0 j) (λ s. absurd (r.fresh (suc (i - suc j)) (omega arith) (omega (arith, ltb-true 0 j s)) whole)) (λ s. omega (arith, ltb-false 0 j s)) in
         let arcs : suc (i - suc j) ≡ i = omega arith in
         let round : back n hs i v ≡ v = rw arcs at whole in
-        let met : (k : ℕ) → (c : ℕ) × (c < i) × (back n hs k v ≡ back n hs c v) = λ k. let (c, a, q) = round-met n hs v (i - suc j) whole k in (c, omega arith, q) in
+        let met : (k : ℕ) → (c : ℕ) × (c < i) × (back n hs k v ≡ back n hs c v) = λ k. let (c, l, q) = round-met n hs v (i - suc j) whole k in (c, omega arith, q) in
         record {
-          long = r.long;
-          keeps = r.keeps;
-          marks = λ k. let (c, a, q) = met k in rw q (r.marks c a);
-          only = λ x s o. let (k, _, q) = r.only x s o in (k, q);
+          same = same;
+          leading = leading;
+          nexts = nexts;
+          long = rw (← read) r.long;
+          keeps = λ x s. rw (← read) (r.keeps x s);
+          marks = λ k. let (c, l, q) = met k in rw (← read, q) (r.marks c l);
+          only = λ x s o. let (k, _, q) = r.only x (rw (← read) at s) o in (k, q);
           some = omega arith;
           round = round;
           on = r.on;
-          start = ⊎_elim inl (λ (s, none). inr (s, λ k. let (c, a, q) = met k in rw q (none c a))) r.found;
+          start = ⊎_elim inl (λ (s, none). inr (s, λ k. let (c, l, q) = met k in rw q (none c l))) r.found;
         }

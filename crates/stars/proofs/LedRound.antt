@@ -10,7 +10,9 @@ use borrow.Author.Tests.{eqb-true, eqb-false, not-true}
 use Rattle.packing.specs.Plant.{GATEWAYS, NONE, at}
 use Rattle.packing.proofs.Tests.{by_bool, below_suc, clash, and_l, and_r, or_false_l, or_false_r, not_test, iff_test}
 use Rattle.stars.specs.Stars.{back, on_cycle, leads_in_trees, cut, leads}
-use Rattle.stars.specs.Pre.{Broken, Led, marked}
+use Rattle.stars.specs.Pre.{Broken, Led, SameRounds, marked}
+use Rattle.stars.specs.declared.rounds.Round.{Round}
+use Rattle.stars.specs.declared.rounds.Rounds.{Rounds}
 use Rattle.stars.proofs.Tables.{mark-here, mark_other, mark-keeps, written-long}
 use Rattle.stars.proofs.Cycles.{holder-at, round-met, cycle_below, cycle_back, next-only}
 use Rattle.stars.proofs.Leads.{begins-is, leads_child, leads-more}
@@ -29,7 +31,22 @@ pub record Leading (n : ℕ) (hs ls : List ℕ) (s arcs : ℕ) (ms : List ℕ) (
   pub done : (j : ℕ) → 0 < j → j ≤ i → leads n hs (back n hs j s) ≡ true → marked ms (back n hs j s) ≡ true
   pub others : (x : ℕ) → ((j : ℕ) → back n hs j s ≡ x → ⊥) → marked ms x ≡ marked ls x
 
-module _ {n : ℕ} {hs ls : List ℕ} {s arcs : ℕ} (p : Broken n hs ls s arcs) where
+module _ {a : Rounds} {c : Round} (p : Broken a c) where
+  abbrev n : ℕ
+  n = a.n
+
+  abbrev hs : List ℕ
+  hs = a.holders.now
+
+  abbrev ls : List ℕ
+  ls = a.leading.now
+
+  abbrev s : ℕ
+  s = c.start
+
+  abbrev arcs : ℕ
+  arcs = c.arcs
+
   few : n ≤ NONE
   few = omega (arith, p.few)
 
@@ -127,14 +144,17 @@ module _ {n : ℕ} {hs ls : List ℕ} {s arcs : ℕ} (p : Broken n hs ls s arcs)
           not-marked : (x : ℕ) → (x ≡ u' → ⊥) → marked ms' x ≡ marked ms x
           not-marked x away = by_bool free (λ q. rw (g, q)) (λ q. rw (g, q) (mark_other ms u' x away))
 
-  pub leading_end : {ms : List ℕ} {last u i : ℕ} → Leading n hs ls s arcs ms last u i → arcs ≤ i → Led n hs ls ms s last
+  pub leading_end : {ms : List ℕ} {last u i : ℕ} → Leading n hs ls s arcs ms last u i → arcs ≤ i → {z : Rounds} → SameRounds a z → z.read.now ≡ a.read.now → z.nexts.now ≡ a.nexts.now → ms ≡ z.leading.now → Led a z s last
   unfolding back
-  leading_end {ms} {last} {u} {i} r h =
+  leading_end {ms} {last} {u} {i} r h same read nexts now =
       record {
-        long = r.long;
+        same = same;
+        read = read;
+        nexts = nexts;
+        long = rw (← now) r.long;
         next = sym (next-only n hs few s last (rw prior (met-below (arcs - 1))) (rw prior (met-on (arcs - 1))) (rw prior (sym (holder-at n hs _ (met-below (arcs - 1))) ∙ round)));
-        leading = λ j. iff_test _ _ (r.sound j) (λ t. let (k, a, q) = round-met n hs s (arcs - 1) round j in rw q (marks k a (rw q at t)));
-        others = r.others;
+        leading = λ j. rw (← now) (iff_test _ _ (r.sound j) (λ t. let (k, b, q) = round-met n hs s (arcs - 1) round j in rw q (marks k b (rw q at t))));
+        others = λ x away. rw (← now) (r.others x away);
       }
     where
       whole : suc (arcs - 1) ≡ arcs

@@ -17,6 +17,7 @@ use Rattle.packing.proofs.Sums.{count-suc}
 use Rattle.packing.proofs.Groupings.{follows_is, follows_means}
 use Rattle.stars.specs.Stars.{partner, pair_leader, rule_five, not_later}
 use Rattle.stars.specs.Pre.{Partner, Partners, turned}
+use Rattle.stars.specs.declared.groups_of_two.Pairs.{Pairs}
 use Rattle.stars.proofs.Tables.{Refilled}
 use Rattle.stars.proofs.RuleFive.{partner-only, five-none, five-more, five-two}
 
@@ -113,29 +114,29 @@ module _ {n : ℕ} (g : ℕ → ℕ) {l : List ℕ} {u x : ℕ} (few : n ≤ GAT
   paired_other k one = omega (arith, e, ((p.partner u h).one one).0)
 
 -- .. and the entry that was u, as the code finds it
-module _ (n : ℕ) (ps qs : List ℕ) {u : ℕ} where
-  pub turned_none : n ≤ u → u ≡ turned n ps qs u
+module _ (p : Pairs) {u : ℕ} where
+  pub turned_none : p.n ≤ u → u ≡ turned p u
   unfolding turned
-  turned_none h = rw (le-ltb u n h)
+  turned_none h = rw (le-ltb u p.n h)
 
-  module _ {w : ℕ} (l : u < n) (e : w ≡ at qs u) where
-    pub turned_more : n ≤ w → u ≡ turned n ps qs u
+  module _ {w : ℕ} (l : u < p.n) (e : w ≡ at p.partners.now u) where
+    pub turned_more : p.n ≤ w → u ≡ turned p u
     unfolding turned
-    turned_more h = rw (lt-ltb u n l, ← e, le-ltb w n h)
+    turned_more h = rw (lt-ltb u p.n l, ← e, le-ltb w p.n h)
 
-    pub turned_two : {r : ℕ} → w < n → r ≡ pair_leader (not_later (at ps)) u w → r ≡ turned n ps qs u
+    pub turned_two : {r : ℕ} → w < p.n → r ≡ pair_leader (not_later (at p.places.now)) u w → r ≡ turned p u
     unfolding turned
-    turned_two h q = rw (lt-ltb u n l, ← e, lt-ltb w n h) q
+    turned_two h q = rw (lt-ltb u p.n l, ← e, lt-ltb w p.n h) q
 
 -- .. so that v's entry once the pairs are turned is the one by rule 5
-pub turned-five : {n : ℕ} (g : ℕ → ℕ) (ps : List ℕ) {qs : List ℕ} {u x : ℕ} (v : ℕ) → n ≤ GATEWAYS → Partners n n g qs → u ≡ g v → x ≡ turned n ps qs u → x ≡ rule_five (not_later (at ps)) n g v
+pub turned-five : (g : ℕ → ℕ) (p : Pairs) {u x : ℕ} (v : ℕ) → p.n ≤ GATEWAYS → Partners p.n p.n g p.partners.now → u ≡ g v → x ≡ turned p u → x ≡ rule_five (not_later (at p.places.now)) p.n g v
 unfolding turned
-turned-five {n} g ps {qs} {u} v few p e f =
-    by_bool (ltb u n)
-    (λ t. let l = ltb-true u n t in
-    by_bool (ltb (at qs u) n) (λ s. five-two by n g v e l (paired_one g few p l refl (ltb-true (at qs u) n s)) (rw (t, s) at f))
-    (λ s. rw (t, s) at f ∙ five-more by n g v e (paired_other g few p l refl (ltb-false (at qs u) n s))))
-    (λ t. rw t at f ∙ five-none by n g v e (ltb-false u n t))
+turned-five g p {u} v few known e f =
+    by_bool (ltb u p.n)
+    (λ t. let l = ltb-true u p.n t in
+    by_bool (ltb (at p.partners.now u) p.n) (λ s. five-two by p.n g v e l (paired_one g few known l refl (ltb-true (at p.partners.now u) p.n s)) (rw (t, s) at f))
+    (λ s. rw (t, s) at f ∙ five-more by p.n g v e (paired_other g few known l refl (ltb-false (at p.partners.now u) p.n s))))
+    (λ t. rw t at f ∙ five-none by p.n g v e (ltb-false u p.n t))
   where
     by : ℕ → ℕ → Bool
-    by = not_later (at ps)
+    by = not_later (at p.places.now)

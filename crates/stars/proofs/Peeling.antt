@@ -14,6 +14,7 @@ use Rattle.packing.proofs.Tests.{by_bool, clash, and_i, not_i, not_test}
 use Rattle.packing.proofs.Sums.{count_ext, count-some}
 use Rattle.stars.specs.Stars.{on_cycle, next_on_cycle}
 use Rattle.stars.specs.Pre.{Taken, marked}
+use Rattle.stars.specs.declared.trees.Trees.{Trees}
 use Rattle.stars.proofs.Tables.{mark-here, mark_other, mark-keeps, written-long}
 use Rattle.stars.proofs.Without.{unmarked_less}
 use Rattle.stars.proofs.Cycles.{next-held}
@@ -42,9 +43,33 @@ children_taken {n} {hs} {ts = ts} p x w l k e z =
 
 -- One more is taken.
 module _
-    {n : ℕ} {hs : List ℕ} {u : ℕ} {ws ts ls ws' ts' ls' : List ℕ} {r : ℕ} (p : Peeled n hs ws ts ls) (t : Taken n hs u ws ts ls ws' ts' ls' r) (l : u < n) (z : at ws u ≡ 0)
-    (f : marked ts u ≡ false)
+    {u : ℕ} {a b : Trees} {r : ℕ} (p : Peeled a.n a.holders.now a.waits.now a.taken.now a.leading.now) (t : Taken u a b r) (l : u < a.n) (z : at a.waits.now u ≡ 0)
+    (f : marked a.taken.now u ≡ false)
   where
+    abbrev n : ℕ
+    n = a.n
+
+    abbrev hs : List ℕ
+    hs = a.holders.now
+
+    abbrev ws : List ℕ
+    ws = a.waits.now
+
+    abbrev ts : List ℕ
+    ts = a.taken.now
+
+    abbrev ls : List ℕ
+    ls = a.leading.now
+
+    abbrev ws' : List ℕ
+    ws' = b.waits.now
+
+    abbrev ts' : List ℕ
+    ts' = b.taken.now
+
+    abbrev ls' : List ℕ
+    ls' = b.leading.now
+
     pub taken_here : marked ts' u ≡ true
     taken_here = rw t.taken (mark-here ts u (omega (arith, p.few, p.taken-long)))
 

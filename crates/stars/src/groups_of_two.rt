@@ -7,44 +7,54 @@ ghost use Rattle.stars.specs.Pre.{Partners, turned};
 
 use crate::partners::partners_of;
 use crate::places::places_of;
-use lists::entry;
+use lists::{PLACES, entry};
 
-// Of the pair a and b, whether a leads: b's place is not before a's.
-fn leads_pair(places: &[u16], a: u16, b: u16) -> bool
-    ensures { result ≡ not_later (at places.now) a b }
-{
-    entry(places, a) <= entry(places, b)
+// What is known of the pairs: the place of each gateway in the order, and of each leader its one member.
+#[derive(Clone, Copy)]
+struct Pairs<'a> {
+    n: u16,
+    places: &'a [u16],
+    partners: &'a [u16],
 }
 
-#[tactic(auto, unfolding(crate::specs::Stars::pair_leader))]
-fn pair_leader(places: &[u16], a: u16, b: u16) -> u16
-    ensures { result ≡ pair_leader (not_later (at places.now)) a b }
-{
-    if leads_pair(places, a, b) { a } else { b }
-}
-
-// The entry that was u, once in a group of two the one that leads the pair leads.
-fn rule_five(n: u16, places: &[u16], partners: &[u16], u: u16) -> u16
-    ensures { result ≡ turned n places.now partners.now u }
-{
-    if n <= u {
-        return u;
+impl Pairs<'_> {
+    // Of the pair a and b, whether a leads: b's place is not before a's.
+    fn leads_pair(&self, a: u16, b: u16) -> bool
+        ensures { result ≡ not_later (at self.now.places.now) a b }
+    {
+        entry(self.places, a) <= entry(self.places, b)
     }
-    let w = entry(partners, u);
-    if n <= w {
-        return u;
-    }
-    pair_leader(places, u, w)
-}
 
-// Each entry of the groups, in place: what it becomes goes by no other entry.
-fn turn_entries(n: u16, places: &[u16], partners: &[u16], groups: &mut [u16])
-    requires { (n ≤ GATEWAYS) × (Partners n n (at groups.old) partners.now) × (n ≡ length groups.old) }
-    ensures { groups.new ≡ list_of n (rule_five (not_later (at places.now)) n (at groups.old)) }
-{
-    for v in 0..n {
-        let place = v as usize;
-        groups[place] = rule_five(n, places, partners, groups[place]);
+    #[tactic(auto, unfolding(crate::specs::Stars::pair_leader))]
+    fn pair_leader(&self, a: u16, b: u16) -> u16
+        ensures { result ≡ pair_leader (not_later (at self.now.places.now)) a b }
+    {
+        if self.leads_pair(a, b) { a } else { b }
+    }
+
+    // The entry that was u, once in a group of two the one that leads the pair leads.
+    fn rule_five(&self, u: u16) -> u16
+        ensures { result ≡ turned self.now u }
+    {
+        if self.n <= u {
+            return u;
+        }
+        let w = entry(self.partners, u);
+        if self.n <= w {
+            return u;
+        }
+        self.pair_leader(u, w)
+    }
+
+    // Each entry of the groups, in place: what it becomes goes by no other entry.
+    fn turn_entries(&self, groups: &mut [u16])
+        requires { (self.now.n ≤ GATEWAYS) × (Partners self.now.n self.now.n (at groups.old) self.now.partners.now) × (self.now.n ≡ length groups.old) }
+        ensures { groups.new ≡ list_of self.now.n (rule_five (not_later (at self.now.places.now)) self.now.n (at groups.old)) }
+    {
+        for v in 0..self.n {
+            let place = v as usize;
+            groups[place] = self.rule_five(groups[place]);
+        }
     }
 }
 
@@ -52,14 +62,19 @@ fn turn_entries(n: u16, places: &[u16], partners: &[u16], groups: &mut [u16])
 pub(crate) fn turn_pairs(
     n: u16,
     order: &[u16],
-    places: &mut [u16],
-    partners: &mut [u16],
+    places: &mut [u16; PLACES],
+    partners: &mut [u16; PLACES],
     groups: &mut [u16],
 )
-    requires { (n ≤ GATEWAYS) × (GATEWAYS ≡ length places.old) × (GATEWAYS ≡ length partners.old) × (n ≡ length groups.old) }
+    requires { (n ≤ GATEWAYS) × (n ≡ length groups.old) }
     ensures { groups.new ≡ list_of n (rule_five (not_later (place_of n (at order.now))) n (at groups.old)) }
 {
     places_of(n, order, places);
     partners_of(n, groups, partners);
-    turn_entries(n, places, partners, groups);
+    let pairs = Pairs {
+        n,
+        places,
+        partners,
+    };
+    pairs.turn_entries(groups);
 }

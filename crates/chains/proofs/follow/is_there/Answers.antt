@@ -1,28 +1,15 @@
-use Rattle.std.proofs.Common.{arith}
-use Rattle.chains.proofs.Finding.{sought_start, sought_found, sought_turn, sought_less, sought_end}
+use Rattle.std.proofs.Common.{refl}
+use Rattle.chains.proofs.Along.{seeking_start, seeking_turn, seeking_found, seeking_end}
 use Rattle.chains.proofs.follow.is_there.Goals as goal
 
-pub loop-e-init : goal.loop-e-init
-loop-e-init c =
-    let asked = c.requires in
-    sought_start _ _ _ _ asked.0 asked.1 c.first_end-e.ensures
+pub loop-u-init : goal.loop-u-init
+loop-u-init c = seeking_start _ _ _ _ c.requires.0 c.requires.1 c.into_iter-u-iterator.ensures.into_iter_gives refl refl c.first_end-end.ensures
 
-pub returns-then-neighbour_at-y : goal.returns-then-neighbour_at-y
-returns-then-neighbour_at-y c =
-    let asked = c.requires in
-    sought_found _ _ _ _ asked.0 asked.1 c.loop-e.invariant c.loop-e-test.true c.neighbour_at.ensures c.if-neighbour_at-y.true
+pub returns-then-u-y : goal.returns-then-u-y
+returns-then-u-y c = seeking_found _ _ _ _ c.requires.0 c.requires.1 c.loop-u.invariant c.in-Some.ensures.steps c.if-u-y.true
 
-pub loop-e-smaller : goal.loop-e-smaller
-loop-e-smaller c =
-    let asked = c.requires in
-    sought_less _ _ _ _ asked.0 asked.1 c.loop-e.invariant c.loop-e-test.true c.neighbour_at.ensures c.if-neighbour_at-y.false c.next_end-e.ensures (omega arith)
-
-pub loop-e-preserved : goal.loop-e-preserved
-loop-e-preserved c =
-    let asked = c.requires in
-    sought_turn _ _ _ _ asked.0 asked.1 c.loop-e.invariant c.loop-e-test.true c.neighbour_at.ensures c.if-neighbour_at-y.false c.next_end-e.ensures
+pub loop-u-preserved : goal.loop-u-preserved
+loop-u-preserved c = seeking_turn _ _ _ _ c.requires.0 c.requires.1 c.loop-u.invariant c.in-Some.ensures.steps c.if-u-y.false
 
 pub returns : goal.returns
-returns c =
-    let asked = c.requires in
-    sought_end _ _ _ _ asked.0 asked.1 c.loop-e.invariant c.loop-e-test.false
+returns c = seeking_end _ _ _ _ c.requires.0 c.requires.1 c.loop-u.invariant c.in-None.ensures.steps

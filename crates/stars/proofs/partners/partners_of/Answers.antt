@@ -1,3 +1,4 @@
+use mathlib.Core.Path.{sym}
 use Rattle.packing.specs.Lists.{written}
 use Rattle.stars.proofs.Tables.{refilled}
 use Rattle.stars.proofs.PartnerPass.{pairing_start, pairing_more, pairing_same}
@@ -8,9 +9,9 @@ pub loop-w-init : goal.loop-w-init
 unfolding written
 loop-w-init c =
     let pre = c.requires in
-    pairing_start _ _ pre.0 (refilled _ _ _ pre.0 pre.1 c.with_value.ensures)
+    pairing_start _ _ pre (refilled _ _ _ pre (sym c.told-partners) c.with_value.ensures)
 
 pub loop-w-preserved : goal.loop-w-preserved
 loop-w-preserved c =
     let pre = c.requires in
-    elim c.if-u-w.branch [ then-u-w k ↦ rw k.partners-is (pairing_more _ _ pre.0 c.loop-w.invariant c.loop-w-test.true c.entry-u.ensures k.if-u-w.true k.entry-known.ensures k.with_member.ensures k.put.ensures) | else-u-w k ↦ rw k.partners-is (pairing_same _ _ pre.0 c.loop-w.invariant c.loop-w-test.true c.entry-u.ensures k.if-u-w.false) ]
+    elim c.if-u-w.branch [ then-u-w k ↦ rw k.partners-is (pairing_more _ _ pre c.loop-w.invariant c.loop-w-test.true c.entry-u.ensures k.if-u-w.true k.entry-known.ensures k.with_member.ensures k.put.ensures) | else-u-w k ↦ rw k.partners-is (pairing_same _ _ pre c.loop-w.invariant c.loop-w-test.true c.entry-u.ensures k.if-u-w.false) ]

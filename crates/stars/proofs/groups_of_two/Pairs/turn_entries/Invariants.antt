@@ -2,7 +2,7 @@
 use Rattle.packing.specs.Plant.{at}
 use Rattle.packing.proofs.Lists.{Listed}
 use Rattle.stars.specs.Stars.{not_later, rule_five}
-use Rattle.stars.proofs.groups_of_two.turn_entries.Given as goal
+use Rattle.stars.proofs.groups_of_two.Pairs.turn_entries.Given as goal
 
 abbrev pub invariant-loop-v : goal.invariant-loop-v
-invariant-loop-v l = Listed l.n (rule_five (not_later (at l.places)) l.n (at l.initial.groups)) l.initial.groups l.groups l.v
+invariant-loop-v l = Listed l.self.n (rule_five (not_later (at l.self.places.now)) l.self.n (at l.initial.groups)) l.initial.groups l.groups l.v

@@ -5,8 +5,8 @@ use lib.Dec.{eqb}
 use borrow.Author.Tests.{eq-eqb, ne_eqb}
 use Rattle.stars.specs.Pre.{marked}
 use Rattle.stars.proofs.LedRound.{leading-start, leading-turn, leading_end}
-use Rattle.stars.proofs.rounds.lead_round.Goals as goal
-use Rattle.stars.proofs.rounds.lead_round.Goals.{then-u-round, else-u-round}
+use Rattle.stars.proofs.rounds.Rounds.lead_round.Goals as goal
+use Rattle.stars.proofs.rounds.Rounds.lead_round.Goals.{then-u-round, else-u-round}
 
 pub loop-init : goal.loop-init
 loop-init c = (leading-start c.requires, refl)
@@ -21,4 +21,4 @@ loop-preserved c =
     (leading-turn c.requires c.loop.invariant.0 (omega arith) free c.entry-u.ensures c.mark_if.ensures, c.loop.invariant.1)
 
 pub returns : goal.returns
-returns c = leading_end c.requires c.loop.invariant.0 (omega arith)
+returns c = leading_end c.requires c.loop.invariant.0 (omega arith) (record { n = refl; holders = refl; read = refl; leading = refl; nexts = refl }) refl refl refl
