@@ -2,16 +2,15 @@
 use Prim.Native.Nat.{ℕ, ◌+◌, ◌*◌, ◌/◌, ◌<◌, ◌≤◌}
 use mathlib.Core.Path.{◌≡◌, refl, ap, ◌∙◌}
 use mathlib.Core.Logic.{⊎_elim}
-use mathlib.Core.Bool.{Bool, true, false, not, cond, ◌&&◌, ◌||◌}
-use mathlib.Core.List.{List}
+use mathlib.Core.Bool.{Bool, true, not, cond, ◌&&◌, ◌||◌}
+use mathlib.Core.List.{List, []}
 use native.Mathlib.Nat.{le_antisymm}
 use native.Mathlib.Numerals.{add-one}
 use native.Mathlib.Omega.{arith}
 use lib.Dec.{eqb}
 use lib.ListN.{length, set, get_or}
 use Rattle.std.specs.Simd.{first_chunks}
-use Rattle.checker.proofs.Pairs.{pair-first, pair-second}
-use mir.Val.{bool_byte}
+use Rattle.packing.proofs.Chunks.{chunk_first, chunk_second}
 use borrow.Author.Tests.{not-true}
 use Rattle.packing.specs.Count.{pick, sum, count, sum_over, all}
 use Rattle.packing.specs.Plant.{GATEWAYS, NONE, at, linked}
@@ -32,14 +31,14 @@ unfolding noted outward
 outward-noted choke marks v u here h = h ∙ rw here
 
 -- .. both ends of a link
-pub outward-turn : (choke links marks₀ d : List ℕ) (i : ℕ) {marks first second : List ℕ} {pairs : List (List ℕ)} {p q : Bool} → Passed (outward choke) links marks₀ marks (2 * i)
-    → pairs ≡ first_chunks 2 (length links / 2) links → i < length links / 2
-    → p ≡ not (in_set choke (get_or (get_or pairs i d) 1 0)) → first ≡ cond p (set marks (get_or (get_or pairs i d) 0 0) 1) marks
-    → q ≡ not (in_set choke (get_or (get_or pairs i d) 0 0)) → second ≡ cond q (set first (get_or (get_or pairs i d) 1 0) 1) first
+pub outward-turn : (choke links marks₀ : List ℕ) (i : ℕ) {marks first second : List ℕ} {pairs : List (List ℕ)} {p q : Bool} → Passed (outward choke) links marks₀ marks (2 * i)
+    → pairs ≡ first_chunks 2 (length links / 2) links → length pairs ≡ length links / 2 → i < length pairs
+    → p ≡ not (in_set choke (get_or (get_or pairs i []) 1 0)) → first ≡ cond p (set marks (get_or (get_or pairs i []) 0 0) 1) marks
+    → q ≡ not (in_set choke (get_or (get_or pairs i []) 0 0)) → second ≡ cond q (set first (get_or (get_or pairs i []) 1 0) 1) first
     → Passed (outward choke) links marks₀ second (2 * (i + 1))
-outward-turn choke links marks₀ d i {marks} {first} {pairs = pairs} w e h a b c f =
-    let one : get_or (get_or pairs i d) 0 0 ≡ at links (2 * i) = pair-first links i d e h in
-    let two : get_or (get_or pairs i d) 1 0 ≡ at links (2 * i + 1) = pair-second links i d e h in
+outward-turn choke links marks₀ i {marks} {first} {pairs = pairs} w e s h a b c f =
+    let one : get_or (get_or pairs i []) 0 0 ≡ at links (2 * i) = chunk_first links e s h in
+    let two : get_or (get_or pairs i []) 1 0 ≡ at links (2 * i + 1) = chunk_second links e s h in
     rw twice (pass_turn (outward choke) links marks₀ w (omega arith) (outward-noted choke marks _ _ (rw two at a) (rw one at b)) (outward-noted choke first _ _ (rw one at c) (rw two at f)))
   where
     twice : 2 * (i + 1) ≡ 2 * i + 2
@@ -79,11 +78,6 @@ pub difference_means : (n : ℕ) (limits links leaders choke : List ℕ) → Che
     → eqb k (alone + total) ≡ is_difference n (at limits) (linked links) (in_set choke) (alone_count n (at leaders))
 unfolding is_difference alone_count
 difference_means n limits links leaders choke able {marks} m c a s = rw (c, m, a, s, count_ext n (λ v. not (in_set choke v) && not (eqb (at (outward_marks links choke) v) 1)) (stranded n (linked links) (in_set choke)) (stranded_means n links choke able))
-
--- a test as a number
-pub bit_is : (b : Bool) → bool_byte b ≡ pick b 1
-bit_is true = refl
-bit_is false = refl
 
 -- the loop that sums: the limits of the set's gateways below v
 pub record Summed (n : ℕ) (s : ℕ → Bool) (limit : ℕ → ℕ) (total v : ℕ) : Type 0 where

@@ -17,7 +17,7 @@ use Rattle.packing.proofs.Lists.{list_of-at}
 use Rattle.lists.proofs.Tallies.{tally_at}
 use Rattle.sound.specs.Marks.{linked_entries}
 use Rattle.checker.specs.Pre.{leads_by, joins_by, is_entry}
-use Rattle.plant_file.proofs.Ranges.{all_range}
+use Rattle.packing.proofs.Ranges.{all_range}
 use Rattle.std.specs.List.{list_all, range_with_len}
 
 -- a number that is its gateway's own entry stands in the list once for it, and once for each member

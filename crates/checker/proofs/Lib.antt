@@ -1,6 +1,4 @@
 -- Laws of the checker: its tests, its refusals in words, and its claims.
-pub mod Ranges
-pub mod Pairs
 pub mod Entries
 pub mod Differences
 pub mod Below

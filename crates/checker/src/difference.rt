@@ -48,11 +48,7 @@ fn is_stranded(choke: &[u8], marks: &[u16], v: u16) -> bool
 fn stranded_count(n: u16, choke: &[u8], marks: &[u16]) -> u16
     ensures { result ≡ count n (λ v. not (in_set choke.now v) && not (eqb (at marks.now v) 1)) }
 {
-    let mut k: u16 = 0;
-    for v in 0..n {
-        k += u16::from(is_stranded(choke, marks, v));
-    }
-    k
+    lists::counts::count_where(n, |v| is_stranded(choke, marks, v))
 }
 
 // v's limit where v is in the set, else 0.
@@ -66,7 +62,7 @@ fn limit_of(limits: &[u8], choke: &[u8], v: u16) -> u8
     }
 }
 
-// The sum of the set's limits.
+// The sum of the set's limits. By `map(..).sum()` it is no plainer: the call asks for a proof that the sum fits before `small` is known, and both clauses want theirs besides.
 fn limits_sum(n: u16, limits: &[u8], choke: &[u8]) -> u32
     ensures sum { result ≡ sum_over n (in_set choke.now) (at limits.now) }
     ensures small { result ≤ 255 * n }

@@ -14,7 +14,7 @@ use plant::Plant;
 use refusal::Refusal;
 
 // 31, then 32.
-#[tactic(auto, unfolding(crate::specs::Check::lists_refusal, crate::specs::Check::leaders_off, crate::specs::Check::choke_off), using(crate::proofs::Ranges::any_range))]
+#[tactic(auto, unfolding(crate::specs::Check::lists_refusal, crate::specs::Check::leaders_off, crate::specs::Check::choke_off), using(packing::proofs::Ranges::any_range))]
 fn of_lists(plant: &Plant, leaders: &[u16], choke: &[u8]) -> Result<(), Refusal>
     ensures { code result ≡ lists_refusal plant.now.n (at plant.now.limits.now) (linked plant.now.links.now) leaders.now choke.now }
 {

@@ -1,10 +1,11 @@
 -- What is written of a file's limits, by its version.
 use Prim.Native.Nat.{ℕ, ◌+◌, ◌*◌}
 use mathlib.Core.Path.{◌≡◌, sym, ap, ◌∙◌}
+use mathlib.Core.Bool.{Bool, true, false}
 use mathlib.Core.List.{List}
 use native.Mathlib.Omega.{arith}
 use lib.ListN.{replicate}
-use borrow.Author.Tests.{eq-eqb, ne_eqb}
+use lib.Dec.{eqb}
 use Rattle.packing.specs.Lists.{written}
 use Rattle.packing.specs.Plant.{at}
 use Rattle.packing.proofs.Lists.{list_of_ext, list_of_same}
@@ -27,16 +28,16 @@ module _ (file : List ℕ) where
       place : 10 + 4 * file_m file + 2 * file_n file + 2 * v + 1 ≡ 11 + 4 * file_m file + 2 * file_n file + 2 * v
       place = omega arith
 
-  -- by the version
-  module _ (old : List ℕ) {version : ℕ} (is : version ≡ file_version file) {new : List ℕ} where
-    pub limits-two : version ≡ 2 → new ≡ written (file_n file) (pair_limits file) old → new ≡ written (file_n file) (file_limits file) old
+  -- by whether it has pairs
+  module _ (old : List ℕ) {paired : Bool} (is : paired ≡ eqb (file_version file) 2) {new : List ℕ} where
+    pub limits-two : paired ≡ true → new ≡ written (file_n file) (pair_limits file) old → new ≡ written (file_n file) (file_limits file) old
     unfolding pair_limits file_limits
     limits-two h f =
-        f ∙ ap (λ (l : List ℕ). written (file_n file) l old) (list_of_ext (file_n file) (pair_limit file) (file_limit file) (λ v l. sym (limit-two file (eq-eqb _ _ (sym is ∙ h)) v)))
+        f ∙ ap (λ (l : List ℕ). written (file_n file) l old) (list_of_ext (file_n file) (pair_limit file) (file_limit file) (λ v l. sym (limit-two file (sym is ∙ h) v)))
 
-    pub limits_other : {n t : ℕ} → (version ≡ 2 → ⊥) → n ≡ file_n file → t ≡ file_t file → new ≡ written n (replicate n t) old → new ≡ written (file_n file) (file_limits file) old
+    pub limits_other : {n t : ℕ} → paired ≡ false → n ≡ file_n file → t ≡ file_t file → new ≡ written n (replicate n t) old → new ≡ written (file_n file) (file_limits file) old
     unfolding file_limits
     limits_other h is-n is-t f =
         (rw (is-n, is-t) at f)
         ∙ ap (λ (l : List ℕ). written (file_n file) l old)
-        (sym (list_of_same (file_n file) (file_t file)) ∙ list_of_ext (file_n file) (λ v. file_t file) (file_limit file) (λ v l. sym (limit_other file (ne_eqb _ _ (λ e. h (is ∙ e))) v)))
+        (sym (list_of_same (file_n file) (file_t file)) ∙ list_of_ext (file_n file) (λ v. file_t file) (file_limit file) (λ v l. sym (limit_other file (sym is ∙ h) v)))

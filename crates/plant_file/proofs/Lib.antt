@@ -1,5 +1,4 @@
 -- Laws of the plant file, by subject.
-pub mod Ranges
 pub mod LinksByIndex
 pub mod Walks
 pub mod Places

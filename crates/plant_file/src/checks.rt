@@ -27,7 +27,7 @@ fn length_given(file: &[u8]) -> usize
 {
     let links = 10 + 4 * (crate::link_count(file) as usize);
     let n = crate::gateways(file) as usize;
-    if crate::version(file) == 2 {
+    if crate::has_pairs(file) {
         links + 4 * n
     } else {
         links + 2 * n

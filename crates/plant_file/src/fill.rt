@@ -54,9 +54,9 @@ fn with_pairs(file: &[u8], limits: &mut [u8])
     let t = crate::limit(file);
     let n = crate::gateways(file) as usize;
     let pairs = 10 + 4 * (crate::link_count(file) as usize) + 2 * n;
-    for v in 0..n {
+    for (v, limit) in limits[..n].iter_mut().enumerate() {
         let kind = byte(file, pairs + 2 * v);
-        limits[v] = effective(t, kind, byte(file, pairs + 2 * v + 1));
+        *limit = effective(t, kind, byte(file, pairs + 2 * v + 1));
     }
 }
 
@@ -65,7 +65,7 @@ pub(crate) fn with_limits(file: &[u8], limits: &mut [u8])
     requires { file_n file.now ≤ length limits.old }
     ensures { limits.new ≡ written (file_n file.now) (file_limits file.now) limits.old }
 {
-    if crate::version(file) == 2 {
+    if crate::has_pairs(file) {
         with_pairs(file, limits);
     } else {
         let n = crate::gateways(file) as usize;

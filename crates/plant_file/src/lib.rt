@@ -8,7 +8,7 @@ mod indexed;
 pub mod limits;
 pub mod reader;
 
-ghost use Rattle.std.specs.Prelude.{◌≡◌, ltb, length, OnOk};
+ghost use Rattle.std.specs.Prelude.{◌≡◌, eqb, ltb, length, OnOk};
 ghost use Rattle.packing.specs.Refusals.{refuse};
 ghost use Rattle.refusal.specs.Refusals.{code};
 ghost use Rattle.plant_file.specs.PlantFile.{file_version, file_n, file_t, file_m, file_refusal, file_then_short};
@@ -23,6 +23,13 @@ pub fn version(file: &[u8]) -> u16
     ensures { result ≡ file_version file.now }
 {
     bytes::number_at(file, 3)
+}
+
+// Whether each gateway has a pair of bytes, kind and limit, behind the order: in version 2.
+pub(crate) fn has_pairs(file: &[u8]) -> bool
+    ensures { result ≡ eqb (file_version file.now) 2 }
+{
+    version(file) == 2
 }
 
 #[tactic(auto, unfolding(crate::specs::PlantFile::file_n))]

@@ -57,7 +57,7 @@ pub fn limit_of(file: &[u8], v: u16) -> u8
     ensures { result ≡ file_limit file.now v }
 {
     let t = crate::limit(file);
-    if crate::version(file) == 2 {
+    if crate::has_pairs(file) {
         effective(t, kind_byte(file, v), limit_byte(file, v))
     } else {
         t
@@ -80,9 +80,9 @@ fn each_is_allowed(file: &[u8], n: u16) -> bool
 }
 
 // Whether each limit byte of the file is allowed: version 1 has none.
-#[tactic(auto, unfolding(crate::specs::PlantFile::limits_allowed), using(crate::proofs::Ranges::all_range))]
+#[tactic(auto, unfolding(crate::specs::PlantFile::limits_allowed), using(packing::proofs::Ranges::all_range))]
 pub(crate) fn are_allowed(file: &[u8]) -> bool
     ensures { result ≡ limits_allowed file.now }
 {
-    crate::version(file) != 2 || each_is_allowed(file, crate::gateways(file))
+    !crate::has_pairs(file) || each_is_allowed(file, crate::gateways(file))
 }

@@ -1,5 +1,5 @@
 -- The loop over v's links, along its chain: each call in it is the next of the model's, and what is left of the model gives what the whole gives.
-use Prim.Native.Nat.{ℕ, suc, ◌+◌, ◌-◌, ◌*◌, ◌/◌, ◌<◌, ◌≤◌}
+use Prim.Native.Nat.{ℕ, suc, ◌+◌, ◌*◌, ◌/◌, ◌<◌, ◌≤◌}
 use mathlib.Core.Path.{◌≡◌, refl, sym, ap, ◌∙◌}
 use mathlib.Core.Bool.{Bool, true, false, not}
 use mathlib.Core.List.{List}
@@ -16,7 +16,7 @@ use Rattle.packing.proofs.Tests.{by_bool, iff_test, not_i, not_i_false}
 use Rattle.packing.proofs.Sums.{count_ext}
 use Rattle.packing.proofs.Moved.{moved-one}
 use Rattle.chains.specs.Index.{root_of, FarEnd, Index}
-use Rattle.chains.proofs.Following.{Standing, chain_first, chain_next, chain-end, chain_there, chain-places}
+use Rattle.chains.proofs.Following.{Standing, chain_first, chain_next, chain-end, chain_there}
 use Rattle.search.specs.RowPre.{Taken}
 use Rattle.search.proofs.States.{seen-kept}
 use Rattle.search.proofs.Taken.{taken_here, taken_other}
@@ -83,14 +83,7 @@ module _
         finding_there : FarEnd ls v e
         finding_there = chain_there index below f.standing some
 
-        pub finding_places : (e < length ls) × (e < length next)
-        finding_places = chain-places index below f.standing some
-
         module _ {e' : ℕ} (later : e' ≡ at next e) where
-          -- fewer links are left
-          pub finding_on : NONE - e' < NONE - e
-          finding_on = let on : e < e' = rw later (chain_next index below finding_there).2 in omega (arith, finding_there.inside, index.room, index.few)
-
           -- what is known with the marks then, before the next link
           turn : {rows' : List (List ℕ)} {hs' marks' : List ℕ} → Front n marks₀ marks' → hs' ≡ hs₀ → rows' ≡ rows₀ → tried (take n marks') (at hs₀ v) ≡ true → untried (take n marks') ≤ untried (take n marks₀)
               → ((calls : ℕ) → 2 * untried (take n marks₀) ≤ calls

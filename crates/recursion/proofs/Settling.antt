@@ -19,7 +19,7 @@ use Rattle.recursion.proofs.Placing.{own-tried}
 use Rattle.recursion.proofs.Promises.{by_option, FoundBy, FoundRows}
 
 module _
-    {n : ℕ} {hs : List ℕ} {v : ℕ} {ls next : List ℕ} {rows : List (List ℕ)} (p : PlaceableBy n hs v ls next rows)
+    {n : ℕ} {hs : List ℕ} {v : ℕ} {rows : List (List ℕ)} (p : PlaceableBy n hs v rows)
     {zeros all : List ℕ} (none : zeros ≡ replicate GATEWAYS 0) (filled : all ≡ written n (replicate n NONE) zeros)
   where
     -- the first n of the marks say that nobody was tried, and the others say tried
@@ -48,7 +48,7 @@ module _
 
     -- what a call with them leaves
     module _
-        (limit : ℕ → ℕ) {o : Option ℕ} {hs' marks' : List ℕ} {rows' : List (List ℕ)} (d : FoundBy n limit ls v hs (take n all) o hs' marks') (r : FoundRows n limit v hs o hs' rows rows')
+        (limit : ℕ → ℕ) (ls : List ℕ) {o : Option ℕ} {hs' marks' : List ℕ} {rows' : List (List ℕ)} (d : FoundBy n limit ls v hs (take n all) o hs' marks') (r : FoundRows n limit v hs o hs' rows rows')
       where
         promise : FoundBy n limit ls v hs (replicate n NONE) o hs' marks'
         promise = rw fresh at d

@@ -3,7 +3,6 @@ use Rattle.std.specs.Prelude.{ℕ, ◌<◌, ◌≤◌, ◌≡◌, Bool, true, no
 use Rattle.packing.specs.Count.{count}
 use Rattle.packing.specs.Plant.{GATEWAYS, HIGHEST, at}
 use Rattle.packing.specs.Holders.{holds}
-use Rattle.chains.specs.Index.{Index}
 use Rattle.search.specs.RowPre.{RowsOf}
 use Rattle.search.specs.Pre.{TableOf, Placeable}
 use Rattle.recursion.specs.Recursion.{Try, freed, failed, tried}
@@ -57,8 +56,7 @@ pub record Fits (n : ℕ) (limit : ℕ → ℕ) (hs : List ℕ) (v : ℕ) : Type
   pub limits : SmallLimits n limit
   pub own : at hs v < GATEWAYS → holds n (at hs) (at hs v) ≤ HIGHEST
 
--- v may be placed, with the index of the links and the table of the holders
-pub record PlaceableBy (n : ℕ) (hs : List ℕ) (v : ℕ) (ls next : List ℕ) (rows : List (List ℕ)) : Type 0 where
+-- v may be placed, with the table of the holders
+pub record PlaceableBy (n : ℕ) (hs : List ℕ) (v : ℕ) (rows : List (List ℕ)) : Type 0 where
   pub free : Placeable n hs v
-  pub index : Index ls next
   pub table : RowsOf n hs rows

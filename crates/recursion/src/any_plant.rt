@@ -1,12 +1,13 @@
-// What the two functions are handed of a plant.
+// What the short search is handed of a plant.
 ghost use Rattle.chains.specs.Index.{Index};
 
-// Links with their index, and limits. search::plant says more of them, and a caller of the short search need not show it: here an end may be n or more, and a gateway without limit has 0.
+/// Links with their index, and a limit for each gateway, 0 past the list's end.
+// search::plant says more of them, and a caller of the short search need not show it: here an end may be n or more, and a gateway without limit has 0.
 #[derive(Clone, Copy)]
-pub(crate) struct AnyPlant<'a> {
-    pub(crate) n: u16,
-    pub(crate) limits: &'a [u8],
-    pub(crate) links: &'a [u16],
-    pub(crate) next: &'a [u16],
-    ghost index: { Index links.now next.now },
+pub struct AnyPlant<'a> {
+    pub n: u16,
+    pub limits: &'a [u8],
+    pub links: &'a [u16],
+    pub next: &'a [u16],
+    pub ghost index: { Index links.now next.now },
 }

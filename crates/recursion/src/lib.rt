@@ -1,22 +1,22 @@
 // The short search (02, change 7): finds a holder for a gateway by two functions that call each other. At full depth a call of each stands for every two gateways, so they have few lists and no arrays of their own; only their contracts use n.
 #![tactic(auto)]
 
-mod any_plant;
+pub mod any_plant;
 
 ghost use Rattle.std.specs.Prelude.{◌≡◌, suc, ◌+◌, ◌*◌, take};
 ghost use Rattle.packing.specs.Plant.{at};
 ghost use Rattle.packing.specs.Moved.{moved};
-ghost use Rattle.chains.specs.Index.{Index};
 ghost use Rattle.search.specs.Held.{SameHeld};
 ghost use Rattle.search.specs.RowPre.{RowsOf};
 ghost use Rattle.recursion.specs.Recursion.{find_holder, free_place, recursive_holders, recursive_after, recursive_answer};
 ghost use Rattle.recursion.specs.Pre.{untried, Working, Ends, RowsEnd, Front, SmallLimits, Fits, PlaceableBy};
 
 use crate::any_plant::AnyPlant;
+use chains::chain::Chain;
 use search::held::{Held, ROW};
 use search::shift::take;
 
-// Finds a holder for v: goes through its links in order of arrival and frees a place at a neighbour not yet tried. If one is freed, v has that neighbour as its holder. The loop is no `for`: each end says where the next is. Returns how many have another holder then, and None where no place is freed.
+// Finds a holder for v: goes through its links in order of arrival and frees a place at a neighbour not yet tried. If one is freed, v has that neighbour as its holder. Returns how many have another holder then, and None where no place is freed.
 #[cycle(find_holder_free_place)]
 fn find_holder(
     plant: &AnyPlant,
@@ -30,9 +30,12 @@ fn find_holder(
     ensures marks { Front plant.now.n tried.old tried.new }
     ensures same { SameHeld held.old held.new }
 {
-    let mut e = chains::first_end(plant.next, v);
-    while e != lists::NONE {
-        let u = chains::neighbour_at(plant.links, e);
+    let end = chains::first_end(plant.next, v);
+    for u in (Chain {
+        links: plant.links,
+        next: plant.next,
+        end,
+    }) {
         if lists::entry(tried, u) == lists::NONE {
             lists::put(tried, u, 0);
             if let Some(k) = free_place(plant, u, held, tried) {
@@ -40,7 +43,6 @@ fn find_holder(
                 return Some(k);
             }
         }
-        e = chains::next_end(plant.next, e);
     }
     None
 }
@@ -77,46 +79,26 @@ fn free_place(
     None
 }
 
-// Places v, which may be placed, with the index of the links and the table of the holders, which is kept. Returns how many have another holder afterwards.
-// The lists stand apart, and not as a Plant: that would ask more of callers than place and place_kept ask, who promise what they do for any n and limits.
-pub fn place_kept(
-    n: u16,
-    v: u16,
-    limits: &[u8],
-    links: &[u16],
-    next: &[u16],
-    held: &mut Held,
-) -> u16
-    requires { PlaceableBy n held.old.holders.now v links.now next.now held.old.rows.now }
-    ensures holders { held.new.holders.now ≡ recursive_holders n (at limits.now) links.now held.old.holders.now v }
-    ensures moved { result ≡ moved n (at held.old.holders.now) (at (recursive_holders n (at limits.now) links.now held.old.holders.now v)) }
-    ensures rows { Fits n (at limits.now) held.old.holders.now v → RowsOf n (recursive_holders n (at limits.now) links.now held.old.holders.now v) held.new.rows.now }
+// Places v, which may be placed, with the table of the holders, which is kept. Returns how many have another holder afterwards.
+// No Option: 02's number (change 4, "0 for one left"), and the clause moved says it of both cases at once.
+pub fn place_kept(plant: &AnyPlant, v: u16, held: &mut Held) -> u16
+    requires { PlaceableBy plant.now.n held.old.holders.now v held.old.rows.now }
+    ensures holders { held.new.holders.now ≡ recursive_holders plant.now.n (at plant.now.limits.now) plant.now.links.now held.old.holders.now v }
+    ensures moved { result ≡ moved plant.now.n (at held.old.holders.now) (at (recursive_holders plant.now.n (at plant.now.limits.now) plant.now.links.now held.old.holders.now v)) }
+    ensures rows { Fits plant.now.n (at plant.now.limits.now) held.old.holders.now v → RowsOf plant.now.n (recursive_holders plant.now.n (at plant.now.limits.now) plant.now.links.now held.old.holders.now v) held.new.rows.now }
     ensures same { SameHeld held.old held.new }
 {
     let mut tried = [0u16; lists::PLACES];
-    lists::fill::with_value(n as usize, lists::NONE, &mut tried);
-    let plant = AnyPlant {
-        n,
-        limits,
-        links,
-        next,
-    };
-    find_holder(&plant, v, held, &mut tried).unwrap_or(0)
+    lists::fill::with_value(plant.n as usize, lists::NONE, &mut tried);
+    find_holder(plant, v, held, &mut tried).unwrap_or(0)
 }
 
-// Places v by a limit for each gateway, 0 past the list's end, and the index of the links. Answers how many gateways have another holder afterwards; or None where v may not be placed, and nothing is changed.
-pub fn place(
-    n: u16,
-    v: u16,
-    limits: &[u8],
-    links: &[u16],
-    next: &[u16],
-    holders: &mut [u16],
-) -> Option<u16>
-    requires { Index links.now next.now }
-    ensures answer { result ≡ recursive_answer n (at limits.now) links.now holders.old v }
-    ensures holders { holders.new ≡ recursive_after n (at limits.now) links.now holders.old v }
+// Places v. Answers how many gateways have another holder afterwards; or None where v may not be placed, and nothing is changed.
+pub fn place(plant: &AnyPlant, v: u16, holders: &mut [u16]) -> Option<u16>
+    ensures answer { result ≡ recursive_answer plant.now.n (at plant.now.limits.now) plant.now.links.now holders.old v }
+    ensures holders { holders.new ≡ recursive_after plant.now.n (at plant.now.limits.now) plant.now.links.now holders.old v }
 {
+    let n = plant.n;
     if !search::is_placeable(n, v, holders) {
         return None;
     }
@@ -126,5 +108,5 @@ pub fn place(
         rows: &mut rows,
         holders,
     };
-    Some(place_kept(n, v, limits, links, next, &mut held))
+    Some(place_kept(plant, v, &mut held))
 }

@@ -50,5 +50,4 @@ pub mod DeadOut
 pub mod DeadPlacing
 pub mod DeadChoke
 pub mod DeadStep
-pub mod Listing
 pub mod SameWork

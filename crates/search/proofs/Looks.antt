@@ -1,5 +1,5 @@
 -- Looks from a gateway: the three ways of one by the table, and the loop over the gateway's links.
-use Prim.Native.Nat.{ℕ, ◌-◌, ◌*◌, ◌/◌, ◌<◌, ◌≤◌}
+use Prim.Native.Nat.{ℕ, ◌*◌, ◌/◌, ◌<◌, ◌≤◌}
 use mathlib.Core.Path.{◌≡◌, refl, sym, ap, ◌∙◌}
 use mathlib.Core.Bool.{Bool, true, false}
 use mathlib.Core.List.{List, ◌∷◌}
@@ -11,7 +11,7 @@ use Rattle.packing.specs.Plant.{NONE, GATEWAYS, at, neighbours}
 use Rattle.packing.specs.Holders.{holds}
 use Rattle.packing.proofs.Tests.{not_i, not_i_false}
 use Rattle.chains.specs.Index.{root_of, IndexFor}
-use Rattle.chains.proofs.Following.{Standing, chain_first, chain_next, chain-end, chain_there, chain-places}
+use Rattle.chains.proofs.Following.{Standing, chain_first, chain_next, chain-end, chain_there}
 use Rattle.search.specs.Search.{found, more, seen, look, visit}
 use Rattle.std.specs.declared.ops.ControlFlow.TheVariants.{Break, Continue}
 use Rattle.search.specs.Table.{row_at}
@@ -110,9 +110,6 @@ module _
       pub visit_ready : ForSome rows (λ n hs. Ready n x hs queue end from)
       visit_ready = some_then some (λ n hs t r. (v.each n hs t r).ready)
 
-      pub visit-places : (e ≡ NONE → ⊥) → (e < length ls) × (e < length next)
-      visit-places l = chain-places d.index below v.standing l
-
       -- the neighbour is a gateway, and has a mark or none
       pub visit_neighbour : (e ≡ NONE → ⊥) → {u : ℕ} → u ≡ at ls e → u < length from
       visit_neighbour l is-u = rw (is-u, v.same.1) (d.below e (chain_there d.index below v.standing l).inside)
@@ -137,28 +134,26 @@ module _
           step = rw is-u (rw after.0 at (v.each n hs t r).rest)
 
         pub visit-turn : {e' : ℕ} {on : Unit {0}} → w ≡ Continue on → (length queue' ≡ length queue) × (length from' ≡ length from) → e' ≡ at next e
-            → (Visiting limit x ls rows queue₀ tail from₀ queue' from' end' e') × (NONE - e' < NONE - e)
-        visit-turn {on = on} q long f = (
-          rw f
-              (record {
-                standing = after.1;
-                same = (long.0 ∙ v.same.0, long.1 ∙ v.same.1);
-                each = λ n hs t r.
-                    let is : Is (Continue on) end' queue' from' (look n limit hs x u (take end queue) from) = rw q at (looked t r) in
-                    let same : look n limit hs x u (take end queue) from ≡ more (take end' queue') from' = more-state is in
-                    let before : Ready n x hs queue end from = ready t r in
-                    record {
-                      ready = record {
-                        going = look-going limit before.going u x before.gateway same;
-                        gateway = before.gateway;
-                        places = omega (arith, before.places, long.0);
-                        within = is.within;
-                      };
-                      rest = rw same at (step t r);
+            → Visiting limit x ls rows queue₀ tail from₀ queue' from' end' e'
+        visit-turn {on = on} q long f =
+            rw f
+            (record {
+              standing = after.1;
+              same = (long.0 ∙ v.same.0, long.1 ∙ v.same.1);
+              each = λ n hs t r.
+                  let is : Is (Continue on) end' queue' from' (look n limit hs x u (take end queue) from) = rw q at (looked t r) in
+                  let same : look n limit hs x u (take end queue) from ≡ more (take end' queue') from' = more-state is in
+                  let before : Ready n x hs queue end from = ready t r in
+                  record {
+                    ready = record {
+                      going = look-going limit before.going u x before.gateway same;
+                      gateway = before.gateway;
+                      places = omega (arith, before.places, long.0);
+                      within = is.within;
                     };
-              }),
-          omega (arith, f, after.2, (visit-places v l).1, d.index.few),
-        )
+                    rest = rw same at (step t r);
+                  };
+            })
 
         pub visit-ends : {y z : ℕ} → w ≡ Break (y, z)
             → ForEach rows (λ n hs. Ready n x hs queue₀ tail from₀) (λ n hs. Is (Break (y, z)) end' queue' from' (visit n limit hs x (neighbours ls x) (more (take tail queue₀) from₀)))

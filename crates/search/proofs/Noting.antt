@@ -2,11 +2,12 @@
 use Prim.Native.Nat.{ℕ, zero, suc, ◌+◌, ◌<◌, ◌≤◌}
 use mathlib.Core.Path.{◌≡◌, refl, sym, ap, fun_ext, ◌∙◌}
 use mathlib.Core.Bool.{Bool, true, false, not, and-true}
-use mathlib.Core.List.{List}
+use mathlib.Core.List.{List, [], ◌∷◌, ◌++◌}
 use native.Mathlib.Numerals.{add-one}
 use native.Mathlib.Omega.{arith}
 use lib.Dec.{eqb}
 use lib.ListN.{length, set, take, replicate, length-set, length-replicate}
+use Rattle.std.proofs.lemmas.List.{get_or_push, get_or_append_left, length_push}
 use lib.Seq.{length-take-le, get_or-take, ext_get_or, get_or-set_same, get_or-set_other, set-set}
 use borrow.Author.Tests.{eqb-true, eqb-false, not-false}
 use Rattle.packing.specs.Count.{count}
@@ -84,41 +85,53 @@ notable-start looked from l = record { inside = λ i q. absurd (omega arith); ro
 pub notable-made : {n x : ℕ} {looked : List ℕ} (from : List ℕ) → length from ≡ n → n ≤ GATEWAYS → looked ≡ replicate GATEWAYS x → Notable looked 0 from
 notable-made {x = x} {looked} from e few made = notable-start looked from (omega (arith, e, few, ap length made ∙ length-replicate GATEWAYS x))
 
--- the loop that takes back: what is left to take back gives what all give
-pub record TakingBack (looked : List ℕ) (c : ℕ) (from₀ from : List ℕ) (i : ℕ) : Type 0 where
-  pub within : i ≤ c
-  pub same : length from ≡ length from₀
-  pub rest : taken_back i looked from ≡ taken_back c looked from₀
-
-module _ (looked : List ℕ) (c : ℕ) (from₀ : List ℕ) where
-  pub back_start : TakingBack looked c from₀ from₀ c
-  back_start = record { within = omega arith; same = refl; rest = refl }
-
-  pub back-turn : {from from' : List ℕ} {i j u : ℕ} → TakingBack looked c from₀ from i → i ≡ suc j → u ≡ at looked j → from' ≡ set from u NONE → TakingBack looked c from₀ from' j
-  unfolding taken_back
-  back-turn {from} {from'} {i} {j} {u} t one is now =
-      record { within = omega (arith, t.within); same = rw (now, length-set) t.same; rest = rw (now, is) (rw one at t.rest) }
-
-  -- whose mark is taken back has one
-  pub back-place : {from : List ℕ} {i j : ℕ} → ((i : ℕ) → i < c → at looked i < length from₀) → TakingBack looked c from₀ from i → i ≡ suc j → at looked j < length from
-  back-place {j = j} inside t one = rw t.same (inside j (omega (arith, t.within)))
-
-  pub back_end : {from : List ℕ} {i : ℕ} → TakingBack looked c from₀ from i → i ≡ 0 → from ≡ taken_back c looked from₀
-  unfolding taken_back
-  back_end t none = rw none at t.rest
-
 -- of a list only the first c count
 back-same : (c : ℕ) (looked looked' from : List ℕ) → ((i : ℕ) → i < c → at looked i ≡ at looked' i) → taken_back c looked from ≡ taken_back c looked' from
 unfolding taken_back
 back-same zero looked looked' from same = refl
 back-same (suc c) looked looked' from same = rw (same c (omega arith)) (back-same c looked looked' (set from (at looked' c) NONE) (λ i l. same i (omega (arith, l))))
 
+-- the loop that takes back: those left to take back give what all give
+pub record TakingBack (noted from₀ left from : List ℕ) : Type 0 where
+  pub marked : AllMarked left from
+  pub rest : taken_back (length left) left from ≡ taken_back (length noted) noted from₀
+
+pub back_start : {noted from : List ℕ} → AllMarked noted from → TakingBack noted from noted from
+back_start m = record { marked = m; rest = refl }
+
+module _ {noted from₀ left from : List ℕ} (less : List ℕ) (u : ℕ) (t : TakingBack noted from₀ left from) (one : left ≡ less ++ u ∷ []) where
+  -- the last of those left
+  last : at (less ++ u ∷ []) (length less) ≡ u
+  last = get_or_push less u 0 (length less) refl
+
+  others : (i : ℕ) → i < length less → at (less ++ u ∷ []) i ≡ at less i
+  others i l = get_or_append_left less (u ∷ []) 0 i l
+
+  each : AllMarked (less ++ u ∷ []) from
+  each = rw one at t.marked
+
+  -- .. has a place among the marks, ..
+  pub back-place : u < length from
+  back-place = rw last at (each (length less) (omega (arith, length_push less u)))
+
+  -- .. and is not left once its mark is taken back
+  pub back-turn : {from' : List ℕ} → from' ≡ set from u NONE → TakingBack noted from₀ less from'
+  unfolding taken_back
+  back-turn now =
+      let whole : taken_back (suc (length less)) (less ++ u ∷ []) from ≡ taken_back (length noted) noted from₀ = rw (one, length_push less u, add-one) at t.rest in
+      let all : taken_back (length less) (less ++ u ∷ []) (set from (at (less ++ u ∷ []) (length less)) NONE) ≡ taken_back (length noted) noted from₀ = whole in
+      record {
+        marked = λ i l. rw (now, length-set) (rw (others i l) at (each i (omega (arith, l, length_push less u))));
+        rest = rw now (back-same (length less) less (less ++ u ∷ []) (set from u NONE) (λ i l. sym (others i l)) ∙ (rw last at all));
+      }
+
+pub back_end : {noted from₀ left from : List ℕ} → TakingBack noted from₀ left from → length left ≡ 0 → from ≡ taken_back (length noted) noted from₀
+unfolding taken_back
+back_end t none = rw none at t.rest
+
 module _ {looked : List ℕ} {c : ℕ} {from : List ℕ} (n : Notable looked c from) where
   noted-length : length (take c looked) ≡ c
   noted-length = length-take-le c looked (omega (arith, n.room))
-
-  pub noted-marked : AllMarked (take c looked) from
-  noted-marked i l = rw (get_or-take c looked i 0 (rw noted-length at l)) (n.inside i (rw noted-length at l))
 
   pub back-noted : {from' : List ℕ} → from' ≡ taken_back (length (take c looked)) (take c looked) from → from' ≡ taken_back c looked from
   back-noted e = (rw noted-length at e) ∙ back-same c (take c looked) looked from (λ i l. get_or-take c looked i 0 l)

@@ -81,10 +81,6 @@ row_all k a l h =
 pub row_length : (k a : ℕ) (l : List ℕ) → length (take k (l ++ replicate k a)) ≡ k
 row_length k a l = length-take-le k (l ++ replicate k a) (omega (arith, length-append l (replicate k a), length-replicate k a))
 
--- .. and so known to have 1,024
-pub table-count : (n : ℕ) (hs : List ℕ) {rows : List (List ℕ)} → rows ≡ held_table n hs → GATEWAYS ≡ length rows
-table-count n hs is = sym (ap length is ∙ table-length n hs)
-
 -- the whole table is rows from its front on
 pub rows_whole : {n : ℕ} {hs : List ℕ} {rows : List (List ℕ)} → n ≤ GATEWAYS → rows ≡ held_table n hs → RowsOf n hs rows
 rows_whole {n} {hs} few is = rw is (record { wide = rw table-length few; is = sym (take_all (length (held_table n hs)) (held_table n hs) (omega arith)) })

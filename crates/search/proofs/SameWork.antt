@@ -1,10 +1,9 @@
 -- The lists that a search works in stay the same lists, and so do the holders and their table.
-use Rattle.std.proofs.Common.{ℕ, ◌≡◌, List, refl, ◌∙◌}
+use Rattle.std.proofs.Common.{◌≡◌, refl, ◌∙◌}
 use Rattle.search.specs.declared.work.Work.{Work}
 use Rattle.search.specs.Work.{SameLists}
 use Rattle.search.specs.declared.held.Held.{Held}
 use Rattle.search.specs.Held.{SameHeld}
-use Rattle.search.specs.RowPre.{RowsOf}
 
 pub same_lists : {w : Work} → SameLists w w
 same_lists = record { queue = refl; from = refl; looked = refl; places = refl; marks = refl; notes = refl }
@@ -29,6 +28,3 @@ held_then p q = record { rows = q.rows ∙ p.rows; holders = q.holders ∙ p.hol
 -- what a list is that ends as another
 pub ends-as : {A : Type 0} {end last whole : A} → last ≡ whole → end ≡ last → end ≡ whole
 ends-as is end = end ∙ is
-
-pub rows-as : (n : ℕ) (hs : List ℕ) (rows rows' : List (List ℕ)) → RowsOf n hs rows → rows' ≡ rows → RowsOf n hs rows'
-rows-as n hs rows rows' is end = rw end is

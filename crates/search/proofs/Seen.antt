@@ -65,10 +65,6 @@ module _ {n : ℕ} {rows : List (List ℕ)} {hs queue from out queue' : List ℕ
   marks-long : {m : ℕ} → m ≡ length from → m ≡ n
   marks-long same = same ∙ none-marked w.space.unseen
 
-  -- .. so there is a byte for each
-  pub set-places : {m : ℕ} → m ≡ length from → m ≤ length out
-  set-places same = omega (arith, marks-long same, w.lent.places)
-
   -- the bytes of those seen in a walk with limits of 0 are the choke bytes
   pub set-written : (limits ls : List ℕ) {r : Walked} {end : ℕ} {queue'' from' new : List ℕ}
       → ForEach rows (λ k l. Walkable k l queue' tail from) (λ k l. Is r end queue'' from' (walk_past k (at limits) ls l (take tail queue') from)) → limits ≡ replicate GATEWAYS 0

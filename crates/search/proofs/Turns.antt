@@ -7,7 +7,7 @@ use native.Mathlib.Numerals.{add-one}
 use native.Mathlib.Omega.{arith}
 use lib.ListN.{length, take}
 use lib.Seq.{length-take-le, get_or-take}
-use Rattle.packing.specs.Plant.{GATEWAYS, at, neighbours}
+use Rattle.packing.specs.Plant.{at, neighbours}
 use Rattle.search.specs.Search.{more, visit, turns}
 use Rattle.std.specs.declared.ops.ControlFlow.TheVariants.{Break, Continue}
 use Rattle.search.specs.Dead.{walk_past}
@@ -36,10 +36,6 @@ module _
     module _ {queue from : List ℕ} {end head : ℕ} (v : Walking limit ls rows queue₀ tail from₀ queue from end head) (l : head < end) where
       long : length (take end queue) ≡ end
       long = length-take-le end queue v.within
-
-      -- no more are queued than there are gateways
-      pub walk-below : head < GATEWAYS
-      walk-below = let w = v.each some.n some.hs some.table some.has in omega (arith, long, w.going.room, w.going.few)
 
       here : at (take end queue) head ≡ at queue head
       here = get_or-take end queue head 0 l

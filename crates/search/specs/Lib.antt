@@ -12,6 +12,5 @@ pub mod ReachedPre
 pub mod Dead
 pub mod Noted
 pub mod RowPre
-pub mod Listed
 pub mod Work
 pub mod Held

@@ -11,6 +11,7 @@ use crate::start::queue_unheld;
 use crate::walk::walk;
 use crate::work::Work;
 
+// The lists to work in stand apart: a Work is made of them here.
 // Writes the choke bytes with the rows of the holders, and a queue and marks of nobody to work in.
 pub fn write_set(
     links: &Links,
@@ -50,7 +51,7 @@ fn is_chokeable(n: u16, holders: &[u16], room: usize) -> bool
     sound::held::is_searchable(n, holders) && (n as usize) <= room
 }
 
-// Writes the choke bytes to the first n places of out, and answers whether they may be written; if not, nothing is changed.
+// Writes the choke bytes to the first n places of out, and answers whether they may be written; if not, nothing is changed. A bool: there is no value to hand back, and the definition is the test (`chokeable`).
 // The equation shuts out, for one, the set seen from the first gateway without holder alone; and a walk that stops at a gateway with a place free.
 pub fn choke_set(links: &Links, holders: &[u16], out: &mut [u8]) -> bool
     ensures done { result ≡ chokeable links.now.n holders.now (length out.old) }

@@ -54,7 +54,7 @@ pub fn has_place(row: &[u16], limit: u8) -> bool
     limit != 0 && number(row, (limit - 1) as usize) == lists::NONE
 }
 
-// What stands in the row joins the queue, in its turn. Returns how many are queued then.
+// What stands in the row joins the queue, in its turn. Returns how many are queued then. Fixed memory, no heap: the queue is a lent list with a length beside.
 pub(crate) fn join(row: &[u16], queue: &mut [u16], tail: usize) -> usize
     requires { Joinable row.now queue.old tail }
     ensures { Joined row.now queue.old queue.new tail result }
@@ -106,7 +106,7 @@ fn push(row: &mut [u16], place: usize, x: u16, y: u16)
     }
 }
 
-// x leaves a row and y joins it, in one pass: a shift does both to each row that it comes to but the first, which has a place free.
+// x leaves a row and y joins it, in one pass: a shift does both to each row that it comes to but the first, which has a place free. No method of the library: it stops at the one or the other, and what is done differs.
 fn exchange(row: &mut [u16], x: u16, y: u16)
     ensures { row.new ≡ exchanged x y row.old }
 {

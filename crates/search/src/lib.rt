@@ -4,7 +4,6 @@
 pub mod bytes;
 pub mod choke;
 pub mod held;
-mod listed;
 mod noted;
 pub mod past;
 pub mod plant;

@@ -16,7 +16,7 @@ pub(crate) fn take_back(noted: &[u16], from: &mut [u16])
     requires { AllMarked noted.now from.old }
     ensures { from.new ≡ taken_back (length noted.now) noted.now from.old }
 {
-    for i in (0..noted.len()).rev() {
-        unmark(noted[i], from);
+    for u in noted.iter().rev() {
+        unmark(*u, from);
     }
 }

@@ -13,6 +13,8 @@ use crate::plant::Plant;
 use crate::work::Work;
 
 // Places v past the dead. Returns how many have another holder afterwards. Where v is left, all that the search saw are dead too; where it is kept, the marks of the search are taken back.
+// No Option: 02's number (change 4, "0 for one left"), and the clause moved says it of both cases at once.
+// queue, dead and looked stand apart: a Work is made of them here.
 pub fn place_past(
     plant: &Plant,
     v: u16,

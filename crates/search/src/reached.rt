@@ -6,10 +6,10 @@ ghost use Rattle.search.specs.Reached.{queued_from, seen_from, set_written, reac
 ghost use Rattle.search.specs.ReachedPre.{Unmarked, Marked, joined, Sets};
 
 use crate::held::{empty_rows, gather};
-use crate::listed::write_them;
 use crate::plant::{Links, Plant};
 use crate::walk::walk;
 use crate::work::Work;
+use lists::listed::write_them;
 
 /// How many gateways each of the two sets has.
 #[derive(Clone, Copy, Debug, PartialEq, Eq)]
@@ -60,6 +60,7 @@ fn is_joined(n: u16, v: u16, holders: &[u16], from: &[u16], x: u16) -> bool
 }
 
 // Writes both sets with marks of nobody to work in.
+// The two sets stand apart: of a struct that lends both the clauses would have to say besides that no other lists are put into it.
 fn write_sets(
     links: &Links,
     v: u16,

@@ -32,6 +32,7 @@ fn take_for(x: u16, gone: u16, u: u16, held: &mut Held) -> u16
 }
 
 // Returns how many were taken. The first taker lets nobody go, and v, the last that is taken, was in nobody's row.
+// v, u and x are no group: v is for whom the search was, and u the first to take, x.
 pub(crate) fn shift_back(n: u16, v: u16, u: u16, x: u16, from: &[u16], held: &mut Held) -> u16
     ensures holders { held.new.holders.now ≡ shift n v from.now u x held.old.holders.now }
     ensures count { result ≡ takings n v from.now u x held.old.holders.now }

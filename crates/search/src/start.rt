@@ -2,7 +2,7 @@
 ghost use Rattle.packing.specs.Lists.{Lent};
 ghost use Rattle.search.specs.ChokePre.{Queued};
 
-use crate::listed::write_them;
+use lists::listed::write_them;
 
 // Queues all gateways without holder, ascending. Returns how many are queued.
 pub(crate) fn queue_unheld(n: u16, holders: &[u16], queue: &mut [u16]) -> usize

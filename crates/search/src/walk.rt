@@ -10,6 +10,7 @@ ghost use Rattle.search.specs.Pre.{ForEach, ForSome, Is, Ready, Walkable};
 use crate::held::{Row, has_place, join};
 use crate::plant::Plant;
 use crate::work::Work;
+use chains::chain::Chain;
 use std::ops::ControlFlow;
 
 // Looks at u, a gateway, from x. If it marks u, u is noted.
@@ -32,18 +33,20 @@ fn look(plant: &Plant, x: u16, u: u16, rows: &[Row], work: &mut Work) -> Control
     ControlFlow::Continue(())
 }
 
-// Goes through x's links in order of arrival, along its chain. It is no `for`: each end says where the next is.
+// Goes through x's links in order of arrival, along its chain.
 fn visit(plant: &Plant, x: u16, rows: &[Row], work: &mut Work) -> ControlFlow<(u16, u16)>
     requires { (length work.old.from.now ≡ plant.now.links.n) × ForSome rows.now (λ n hs. Ready n x hs work.old.queue.now work.old.tail work.old.from.now) }
     ensures state { ForEach rows.now (λ n hs. Ready n x hs work.old.queue.now work.old.tail work.old.from.now) (λ n hs. Is result work.new.tail work.new.queue.now work.new.from.now (model.visit n (at plant.now.limits.now) hs x (neighbours plant.now.links.ends.now x) (more (take work.old.tail work.old.queue.now) work.old.from.now))) }
     ensures marks { SameBack work.old work.new }
     ensures same { SameLists work.old work.new }
 {
-    let mut e = chains::first_end(plant.links.next, x);
-    while e != lists::NONE {
-        let u = chains::neighbour_at(plant.links.ends, e);
+    let end = chains::first_end(plant.links.next, x);
+    for u in (Chain {
+        links: plant.links.ends,
+        next: plant.links.next,
+        end,
+    }) {
         look(plant, x, u, rows, work)?;
-        e = chains::next_end(plant.links.next, e);
     }
     ControlFlow::Continue(())
 }

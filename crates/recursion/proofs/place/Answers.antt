@@ -17,7 +17,7 @@ gather-requires c = c.empty_rows-rows.ensures
 pub place_kept-requires : goal.place_kept-requires
 place_kept-requires c =
     let free = place-free _ _ _ c.is_placeable.ensures (ap not c.if-not-is_placeable.false) in
-    record { free = free; index = c.requires; table = rows_whole free.few c.gather.ensures }
+    record { free = free; table = rows_whole free.few c.gather.ensures }
 
 pub returns : goal.returns
 unfolding recursive_after recursive_moved

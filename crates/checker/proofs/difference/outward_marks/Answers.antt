@@ -11,7 +11,7 @@ loop-a-init c = pass_start _ _ _ (all-zero refl)
 
 pub loop-a-preserved : goal.loop-a-preserved
 loop-a-preserved c =
-    outward-turn _ _ _ _ _ c.loop-a.invariant c.as_chunks.ensures.front (omega (arith, c.as_chunks.ensures.front_len, c.loop-a-test.true)) c.is_outside.ensures c.mark_if.ensures c.is_outside-in-loop-a.ensures c.mark_if-in-loop-a.ensures
+    outward-turn _ _ _ _ c.loop-a.invariant c.as_chunks.ensures.front c.as_chunks.ensures.front_len c.loop-a-test.true c.is_outside.ensures c.mark_if.ensures c.is_outside-in-loop-a.ensures c.mark_if-in-loop-a.ensures
 
 pub returns : goal.returns
 unfolding outward_marks

@@ -1,8 +1,15 @@
 use Rattle.std.proofs.Common.{rules}
+use Rattle.lists.proofs.Listing.{room_for}
 use Rattle.search.specs.Search.{seen}
 use Rattle.search.specs.ReachedPre.{joined}
 use Rattle.search.proofs.ReachedTests.{sets_written}
 use Rattle.search.proofs.reached.write_sets.Goals as goal
+
+pub write_them-first-requires-clause-room : goal.write_them-first-requires-clause-room
+write_them-first-requires-clause-room c = room_for (joined c.args.links.now.n c.args.holders.now c.args.v c.walk_from.new.from) (λ u b l e. search rules) (search rules)
+
+pub write_them-second-requires-clause-room : goal.write_them-second-requires-clause-room
+write_them-second-requires-clause-room c = room_for (seen c.walk_from.new.from) (λ u b l e. search rules) (search rules)
 
 pub returns : goal.returns
 returns c =
