@@ -5,6 +5,7 @@ pub mod ToldByFile
 pub mod After
 pub mod FileMoves
 pub mod NextPlacing
+pub mod LentWork
 pub mod PlacingLoop
 pub mod Asking
 pub mod ReadingLists

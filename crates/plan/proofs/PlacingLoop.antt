@@ -8,7 +8,8 @@ use native.Mathlib.Nat.{not-suc-le-zero, le_antisymm}
 use native.Mathlib.Numerals.{add-one}
 use native.Mathlib.Omega.{arith}
 use lib.Dec.{eqb}
-use lib.ListN.{length, replicate}
+use lib.ListN.{length, replicate, take}
+use Rattle.std.proofs.lemmas.List.{length-take-le, get_or-take}
 use borrow.Author.Tests.{eqb-true, eq-eqb}
 use Rattle.packing.specs.Plant.{NONE, at, linked}
 use Rattle.packing.specs.Holders.{held, Feasible}
@@ -32,6 +33,8 @@ use Rattle.plant_file.proofs.Accepted.{file_allowed}
 use Rattle.plant_file.proofs.GatewayLimits.{limits_in_range}
 use Rattle.plan.specs.Plan.{state_by, file_moves_by}
 use Rattle.plan.specs.Claim.{MovesFit}
+use Rattle.plan.specs.declared.work.Work.{Work}
+use Rattle.plan.specs.Work.{AsLong}
 use Rattle.plan.specs.Pre.{is_queued, DeadBy, Loaded, Placings, DeadChoke}
 use Rattle.plan.proofs.FileMoves.{file_moves_fit}
 use Rattle.plan.proofs.NextPlacing.{first-moves, placing_placeable, placing_next, placing_feasible, placing_moves_lem, placing_none}
@@ -45,14 +48,14 @@ pub record LeftSoFar (w : Way) (file : List ℕ) (j : ℕ) (limit : ℕ → ℕ)
   pub nobody : is_queued w ≡ false → dead ≡ replicate (file_n file) NONE
 
 -- the first j are placed
-pub record Placed (w : Way) (file : List ℕ) (k : ℕ) (ls ts hs₀ : List ℕ) (rows₀ : List (List ℕ)) (queue₀ dead₀ looked₀ hs : List ℕ) (rows : List (List ℕ)) (queue dead looked : List ℕ) (total j : ℕ) : Type 0 where
+pub record Placed (w : Way) (file : List ℕ) (k : ℕ) (ls ts : List ℕ) (work : Work) (total j : ℕ) : Type 0 where
   pub upto : j ≤ k
-  pub holders : hs ≡ (state_by w file j).holders
-  pub table : RowsOf (file_n file) hs rows
-  pub wide : length rows ≡ length rows₀
-  pub long : (length hs ≡ length hs₀) × (length queue ≡ length queue₀) × (length dead ≡ length dead₀) × (length looked ≡ length looked₀)
+  pub holders : work.held.holders.now ≡ (state_by w file j).holders
+  pub table : RowsOf (file_n file) work.held.holders.now work.held.rows.now
+  pub places : file_n file ≤ length work.queue.now
+  pub room : file_n file ≤ length work.looked.now
   pub moves : total ≡ file_moves_by w file j
-  pub so_far : LeftSoFar w file j (at ts) ls hs dead
+  pub so_far : LeftSoFar w file j (at ts) ls work.held.holders.now work.dead.now
 
 -- What the short search leaves.
 pub one_kept : {n : ℕ} {limit : ℕ → ℕ} {ls hs : List ℕ} {v : ℕ} {rows : List (List ℕ)} {queue dead looked : List ℕ} → Past n limit ls hs v rows queue dead looked → {hs' new : List ℕ} {r number : ℕ} {rows' : List (List ℕ)}
@@ -83,28 +86,39 @@ left-nobody w file j limit ls hs none first =
     }
 
 module _
-    (w : Way) (file : List ℕ) (k : ℕ) {ls next os ts : List ℕ} (given : Loaded file ls next os ts) {hs₀ : List ℕ} {rows₀ : List (List ℕ)} {queue₀ dead₀ looked₀ : List ℕ}
-    (p : Placings w file k hs₀ rows₀ queue₀ dead₀ looked₀)
+    (w : Way) (file : List ℕ) (k : ℕ) {ls next os ts : List ℕ} (given : Loaded file ls next os ts) {begun : Work} (p : Placings w file k begun)
   where
     z : file_refusal file ≡ 0
     z = given.accepted
 
-    pub placed-start : Placed w file k ls ts hs₀ rows₀ queue₀ dead₀ looked₀ hs₀ rows₀ queue₀ dead₀ looked₀ 0 0
+    -- the loop goes over the first k of the order
+    pub order-taken : length (take k os) ≡ k
+    order-taken = length-take-le k os (omega (arith, p.within, given.order-long))
+
+    pub order-entry : (j : ℕ) → j < length (take k os) → at (take k os) j ≡ at os j
+    order-entry j l = get_or-take k os j 0 (rw order-taken at l)
+
+    pub placed-start : Placed w file k ls ts begun 0 0
     placed-start =
         record {
           upto = omega arith;
           holders = p.first;
           table = p.table;
-          wide = refl;
-          long = (refl, refl, refl, refl);
+          places = p.places;
+          room = p.room;
           moves = sym (first-moves file z w);
-          so_far = left-nobody w file 0 (at ts) ls hs₀ p.none (λ _. refl);
+          so_far = left-nobody w file 0 (at ts) ls begun.held.holders.now p.none (λ _. refl);
         }
 
     module _
-        {hs : List ℕ} {rows : List (List ℕ)} {queue dead looked : List ℕ} {total j v : ℕ}
-        (now : Placed w file k ls ts hs₀ rows₀ queue₀ dead₀ looked₀ hs rows queue dead looked total j) (l : j < k) (is : v ≡ at os j)
+        {work : Work} {total j v : ℕ} (now : Placed w file k ls ts work total j) (l : j < k) (is : v ≡ at os j)
       where
+        abbrev hs : List ℕ
+        hs = work.held.holders.now
+
+        abbrev dead : List ℕ
+        dead = work.dead.now
+
         below : j < file_n file
         below = omega (arith, p.within)
 
@@ -123,7 +137,7 @@ module _
             not_test (now.so_far.left v)
             (λ e. let (i, less, same) = now.so_far.early v free.inside e in omega (arith, less, (file_allowed file z).order.once i j (omega (arith, below, less)) below (same ∙ is_v)))
 
-        past : Past (file_n file) (at ts) ls hs v rows queue dead looked
+        past : Past (file_n file) (at ts) ls hs v work.held.rows.now work.queue.now dead work.looked.now
         unfolding LimitsInRange
         past =
             record {
@@ -132,8 +146,8 @@ module _
               feasible = feasible;
               fits = λ u q. rw (given.limits u q) (limits_in_range file z u q).1;
               table = now.table;
-              places = omega (arith, now.long.1, p.places);
-              room = omega (arith, now.long.3, p.room);
+              places = now.places;
+              room = now.room;
               left = now.so_far.left;
               new = new;
               pair = now.so_far.pair;
@@ -187,20 +201,17 @@ module _
             by_bool (is_queued w) (λ q. left-more q (dead_queued (file_n file) (at ts) ls hs v dead after dead' w q m))
             (λ q. left-nobody w file (j + 1) (at ts) ls after (dead_recursive (file_n file) (at ts) ls hs v dead after dead' w q m ∙ now.so_far.nobody q) (λ r. clash (is_queued w) r q))
 
-        pub placed-place : j < length os
-        placed-place = omega (arith, below, given.order-long)
-
-        pub placed_past : {n : ℕ} → n ≡ file_n file → Past n (at ts) ls hs v rows queue dead looked
-        placed_past e = subst (λ (n : ℕ). Past n (at ts) ls hs v rows queue dead looked) (sym e) past
+        pub placed_past : {n : ℕ} → n ≡ file_n file → Past n (at ts) ls hs v work.held.rows.now work.queue.now dead work.looked.now
+        placed_past e = subst (λ (n : ℕ). Past n (at ts) ls hs v work.held.rows.now work.queue.now dead work.looked.now) (sym e) past
 
         -- what place_one leaves
         module _
-            {n r : ℕ} {hs' : List ℕ} {rows' : List (List ℕ)} (dead' : List ℕ) (e : n ≡ file_n file)
-            (d : (hs' ≡ placed_by w n (at ts) ls hs v)
+            {n r : ℕ} (work' : Work) (e : n ≡ file_n file)
+            (d : (work'.held.holders.now ≡ placed_by w n (at ts) ls hs v)
             × ((r ≡ moved n (at hs) (at (placed_by w n (at ts) ls hs v)))
-            × (RowsOf n (placed_by w n (at ts) ls hs v) rows' × DeadBy w n (at ts) ls hs v dead (placed_by w n (at ts) ls hs v) dead')))
+            × (RowsOf n (placed_by w n (at ts) ls hs v) work'.held.rows.now × DeadBy w n (at ts) ls hs v dead (placed_by w n (at ts) ls hs v) work'.dead.now)))
           where
-            left_then_lem : (hs' ≡ after) × ((r ≡ moved (file_n file) (at hs) (at after)) × (RowsOf (file_n file) after rows' × DeadBy w (file_n file) (at ts) ls hs v dead after dead'))
+            left_then_lem : (work'.held.holders.now ≡ after) × ((r ≡ moved (file_n file) (at hs) (at after)) × (RowsOf (file_n file) after work'.held.rows.now × DeadBy w (file_n file) (at ts) ls hs v dead after work'.dead.now))
             left_then_lem = rw e at d
 
             moves_next : total + r ≡ file_moves_by w file (j + 1)
@@ -213,31 +224,27 @@ module _
             unfolding MovesFit
             placed-fits = rw moves_next (file_moves_fit w file (j + 1))
 
-            pub placed-turn : (queue' looked' : List ℕ) → length rows' ≡ length rows → (length hs' ≡ length hs) × (length queue' ≡ length queue) × (length dead' ≡ length dead) × (length looked' ≡ length looked)
-                → Placed w file k ls ts hs₀ rows₀ queue₀ dead₀ looked₀ hs' rows' queue' dead' looked' (total + r) (j + 1)
-            placed-turn queue' looked' same long =
+            pub placed-turn : AsLong work work' → Placed w file k ls ts work' (total + r) (j + 1)
+            placed-turn long =
                 record {
                   upto = omega arith;
                   holders = left_then_lem.0 ∙ after_is;
-                  table = subst (λ (l : List ℕ). RowsOf (file_n file) l rows') (sym left_then_lem.0) left_then_lem.1.1.0;
-                  wide = same ∙ now.wide;
-                  long = (long.0 ∙ now.long.0, long.1 ∙ now.long.1, long.2 ∙ now.long.2, long.3 ∙ now.long.3);
+                  table = subst (λ (l : List ℕ). RowsOf (file_n file) l work'.held.rows.now) (sym left_then_lem.0) left_then_lem.1.1.0;
+                  places = omega (arith, long.places, now.places);
+                  room = omega (arith, long.notes, now.room);
                   moves = moves_next;
-                  so_far = subst (λ (l : List ℕ). LeftSoFar w file (j + 1) (at ts) ls l dead') (sym left_then_lem.0) (dead_next dead' left_then_lem.1.1.1);
+                  so_far = subst (λ (l : List ℕ). LeftSoFar w file (j + 1) (at ts) ls l work'.dead.now) (sym left_then_lem.0) (dead_next work'.dead.now left_then_lem.1.1.1);
                 }
 
-    pub placed_end : {hs : List ℕ} {rows : List (List ℕ)} {queue dead looked : List ℕ} {total j : ℕ} → Placed w file k ls ts hs₀ rows₀ queue₀ dead₀ looked₀ hs rows queue dead looked total j → k ≤ j
-        → (hs ≡ (state_by w file k).holders) × (RowsOf (file_n file) (state_by w file k).holders rows × ((total ≡ file_moves_by w file k) × DeadChoke w file k dead))
-    placed_end {hs} {rows} {dead = dead} {j = j} now l =
-        let end : j ≡ k = le_antisymm now.upto l in
-        let made : hs ≡ (state_by w file k).holders = now.holders ∙ ap (λ (i : ℕ). (state_by w file i).holders) end in
-        (made, (subst (λ (l : List ℕ). RowsOf (file_n file) l rows) made now.table, (now.moves ∙ ap (file_moves_by w file) end, chosen end)))
+    -- in the end the marks are the choke set
+    pub placed_end : {work : Work} {total j : ℕ} → Placed w file k ls ts work total j → k ≤ j → DeadChoke w file k work.dead.now
+    placed_end {work} {j = j} now l q all =
+        (now.so_far.pair.marks, λ u b. dead_choke now.so_far.pair (file_allowed file z).few every u b ∙ ap (λ (l : List ℕ). in_choke (file_n file) l work.held.holders.now u) given.links ∙ ap (λ (l : List ℕ). in_choke (file_n file) (file_links file) l u) (now.holders ∙ ap (λ (i : ℕ). (state_by w file i).holders) end))
       where
-        every : j ≡ k → k ≡ file_n file → is_queued w ≡ true → (x : ℕ) → x < file_n file → held (file_n file) (at hs) x ≡ false → now.so_far.left x ≡ true
-        every end all q x b e =
-            let (i, less, same) = order-place (file_allowed file z).order x b in
-            subst (λ (y : ℕ). now.so_far.left y ≡ true) same (now.so_far.all q i (omega (arith, end, all, less)) (subst (λ (y : ℕ). held (file_n file) (at hs) y ≡ false) (sym same) e))
+        end : j ≡ k
+        end = le_antisymm now.upto l
 
-        chosen : j ≡ k → DeadChoke w file k dead
-        chosen end q all =
-            (now.so_far.pair.marks, λ u b. dead_choke now.so_far.pair (file_allowed file z).few (every end all q) u b ∙ ap (λ (l : List ℕ). in_choke (file_n file) l hs u) given.links ∙ ap (λ (l : List ℕ). in_choke (file_n file) (file_links file) l u) (now.holders ∙ ap (λ (i : ℕ). (state_by w file i).holders) end))
+        every : (x : ℕ) → x < file_n file → held (file_n file) (at work.held.holders.now) x ≡ false → now.so_far.left x ≡ true
+        every x b e =
+            let (i, less, same) = order-place (file_allowed file z).order x b in
+            subst (λ (y : ℕ). now.so_far.left y ≡ true) same (now.so_far.all q i (omega (arith, end, all, less)) (subst (λ (y : ℕ). held (file_n file) (at work.held.holders.now) y ≡ false) (sym same) e))

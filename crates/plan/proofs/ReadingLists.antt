@@ -15,7 +15,6 @@ use Rattle.chains.proofs.LinkMore.{index_for}
 use Rattle.search.specs.Search.{seen}
 use Rattle.search.specs.ChokeSet.{in_choke, choke_byte}
 use Rattle.search.specs.ChokePre.{seen_byte, Workable}
-use Rattle.search.specs.RowPre.{RowsOf}
 use Rattle.search.proofs.Rows.{take-replicate, rows_none}
 use Rattle.search.proofs.Settling.{marks-room, place-marks}
 use Rattle.stars.specs.Stars.{leader_list, leaders_written}
@@ -39,7 +38,8 @@ use Rattle.refusal.specs.declared.Refusal.{Refusal}
 use Rattle.refusal.specs.Refusals.{code}
 use Rattle.plan.specs.Plan.{state_by, file_state}
 use Rattle.plan.specs.After.{plan_after_refusal}
-use Rattle.plan.specs.Pre.{is_queued, Loaded, Placings, DeadChoke, NobodyIn, Making, Choking, Readable}
+use Rattle.plan.specs.declared.work.Work.{Work}
+use Rattle.plan.specs.Pre.{is_queued, Loaded, Placings, NobodyIn, Making, Choking, Readable}
 use Rattle.plan.proofs.Refusing.{plan-places}
 use Rattle.plan.proofs.After.{reads, file_agrees}
 use Rattle.plan.proofs.Asking.{state_sound, file_ends}
@@ -53,49 +53,36 @@ module _ (file : List ℕ) {ls next os ts : List ℕ} (l : Loaded file ls next o
   pub lent-marks : {n : ℕ} {all : List ℕ} → n ≡ file_n file → all ≡ replicate GATEWAYS NONE → (n ≤ length all) × (n ≡ length (take n all))
   lent-marks e none = rw e (marks-room none few, place-marks none few)
 
-  -- the rows of a plant of no more than c gateways, and of any
-  pub lent_rows : {n : ℕ} (c : ℕ) {rows : List (List ℕ)} → n ≡ file_n file → n ≤ c → c ≤ GATEWAYS → rows ≡ replicate c (replicate HIGHEST NONE) → NobodyIn (file_n file) rows
-  lent_rows c e wide most is = rw is (record { wide = rw (length-replicate, ← e) wide; most = rw length-replicate most; empty = ap (λ (k : ℕ). replicate k (replicate HIGHEST NONE)) (sym (length-replicate c (replicate HIGHEST NONE))) })
+  pub lent_rows : {rows : List (List ℕ)} → rows ≡ replicate GATEWAYS (replicate HIGHEST NONE) → NobodyIn (file_n file) rows
+  lent_rows is = rw is (record { wide = rw length-replicate few; most = rw length-replicate (omega arith); empty = ap (λ (k : ℕ). replicate k (replicate HIGHEST NONE)) (sym (length-replicate GATEWAYS (replicate HIGHEST NONE))) })
 
-  pub lent_all_rows : {rows : List (List ℕ)} → rows ≡ replicate GATEWAYS (replicate HIGHEST NONE) → NobodyIn (file_n file) rows
-  lent_all_rows is = lent_rows GATEWAYS refl few (omega arith) is
-
-  pub lent_making : {k n : ℕ} {rows : List (List ℕ)} {hs queue all looked : List ℕ} → k ≤ file_n file → n ≡ file_n file → NobodyIn (file_n file) rows → hs ≡ replicate GATEWAYS 0 → queue ≡ replicate GATEWAYS 0
-      → all ≡ replicate GATEWAYS NONE → looked ≡ replicate GATEWAYS 0 → Making file k rows hs queue (take n all) looked
+  pub lent_making : {k n : ℕ} {work : Work} → k ≤ file_n file → n ≡ file_n file → NobodyIn (file_n file) work.held.rows.now → work.held.holders.now ≡ replicate GATEWAYS 0 → work.queue.now ≡ replicate GATEWAYS 0
+      → work.dead.now ≡ take n (replicate GATEWAYS NONE) → work.looked.now ≡ replicate GATEWAYS 0 → Making file k work
   lent_making within e nobody zeros zeros₂ none zeros₃ =
       record {
         within = within;
         nobody = nobody;
         zeros = zeros;
         places = rw (zeros₂, length-replicate) few;
-        none = rw (e, none) (take-replicate (file_n file) GATEWAYS NONE few);
+        none = (rw e at none) ∙ take-replicate (file_n file) GATEWAYS NONE few;
         room = rw (zeros₃, length-replicate) few;
       }
 
 -- nobody is held yet
 module _
-    (w : Way) (file : List ℕ) (k : ℕ) {ls next os ts : List ℕ} (given : Loaded file ls next os ts) {rows : List (List ℕ)} {hs queue dead looked : List ℕ} (m : Making file k rows hs queue dead looked)
+    (w : Way) (file : List ℕ) (k : ℕ) {ls next os ts : List ℕ} (given : Loaded file ls next os ts) {work : Work} (m : Making file k work)
   where
-    pub making_room : {n : ℕ} → n ≡ file_n file → n ≤ length hs
-    making_room e = rw (e, m.zeros, length-replicate) (few file given)
-
-    pub making_placings : {n : ℕ} {hs' : List ℕ} → n ≡ file_n file → hs' ≡ written n (replicate n NONE) hs → Placings w file k hs' rows queue dead looked
-    making_placings {n} {hs'} e held =
+    pub making_placings : {n : ℕ} {work' : Work} → n ≡ file_n file → work'.held.holders.now ≡ written n (replicate n NONE) work.held.holders.now → work'.held.rows.now ≡ work.held.rows.now
+        → (work'.queue.now ≡ work.queue.now) × (work'.dead.now ≡ work.dead.now) × (work'.looked.now ≡ work.looked.now) → Placings w file k work'
+    making_placings {n} {work'} e held rows (queue, dead, looked) =
         record {
           within = m.within;
           first = held ∙ rw (e, m.zeros) (sym (first-holders file given.accepted w));
-          table = rows_none (file_n file) hs' (length rows) m.nobody.wide m.nobody.most (λ v l. ap (λ (k : List ℕ). at k v) held ∙ rw e (repeated_at (file_n file) NONE hs v l)) m.nobody.empty;
-          places = m.places;
-          none = m.none;
-          room = m.room;
+          table = rw rows (rows_none (file_n file) work'.held.holders.now (length work.held.rows.now) m.nobody.wide m.nobody.most (λ v l. ap (λ (k : List ℕ). at k v) held ∙ rw e (repeated_at (file_n file) NONE work.held.holders.now v l)) m.nobody.empty);
+          places = rw queue m.places;
+          none = dead ∙ m.none;
+          room = rw looked m.room;
         }
-
-    -- the lists keep their lengths
-    pub making_places : {l : ℕ} → l ≡ length queue → file_n file ≤ l
-    making_places e = omega (arith, e, m.places)
-
-    pub making_long : {l : ℕ} → l ≡ length dead → l ≡ file_n file
-    making_long e = e ∙ rw m.none (length-replicate (file_n file) NONE)
 
 -- a search may be made with the holders of the record made
 made-searchable : (w : Way) (file : List ℕ) (k : ℕ) → file_refusal file ≡ 0 → k ≤ file_n file → Searchable (file_n file) (state_by w file k).holders
@@ -106,15 +93,18 @@ made-searchable w file k z within =
 
 -- the choke bytes: by the marks, and by the walk of its own
 module _
-    (w : Way) (file : List ℕ) (k : ℕ) {ls next os ts : List ℕ} (given : Loaded file ls next os ts) {rows : List (List ℕ)} {hs queue dead choke : List ℕ} (c : Choking w file k rows hs queue dead choke)
+    (w : Way) (file : List ℕ) (k : ℕ) {ls next os ts : List ℕ} (given : Loaded file ls next os ts) {work : Work} {choke : List ℕ} (c : Choking w file k work choke)
   where
+    abbrev hs : List ℕ
+    hs = work.held.holders.now
+
+    abbrev dead : List ℕ
+    dead = work.dead.now
+
     module _ (queued : w ≡ Queued) {n : ℕ} (e : n ≡ file_n file) (every : k ≡ n) where
       marked : (length dead ≡ file_n file) × ((u : ℕ) → u < file_n file → seen dead u ≡ in_choke (file_n file) (file_links file) (state_by w file k).holders u)
       unfolding is_queued
       marked = c.dead_choke (rw queued refl) (every ∙ e)
-
-      pub choking_room : length dead ≤ length choke
-      choking_room = omega (arith, marked.0, c.room)
 
       pub choking_marked : {choke' : List ℕ} → choke' ≡ written (length dead) (list_of (length dead) (seen_byte dead)) choke
           → choke' ≡ written (file_n file) (list_of (file_n file) (choke_byte (file_n file) (file_links file) (state_by w file k).holders)) choke
@@ -124,10 +114,7 @@ module _
     made_may : Searchable (file_n file) (state_by w file k).holders
     made_may = made-searchable w file k given.accepted c.within
 
-    pub choking_marks : {n : ℕ} → n ≡ file_n file → n ≤ length dead
-    choking_marks e = omega (arith, e, c.marks)
-
-    pub choking_works : {n : ℕ} {dead' : List ℕ} → n ≡ file_n file → dead' ≡ written n (replicate n NONE) dead → Workable n rows hs queue dead' choke
+    pub choking_works : {n : ℕ} {dead' : List ℕ} → n ≡ file_n file → dead' ≡ written n (replicate n NONE) dead → Workable n work.held.rows.now hs work.queue.now dead' choke
     choking_works {n} {dead'} e f =
         rw e
         (record {
@@ -136,21 +123,12 @@ module _
           space = record { places = c.places; unseen = (rw e at f) ∙ written-whole (file_n file) (replicate (file_n file) NONE) dead (length-replicate (file_n file) NONE) (omega (arith, c.marks)) };
         })
 
-    pub choking_walked : {n : ℕ} {choke' : List ℕ} → n ≡ file_n file → choke' ≡ written n (list_of n (choke_byte n ls hs)) choke
-        → choke' ≡ written (file_n file) (list_of (file_n file) (choke_byte (file_n file) (file_links file) (state_by w file k).holders)) choke
-    choking_walked e f = rw (e, given.links, c.made) at f
-
 -- the plan of the lists
 module _ (w : Way) (file : List ℕ) (k : ℕ) {ls next os ts : List ℕ} (given : Loaded file ls next os ts) {leaders choke : List ℕ} (r : Readable file k leaders choke) where
   accepted : file_refusal file ≡ 0
   accepted = given.accepted
 
   module _ {n : ℕ} {hs : List ℕ} (e : n ≡ file_n file) (made : hs ≡ (state_by w file k).holders) where
-    pub reading_choking : {rows : List (List ℕ)} {queue dead : List ℕ} → RowsOf (file_n file) (state_by w file k).holders rows → file_n file ≤ length queue → length dead ≡ file_n file → DeadChoke w file k dead
-        → Choking w file k rows hs queue dead choke
-    reading_choking table places marks d =
-        record { within = r.within; made = made; table = rw made table; places = places; marks = marks; dead_choke = d; room = r.room₂ }
-
     pub reading_leaders : {leaders' : List ℕ} → leaders' ≡ leaders_written n os hs leaders → leaders' ≡ read_leaders (state_by w file k) leaders choke
     unfolding read_leaders
     reading_leaders {leaders'} f =

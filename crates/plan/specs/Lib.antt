@@ -6,3 +6,4 @@ pub mod Turns
 pub mod Pre
 pub mod Claim
 pub mod VersionOne
+pub mod Work

@@ -10,6 +10,7 @@ use Rattle.planner.specs.declared.Way.{Way}
 use Rattle.planner.specs.declared.Way.TheVariants.{Queued, Recursive}
 use Rattle.plant_file.specs.PlantFile.{file_n, file_links, file_order, file_limit, file_refusal}
 use Rattle.plan.specs.Plan.{state_by}
+use Rattle.plan.specs.declared.work.Work.{Work}
 
 -- the way is 01's search
 unfoldable pub is_queued : Way → Bool
@@ -32,13 +33,13 @@ pub record Loaded (file ls next os ts : List ℕ) : Type 0 where
   pub limits : (u : ℕ) → u < file_n file → at ts u ≡ file_limit file u
 
 -- what k placings of such a file work on: holders of which none is one, their rows, a queue, marks of nobody, and room to note whom a search marks
-pub record Placings (w : Way) (file : List ℕ) (k : ℕ) (hs : List ℕ) (rows : List (List ℕ)) (queue dead looked : List ℕ) : Type 0 where
+pub record Placings (w : Way) (file : List ℕ) (k : ℕ) (work : Work) : Type 0 where
   pub within : k ≤ file_n file
-  pub first : hs ≡ (state_by w file 0).holders
-  pub table : RowsOf (file_n file) hs rows
-  pub places : file_n file ≤ length queue
-  pub none : dead ≡ replicate (file_n file) NONE
-  pub room : file_n file ≤ length looked
+  pub first : work.held.holders.now ≡ (state_by w file 0).holders
+  pub table : RowsOf (file_n file) work.held.holders.now work.held.rows.now
+  pub places : file_n file ≤ length work.queue.now
+  pub none : work.dead.now ≡ replicate (file_n file) NONE
+  pub room : file_n file ≤ length work.looked.now
 
 -- once all are placed by 01's search, those marked are the choke set
 abbrev pub DeadChoke : Way → List ℕ → ℕ → List ℕ → Type 0
@@ -51,22 +52,22 @@ pub record NobodyIn (n : ℕ) (rows : List (List ℕ)) : Type 0 where
   pub empty : rows ≡ replicate (length rows) (replicate HIGHEST NONE)
 
 -- what k placings start from: rows with nobody in them, lists of zeros for the holders, a queue, marks of nobody, and room to note whom a search marks
-pub record Making (file : List ℕ) (k : ℕ) (rows : List (List ℕ)) (hs queue dead looked : List ℕ) : Type 0 where
+pub record Making (file : List ℕ) (k : ℕ) (work : Work) : Type 0 where
   pub within : k ≤ file_n file
-  pub nobody : NobodyIn (file_n file) rows
-  pub zeros : hs ≡ replicate GATEWAYS 0
-  pub places : file_n file ≤ length queue
-  pub none : dead ≡ replicate (file_n file) NONE
-  pub room : file_n file ≤ length looked
+  pub nobody : NobodyIn (file_n file) work.held.rows.now
+  pub zeros : work.held.holders.now ≡ replicate GATEWAYS 0
+  pub places : file_n file ≤ length work.queue.now
+  pub none : work.dead.now ≡ replicate (file_n file) NONE
+  pub room : file_n file ≤ length work.looked.now
 
 -- what the choke bytes are written from
-pub record Choking (w : Way) (file : List ℕ) (k : ℕ) (rows : List (List ℕ)) (hs queue dead choke : List ℕ) : Type 0 where
+pub record Choking (w : Way) (file : List ℕ) (k : ℕ) (work : Work) (choke : List ℕ) : Type 0 where
   pub within : k ≤ file_n file
-  pub made : hs ≡ (state_by w file k).holders
-  pub table : RowsOf (file_n file) hs rows
-  pub places : file_n file ≤ length queue
-  pub marks : length dead ≡ file_n file
-  pub dead_choke : DeadChoke w file k dead
+  pub made : work.held.holders.now ≡ (state_by w file k).holders
+  pub table : RowsOf (file_n file) work.held.holders.now work.held.rows.now
+  pub places : file_n file ≤ length work.queue.now
+  pub marks : length work.dead.now ≡ file_n file
+  pub dead_choke : DeadChoke w file k work.dead.now
   pub room : file_n file ≤ length choke
 
 -- what a plan is written to

@@ -9,53 +9,46 @@ ghost use Rattle.plan.specs.Pre.{Making};
 
 use crate::loaded::LoadedFile;
 use crate::reading::make;
+use crate::wanted::Wanted;
+use crate::work::Work;
 use lists::PLACES;
 use planner::Way;
 use refusal::Refusal;
-use search::held::{Row, empty_rows};
+use search::held::{Held, empty_rows};
 use violator::WhyCounts;
 
 // Makes the holders and asks, with lists to work in.
 fn ask_made(
     loaded: &LoadedFile,
-    rows: &mut [Row],
-    holders: &mut [u16],
-    queue: &mut [u16],
-    dead: &mut [u16],
-    looked: &mut [u16],
+    work: &mut Work,
     gateway: u16,
     first: &mut [u16],
     second: &mut [u16],
 ) -> Result<WhyCounts, Refusal>
-    requires { Making loaded.now.file.now (file_n loaded.now.file.now) rows.old holders.old queue.old dead.old looked.old }
+    requires { Making loaded.now.file.now (file_n loaded.now.file.now) work.old }
     ensures answer { code result ≡ why_refusal (file_state loaded.now.file.now) gateway (length first.old) (length second.old) }
     ensures counts { IfOk result (λ counts. counts ≡ counts_of (why_answer (file_state loaded.now.file.now) gateway (length first.old) (length second.old))) }
     ensures first { first.new ≡ why_first (file_state loaded.now.file.now) gateway first.old second.old }
     ensures second { second.new ≡ why_second (file_state loaded.now.file.now) gateway first.old second.old }
 {
     let n = loaded.plant.links.n;
-    make(
-        loaded,
-        Way::Queued,
-        n as u32,
-        rows,
-        holders,
-        queue,
-        dead,
-        looked,
-    );
+    let wanted = Wanted {
+        way: Way::Queued,
+        placings: n as u32,
+    };
+    make(loaded, wanted, work);
     violator::why_placed(
         &loaded.plant.links,
         n,
         loaded.order,
-        holders,
+        work.held.holders,
         gateway,
         first,
         second,
     )
 }
 
-// .. with lists of its own.
+// .. with lists of its own. reading::read_with makes the same: the arrays live in the function that lends them, so that no one function could make them for both.
 pub(crate) fn ask_whole(
     loaded: &LoadedFile,
     gateway: u16,
@@ -73,15 +66,15 @@ pub(crate) fn ask_whole(
     let mut queue = [0u16; PLACES];
     let mut dead = [lists::NONE; PLACES];
     let mut looked = [0u16; PLACES];
-    ask_made(
-        loaded,
-        &mut rows,
-        &mut holders,
-        &mut queue,
-        &mut dead[..end],
-        &mut looked,
-        gateway,
-        first,
-        second,
-    )
+    let held = Held {
+        rows: &mut rows,
+        holders: &mut holders,
+    };
+    let mut work = Work {
+        held,
+        queue: &mut queue,
+        dead: &mut dead[..end],
+        looked: &mut looked,
+    };
+    ask_made(loaded, &mut work, gateway, first, second)
 }

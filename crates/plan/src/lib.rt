@@ -5,7 +5,9 @@ mod ask;
 mod loaded;
 mod placings;
 mod reading;
+mod wanted;
 pub mod why;
+mod work;
 
 ghost use Rattle.std.specs.Prelude.{◌≡◌, ◌||◌, ltb, length, IfOk};
 ghost use Rattle.packing.specs.Refusals.{refuse};
@@ -15,6 +17,7 @@ ghost use Rattle.plan.specs.Plan.{plan_refusal, plan_leaders, plan_choke};
 ghost use Rattle.plan.specs.After.{after_refusal, plan_after_refusal, plan_moves_by, plan_moves_after, plan_leaders_by, plan_choke_by, plan_leaders_after, plan_choke_after};
 
 use crate::loaded::LoadedFile;
+use crate::wanted::Wanted;
 use planner::Way;
 use refusal::Refusal;
 
@@ -51,28 +54,28 @@ const FEW_LINKS: u16 = 512;
 
 // plan_lists_by, with lists for the file's links and the index of them.
 // The file is gone through once, and leaves its lists and the index of its links; nothing of the record that its calls make is checked again.
+// The file's two lists and the plan's two stand apart: they are lent on to different functions.
 fn plan_with<'a>(
     file: &'a [u8],
-    way: Way,
-    placings: u32,
+    wanted: Wanted,
     links: &'a mut [u16],
     next: &'a mut [u16],
     leaders: &mut [u16],
     choke: &mut [u8],
 ) -> Result<u32, Refusal>
     requires { Unlinked file.now links.old next.old }
-    ensures answer { code result ≡ plan_after_refusal file.now placings (length leaders.old) (length choke.old) }
-    ensures moved { IfOk result (λ moved. moved ≡ plan_moves_by way file.now placings (length leaders.old) (length choke.old)) }
-    ensures leaders { leaders.new ≡ plan_leaders_by way file.now placings leaders.old choke.old }
-    ensures choke { choke.new ≡ plan_choke_by way file.now placings leaders.old choke.old }
+    ensures answer { code result ≡ plan_after_refusal file.now wanted.placings (length leaders.old) (length choke.old) }
+    ensures moved { IfOk result (λ moved. moved ≡ plan_moves_by wanted.way file.now wanted.placings (length leaders.old) (length choke.old)) }
+    ensures leaders { leaders.new ≡ plan_leaders_by wanted.way file.now wanted.placings leaders.old choke.old }
+    ensures choke { choke.new ≡ plan_choke_by wanted.way file.now wanted.placings leaders.old choke.old }
 {
     let mut order = [0u16; lists::PLACES];
     let mut limits = [0u8; lists::PLACES];
     plant_file::load_indexed(file, links, next, &mut order, &mut limits)?;
     let n = plant_file::gateways(file);
-    check_call(n, placings, is_short(n, leaders, choke))?;
+    check_call(n, wanted.placings, is_short(n, leaders, choke))?;
     let loaded = LoadedFile::new(file, links, next, &order, &limits);
-    Ok(reading::read_lists(&loaded, way, placings, leaders, choke))
+    Ok(reading::read_lists(&loaded, wanted, leaders, choke))
 }
 
 // The leader list and the choke bytes after so many placings in one way. Answers how many gateways these move. Nothing is written on refusal.
@@ -88,14 +91,15 @@ pub fn plan_lists_by(
     ensures leaders { leaders.new ≡ plan_leaders_by way file.now placings leaders.old choke.old }
     ensures choke { choke.new ≡ plan_choke_by way file.now placings leaders.old choke.old }
 {
+    let wanted = Wanted { way, placings };
     if plant_file::link_count(file) <= FEW_LINKS {
         let mut links = [0u16; lists::PLACES];
         let mut next = [lists::NONE; chains::SMALL];
-        return plan_with(file, way, placings, &mut links, &mut next, leaders, choke);
+        return plan_with(file, wanted, &mut links, &mut next, leaders, choke);
     }
     let mut links = [0u16; lists::ENDS];
     let mut next = [lists::NONE; chains::SLOTS];
-    plan_with(file, way, placings, &mut links, &mut next, leaders, choke)
+    plan_with(file, wanted, &mut links, &mut next, leaders, choke)
 }
 
 // .. by 01's search.

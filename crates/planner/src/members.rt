@@ -8,6 +8,7 @@ ghost use Rattle.planner.specs.Members.{listed_leaders, members_conditions, memb
 
 use lists::PLACES;
 use lists::counts::member_count;
+use lists::listed::write_them;
 use lists::tests::is_member;
 use refusal::Refusal;
 
@@ -25,8 +26,7 @@ fn of_listed(list: &[u16], u: u16, room: usize) -> Result<(), Refusal>
     requires { length list.now ≤ GATEWAYS }
     ensures { code result ≡ members_conditions list.now u room }
 {
-    let at = u as usize;
-    if list.len() <= at || list[at] != u {
+    if list.get(u as usize) != Some(&u) {
         return Err(Refusal::NotALeader);
     }
     let count = member_count(list.len() as u16, list, u) as usize;
@@ -46,14 +46,7 @@ fn write_listed(list: &[u16], u: u16, out: &mut [u16]) -> usize
     ensures out { out.new ≡ written result (members_of (length list.now) (at list.now) u) out.old }
 {
     let n = list.len() as u16;
-    let mut count: usize = 0;
-    for w in 0..n {
-        if is_member(list, u, w) {
-            out[count] = w;
-            count += 1;
-        }
-    }
-    count
+    write_them(n, |w| is_member(list, u, w), out) as usize
 }
 
 /// Refusal::NotALeader, 11, or Refusal::ListTooShort, 10, where members refuses in a list with room for so many numbers.

@@ -1,5 +1,5 @@
 // The steps of each call, or its first refusal; no lent list is changed on a refusal. What a call answers by them is told in lib.
-// The lists stay parameters: each call writes another of them, so no one struct could lend them.
+// The lists stay parameters: open, link, order, set_limit and place each write another of them, so no one struct could lend them; check and read take the same four.
 ghost use Rattle.std.specs.Prelude.{◌≡◌, ◌≤◌, ◌*◌, length};
 ghost use Rattle.packing.specs.Plant.{at, first_links};
 ghost use Rattle.planner.specs.State.{state_of};
@@ -9,6 +9,7 @@ ghost use Rattle.planner.specs.Tried.{answered, place_answered};
 ghost use Rattle.planner.specs.Ways.{after_by, answer_by};
 
 use crate::{Small, Way, refusals};
+use recursion::any_plant::AnyPlant;
 use refusal::Refusal;
 use search::plant::{Links, Plant};
 
@@ -17,16 +18,18 @@ fn search_by(way: Way, plant: &Plant, v: u16, holders: &mut [u16]) -> Option<u16
     ensures answer { result ≡ answer_by way plant.now.links.n (at plant.now.limits.now) plant.now.links.ends.now holders.old v }
     ensures holders { holders.new ≡ after_by way plant.now.links.n (at plant.now.limits.now) plant.now.links.ends.now holders.old v }
 {
+    // a closed kind: see Way in lib
     match way {
         Way::Queued => search::place(plant, v, holders),
-        Way::Recursive => recursion::place(
-            plant.links.n,
-            v,
-            plant.limits,
-            plant.links.ends,
-            plant.links.next,
-            holders,
-        ),
+        Way::Recursive => {
+            let any = AnyPlant {
+                n: plant.links.n,
+                limits: plant.limits,
+                links: plant.links.ends,
+                next: plant.links.next,
+            };
+            recursion::place(&any, v, holders)
+        }
     }
 }
 

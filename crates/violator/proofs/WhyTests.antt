@@ -1,18 +1,11 @@
 -- The tests of the call, and what they say.
-use Prim.Native.Nat.{ℕ, zero, suc, ◌<◌, ◌≤◌}
-use mathlib.Core.Path.{◌≡◌, refl, sym, ap, ◌∙◌}
-use mathlib.Core.Bool.{Bool, true, false, not, ◌||◌}
+use Prim.Native.Nat.{ℕ, ◌<◌, ◌≤◌}
+use mathlib.Core.Path.{◌≡◌}
+use mathlib.Core.Bool.{true, false, not, ◌||◌}
 use mathlib.Core.List.{List}
-use native.Mathlib.Numerals.{add-one}
 use native.Mathlib.Omega.{arith}
 use lib.Dec.{ltb, leb}
-use lib.ListN.{length, take, get_or}
-use lib.Seq.{take_all}
-use Rattle.std.specs.List.{list_any, range_with_len}
-use Rattle.std.proofs.lemmas.List.Folds.{list_any_more}
-use Rattle.std.proofs.lemmas.List.FromFn.{length-range_with_len, get_or-range_with_len}
 use borrow.Author.Tests.{le-leb, ltb-false, leb-false, not-false}
-use Rattle.packing.specs.Count.{any}
 use Rattle.packing.specs.Plant.{at}
 use Rattle.packing.specs.Holders.{held}
 use Rattle.packing.proofs.Tests.{or_false_l, or_false_r}
@@ -20,19 +13,6 @@ use Rattle.packing.proofs.Refusals.{refuse-none}
 use Rattle.search.specs.Pre.{Placeable}
 use Rattle.sound.proofs.Searchable.{Searchable}
 use Rattle.violator.specs.WhyAlone.{is_placed, why_conditions}
-
--- the test of each number below k, as the library makes it
-tested-below : (p : ℕ → Bool) (k i : ℕ) → i ≤ k → any i p ≡ list_any p (take i (range_with_len 0 k))
-unfolding any
-tested-below p k zero l = refl
-tested-below p k (suc i) l =
-    let below : i < length (range_with_len 0 k) = omega (arith, length-range_with_len 0 k) in
-    let more = rw add-one at (list_any_more p (range_with_len 0 k) i 0 below) in
-    let here : get_or (range_with_len 0 k) i 0 ≡ i = omega (arith, get_or-range_with_len 0 k i 0 (omega arith)) in
-    ap (λ (b : Bool). b || p i) (tested-below p k i (omega arith)) ∙ ap (λ (x : ℕ). list_any p (take i (range_with_len 0 k)) || p x) (sym here) ∙ sym more
-
-pub any_of_range : (p : ℕ → Bool) (k : ℕ) → list_any p (range_with_len 0 k) ≡ any k p
-any_of_range p k = sym (tested-below p k k (omega arith) ∙ ap (λ (l : List ℕ). list_any p l) (take_all k (range_with_len 0 k) (omega (arith, length-range_with_len 0 k))))
 
 -- a number that is no gateway
 pub out_of_range : (n k : ℕ) (os hs : List ℕ) (v a b : ℕ) → n ≤ v → 30 ≡ why_conditions n k os hs v a b

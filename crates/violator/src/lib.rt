@@ -22,7 +22,7 @@ pub struct WhyAnswer {
     pub second: u16,
 }
 
-// How many gateways each set has.
+// How many gateways each set has, by the names of 02, change 5; search::reached::Reached has them by those of the walk.
 #[derive(Clone, Copy, Debug, PartialEq, Eq)]
 pub struct WhyCounts {
     pub first: u16,
@@ -58,7 +58,7 @@ fn is_placed(k: u16, order: &[u16], v: u16) -> bool
     (0..k).any(|i| lists::entry(order, i) == v)
 }
 
-// The first refusal after 26, for lists with room for so many.
+// The first refusal after 26, for lists with room for so many. Only the lengths of the lists for the sets are of use, so no struct lends them.
 #[tactic(auto, unfolding(crate::specs::WhyAlone::why_conditions))]
 fn refusal_of(
     n: u16,
@@ -82,6 +82,7 @@ fn refusal_of(
 
 /// The look without the check of the record, for a caller who knows that it is sound. The links are the plant's and no more.
 /// Refusal::OutOfRangeUnplacedOrKept, 30, or Refusal::ListTooShort, 10.
+// The two sets stand apart, as in search::reached::write_sets.
 pub fn why_placed(
     links: &Links,
     k: u16,

@@ -1,7 +1,9 @@
 use Rattle.plan.proofs.PlacingLoop.{Placed}
+use Rattle.plan.specs.Work.{AsLong}
 use Rattle.plan.proofs.placings.place_all.Given as goal
 
-abbrev pub invariant-loop-i : goal.invariant-loop-i
-invariant-loop-i l =
-    Placed l.way l.loaded.file.now l.placings l.loaded.plant.links.ends.now l.loaded.plant.limits.now l.initial.holders l.initial.rows l.initial.queue l.initial.dead l.initial.looked
-    l.holders l.rows l.queue l.dead l.looked l.moved l.i
+abbrev pub invariant-loop-v : goal.invariant-loop-v
+invariant-loop-v l = record {
+  placed : Placed l.wanted.way l.loaded.file.now l.wanted.placings l.loaded.plant.links.ends.now l.loaded.plant.limits.now l.work l.moved l.v-index;
+  long : AsLong l.initial.work l.work;
+}
