@@ -10,6 +10,7 @@ use planner::Way;
 use std::io;
 
 // x with one more decimal digit; the byte of the digit 0 is 48, a multiple of 16.
+// By hand, since a number may run over 65535 and then counts by its remainder, and what is no digit counts too: parse would give an error for both.
 fn with_digit(x: u16, b: u8) -> u16 {
     x.wrapping_mul(10).wrapping_add(u16::from(b % 16))
 }

@@ -5,6 +5,7 @@ use crate::parts::{self, LARGE, LARGE_LINKS, Numbers};
 use planner::Small;
 use std::{array, io};
 
+// The lists stand apart, and not as a record::Record: that lends the holders to be written and the links to be read, and here `link` writes the links.
 fn probe(
     rt: &impl Print,
     label: &[u8],

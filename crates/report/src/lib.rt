@@ -24,7 +24,7 @@ pub fn listing(n: u16, t: u8, leaders: &[u16], choke: &[u8], out: &mut [u8]) -> 
     text.place
 }
 
-// The same for a refused file's one line.
+// The same for a refused file's one line, by the number that it shows.
 pub fn refused(e: u16, out: &mut [u8]) -> usize
     ensures count { result ≡ length (text.refused_line e) }
     ensures out { out.new ≡ sets out.old 0 (text.refused_line e) }
