@@ -83,8 +83,8 @@ extern "C" {
  *
  * What it uses. The call is reentrant and keeps nothing: the library has no writable data and allocates
  * none. Calls may run at once in any threads, each with an out of its own; they may share a file that
- * nobody changes meanwhile. Its lists stand on the stack: 125,528 bytes were measured at most, little less
- * for a small plant (why_alone 162,056, check_groups 113,832, plan_groups_recursive below). A thread whose
+ * nobody changes meanwhile. Its lists stand on the stack: 121,592 bytes were measured at most, little less
+ * for a small plant (why_alone 162,280, check_groups 113,848, plan_groups_recursive below). A thread whose
  * stack has PLAN_GROUPS_STACK bytes, with what the thread itself takes of them, can make the call; what the
  * thread does besides needs more.
  *
@@ -185,7 +185,7 @@ uint32_t why_alone(const uint8_t *file, size_t file_len, uint32_t gateway, uint8
  *   - the number moved is counted in the same way, placing by placing, but need not be the least.
  *
  * What it uses. Its two functions call each other, up to 512 times each one within the other in a plant of
- * 1,024 gateways; on such plants 191,000 bytes of stack were measured, on most far less. A thread whose
+ * 1,024 gateways; on such plants 170,712 bytes of stack were measured, on most far less. A thread whose
  * stack has PLAN_GROUPS_RECURSIVE_STACK bytes, with what the thread itself takes of them, can make the call
  * on every file. Its time grows as n * (n + m) at worst: it takes one to three times as long as plan_groups
  * on most plants, and up to some fifty times as long, milliseconds then, where many are left alone. All else
