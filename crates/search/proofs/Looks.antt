@@ -20,7 +20,7 @@ use Rattle.search.specs.Noted.{taken_back, Notable}
 use Rattle.search.proofs.Queue.{held_by-length}
 use Rattle.search.proofs.Rows.{table-holds, table-place}
 use Rattle.search.proofs.States.{gateway-some, unseen-below, look-seen, look-free, look_full, look-going, going-room, visit-found}
-use Rattle.search.proofs.Noting.{NotedThen, noted-room, noted_less, noted-notable, noted-back}
+use Rattle.search.proofs.Noting.{NotedThen, noted-room, noted_less, noted-mark}
 use Rattle.search.proofs.Results.{found-state, more-state, found-is, more-is, some_then}
 
 -- The three ways of a look. The lent list of marks is from' once u is marked, k is u's entry, t is u's limit, and b says whether its row has a place.
@@ -57,10 +57,10 @@ module _
       look-less n = noted_less from u x unseen (gateway-some r.going.few r.gateway) n
 
       pub look-notable : {looked looked' : List ℕ} {c c' : ℕ} {from' : List ℕ} → Notable looked c from → from' ≡ set from u x → NotedThen u looked c looked' c' → Notable looked' c' from'
-      look-notable n mark then = noted-notable from u x unseen (gateway-some r.going.few r.gateway) n mark then
+      look-notable n mark then = (noted-mark from u x unseen (gateway-some r.going.few r.gateway) n mark then).notable
 
       pub look-back : {looked looked' : List ℕ} {c c' : ℕ} {from' : List ℕ} → Notable looked c from → from' ≡ set from u x → NotedThen u looked c looked' c' → taken_back c' looked' from' ≡ taken_back c looked from
-      look-back n mark then = noted-back from u x unseen (gateway-some r.going.few r.gateway) n mark then
+      look-back n mark then = (noted-mark from u x unseen (gateway-some r.going.few r.gateway) n mark then).back
 
       pub look-is-free : {t : ℕ} {b : Bool} {from' : List ℕ} → from' ≡ set from u x → t ≡ limit u → b ≡ row_has_place (row_at rows u) t → b ≡ true
           → Is (Break (u, x)) tail queue from' (look n limit hs x u (take tail queue) from)

@@ -15,12 +15,16 @@ use Rattle.packing.specs.Plant.{NONE, GATEWAYS, at}
 use Rattle.packing.proofs.Tests.{by_bool}
 use Rattle.packing.proofs.Sums.{count_bound}
 use Rattle.search.specs.Search.{seen}
-use Rattle.search.specs.Noted.{taken_back, AllMarked, unseen_count, Notable}
+use Rattle.search.specs.Noted.{taken_back, AllMarked, unseen_count, Notable, Noted}
 use Rattle.search.proofs.States.{unseen-below, unseen_falls}
 
 -- one more noted behind the first c
 abbrev pub NotedThen : ℕ → List ℕ → ℕ → List ℕ → ℕ → Type 0
 NotedThen u looked c looked' c' = (looked' ≡ set looked c u) × (c' ≡ c + 1)
+
+-- notes after notes
+pub noted_then : {l₀ l₁ l₂ : List ℕ} {c₀ c₁ c₂ : ℕ} {f₀ f₁ f₂ : List ℕ} → Noted l₀ c₀ f₀ l₁ c₁ f₁ → Noted l₁ c₁ f₁ l₂ c₂ f₂ → Noted l₀ c₀ f₀ l₂ c₂ f₂
+noted_then a b = record { notable = b.notable; back = b.back ∙ a.back }
 
 -- what stands behind the first c is not looked at
 back-front : (c : ℕ) (looked : List ℕ) (i u : ℕ) (from : List ℕ) → c ≤ i → taken_back c (set looked i u) from ≡ taken_back c looked from
@@ -75,6 +79,9 @@ module _ (from : List ℕ) (u x : ℕ) (e : seen from u ≡ false) (some : x ≡
 
     pub noted-back : taken_back c' looked' from' ≡ taken_back c looked from
     noted-back = rw (mark, then.0, then.1, add-one) (back-first looked c (noted-room n))
+
+    pub noted-mark : Noted looked c from looked' c' from'
+    noted-mark = record { notable = noted-notable; back = noted-back }
 
 -- nobody noted yet, and room for all
 pub notable-start : (looked from : List ℕ) → length from ≤ length looked → Notable looked 0 from

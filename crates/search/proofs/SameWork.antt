@@ -1,7 +1,9 @@
 -- The lists that a search works in stay the same lists, and so do the holders and their table.
 use Rattle.std.proofs.Common.{◌≡◌, refl, ◌∙◌}
 use Rattle.search.specs.declared.work.Work.{Work}
-use Rattle.search.specs.Work.{SameLists}
+use Rattle.search.specs.Noted.{Noted}
+use Rattle.search.specs.Work.{SameLists, SameBack}
+use Rattle.search.proofs.Noting.{noted_then}
 use Rattle.search.specs.declared.held.Held.{Held}
 use Rattle.search.specs.Held.{SameHeld}
 
@@ -18,6 +20,13 @@ same_then p q =
       marks = q.marks ∙ p.marks;
       notes = q.notes ∙ p.notes;
     }
+
+-- .. and of a Work, which keeps Notable, SameBack says that it is Noted: so notes come after notes
+pub work_noted : (a b : Work) → SameBack a b → Noted a.looked.now a.count a.from.now b.looked.now b.count b.from.now
+work_noted a b e = record { notable = b.notable; back = e }
+
+pub back_then : (a b c : Work) → SameBack a b → SameBack b c → SameBack a c
+back_then a b c e f = (noted_then (work_noted a b e) (work_noted b c f)).back
 
 pub same_held : {h : Held} → SameHeld h h
 same_held = record { rows = refl; holders = refl; wide = refl; long = refl }

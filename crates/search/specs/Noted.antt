@@ -1,5 +1,5 @@
 -- Whom a search marks: it notes them in the first places of a lent list, so that their marks can be taken back.
-use Rattle.std.specs.Prelude.{ℕ, zero, suc, ◌+◌, ◌<◌, ◌≤◌, not, List, length, set}
+use Rattle.std.specs.Prelude.{ℕ, zero, suc, ◌+◌, ◌<◌, ◌≤◌, ◌≡◌, not, List, length, set}
 use Rattle.packing.specs.Count.{count}
 use Rattle.packing.specs.Plant.{NONE, at}
 use Rattle.search.specs.Search.{seen}
@@ -21,3 +21,8 @@ unseen_count from = count (length from) (λ u. not (seen from u))
 pub record Notable (looked : List ℕ) (c : ℕ) (from : List ℕ) : Type 0 where
   pub inside : (i : ℕ) → i < c → at looked i < length from
   pub room : c + unseen_count from ≤ length looked
+
+-- taken back, the marks are those that they were before
+pub record Noted (looked₀ : List ℕ) (c₀ : ℕ) (from₀ looked : List ℕ) (c : ℕ) (from : List ℕ) : Type 0 where
+  pub notable : Notable looked c from
+  pub back : taken_back c looked from ≡ taken_back c₀ looked₀ from₀

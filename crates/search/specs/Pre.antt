@@ -3,6 +3,7 @@ use Rattle.std.specs.Prelude.{ℕ, zero, suc, ◌+◌, ◌-◌, ◌<◌, ◌≤�
 use Rattle.packing.specs.Count.{count}
 use Rattle.packing.specs.Plant.{NONE, GATEWAYS, HIGHEST, at}
 use Rattle.packing.specs.Holders.{held, holds}
+use Rattle.chains.specs.Index.{IndexFor}
 use Rattle.search.specs.Search.{Search, found, more, seen, shift}
 use Rattle.search.specs.RowPre.{RowsOf, RowsKept}
 use Rattle.std.specs.declared.ops.ControlFlow.{ControlFlow}
@@ -74,6 +75,11 @@ Joinable row queue tail = tail + length (in_row row) ≤ length queue
 pub record Joined (row queue queue' : List ℕ) (tail tail' : ℕ) : Type 0 where
   pub state : take tail' queue' ≡ take tail queue ++ in_row row
   pub within : tail' ≤ length queue'
+
+-- a plant's lists, of n gateways: the index of its links, and a limit for each gateway; what a Plant keeps
+pub record PlantLists (n : ℕ) (limits ls next : List ℕ) : Type 0 where
+  pub index : IndexFor n ls next
+  pub limited : n ≤ length limits
 
 -- a queue of n places, and marks of nobody, to work in
 pub record Workspace (n : ℕ) (queue from : List ℕ) : Type 0 where

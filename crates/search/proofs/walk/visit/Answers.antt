@@ -1,7 +1,7 @@
 use mathlib.Core.Path.{◌∙◌, refl}
 use Rattle.chains.proofs.Along.{along_on, along_neighbour, along_next}
 use Rattle.chains.proofs.LinkMore.{index_told}
-use Rattle.search.proofs.SameWork.{same_lists, same_then}
+use Rattle.search.proofs.SameWork.{same_lists, same_then, back_then}
 use Rattle.search.proofs.Looks.{visit-start, visit_ready, visit_neighbour, visit-turn, visit-ends, visit_out}
 use Rattle.search.proofs.walk.visit.Goals as goal
 
@@ -19,7 +19,7 @@ look-requires c =
 pub returns-in_err-look : goal.returns-in_err-look
 returns-in_err-look c = record {
   state = rw c.from_residual.ensures (visit-ends _ _ _ _ _ _ _ _ (index_told c.requires.0 c.args.plant.now.links.index) c.requires.1 c.loop-u.invariant.state c.in-Some.ensures.steps.gives.0 (along_neighbour c.loop-u.invariant.along c.in-Some.ensures.steps) c.look.ensures.state c.in_err-look.was);
-  marks = c.look.ensures.marks ∙ c.loop-u.invariant.noted;
+  marks = back_then c.args.work.now c.loop-u.work c.look.new.work c.loop-u.invariant.noted c.look.ensures.marks;
   same = same_then c.loop-u.invariant.same c.look.ensures.same;
 }
 
@@ -28,7 +28,7 @@ loop-u-preserved c = record {
   along = along_on c.loop-u.invariant.along c.in-Some.ensures.steps;
   state = visit-turn _ _ _ _ _ _ _ _ (index_told c.requires.0 c.args.plant.now.links.index) c.requires.1 c.loop-u.invariant.state c.in-Some.ensures.steps.gives.0 (along_neighbour c.loop-u.invariant.along c.in-Some.ensures.steps) c.look.ensures.state c.in_ok-look.was
       (c.look.ensures.same.places, c.look.ensures.same.marks) (along_next c.loop-u.invariant.along c.in-Some.ensures.steps);
-  noted = c.look.ensures.marks ∙ c.loop-u.invariant.noted;
+  noted = back_then c.args.work.now c.loop-u.work c.look.new.work c.loop-u.invariant.noted c.look.ensures.marks;
   same = same_then c.loop-u.invariant.same c.look.ensures.same;
 }
 
