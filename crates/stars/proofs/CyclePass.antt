@@ -13,7 +13,7 @@ use borrow.Author.Tests.{eqb-true, eqb-false, ltb-true, ltb-false, not-true}
 use Rattle.packing.specs.Plant.{NONE, at}
 use Rattle.packing.proofs.Tests.{by_bool, below_suc, clash, not_test}
 use Rattle.stars.specs.Stars.{back, on_cycle, next_on_cycle, leads_in_trees, begins, cut, leads}
-use Rattle.stars.specs.Pre.{SameRounds, Treed, Unmet, Rounded, Broken, Led, Reading, goes_with, marked}
+use Rattle.stars.specs.Pre.{SameRounds, Treed, Unmet, Rounded, Broken, Led, Reading, Read, goes_with, marked}
 use Rattle.stars.specs.declared.rounds.Round.{Round}
 use Rattle.stars.specs.declared.rounds.Rounds.{Rounds}
 use Rattle.stars.proofs.Tables.{Refilled}
@@ -45,6 +45,19 @@ reading_start {a} h e =
   where
     off_cycle : (x : ℕ) → x < a.n → marked a.read.now x ≡ true → on_cycle a.n a.holders.now x ≡ false
     off_cycle x l t = not-true (on_cycle a.n a.holders.now x) (sym (h.trees x l) ∙ t)
+
+-- once all are passed, all cycles are read
+pub reading_end : {a : Rounds} {v : ℕ} → Reading a v → a.n ≤ v → Read a.n a.holders.now a.leading.now a.nexts.now
+reading_end {a} r h =
+    record {
+      few = r.few;
+      leading = λ x l. r.leading x l ∙ rw (r.met x (omega arith));
+      next = λ x l. r.next x l (r.met x (omega arith));
+    }
+
+-- .. so of a list that equals the one of who leads
+pub read_as : {n : ℕ} {hs ls ls' xs : List ℕ} → Read n hs ls xs → ls' ≡ ls → Read n hs ls' xs
+read_as r e = rw e r
 
 -- v is not marked: its cycle is not read
 module _ {a : Rounds} {v : ℕ} (r : Reading a v) (l : v < a.n) (f : marked a.read.now v ≡ false) where

@@ -3,6 +3,7 @@ use Prim.Native.Nat.{ℕ, zero, suc, ◌+◌, ◌<◌, ◌≤◌}
 use mathlib.Core.Path.{◌≡◌, refl, sym, ◌∙◌}
 use mathlib.Core.Bool.{Bool, true, false, cond}
 use mathlib.Core.List.{List}
+use native.Mathlib.Nat.{le_antisymm}
 use native.Mathlib.Numerals.{add-one}
 use native.Mathlib.Omega.{arith}
 use lib.Dec.{eqb, ltb}
@@ -97,6 +98,9 @@ module _ (n : ℕ) (g : ℕ → ℕ) (few : n ≤ GATEWAYS) where
             partner = λ v m. same_partner g w v (at l v) (not_test (follows g v w) (λ q. let (a, b) = follows_means g v w q in b (sym own ∙ e ∙ a))) (p.partners.partner v m);
           };
         }
+
+  pub pairing_end : {l : List ℕ} {w : ℕ} → Pairing n g l w → n ≤ w → Partners n n g l
+  pairing_end p h = rw (le_antisymm p.upto h) at p.partners
 
 -- what the pass says of a leader u: it has one member, x, or some other number of them
 module _ {n : ℕ} (g : ℕ → ℕ) {l : List ℕ} {u x : ℕ} (few : n ≤ GATEWAYS) (p : Partners n n g l) (h : u < n) (e : x ≡ at l u) where
