@@ -18,7 +18,7 @@ use Rattle.chains.specs.Build.{Joining}
 use Rattle.chains.specs.Index.{Index, IndexFor}
 use Rattle.chains.proofs.LinkMore.{joining-linked, index_for}
 use Rattle.search.specs.ChokeSet.{choke_byte, choke_written}
-use Rattle.search.specs.Pre.{Placeable}
+use Rattle.search.specs.Pre.{PlantLists, Placeable}
 use Rattle.search.proofs.Tested.{placeable-holds, chokeable-holds, choke_written_lem}
 use Rattle.sound.proofs.Meaning.{Sound, sound_means, means_sound}
 use Rattle.sound.proofs.Facts.{sound_facts}
@@ -67,6 +67,10 @@ sound_joining s sound e =
 pub sound_index : (s : State) {ls next : List ℕ} → SoundState s → ls ≡ links_of s → Index ls next → IndexFor s.small.n ls next
 unfolding first_links
 sound_index s {ls} sound e d = index_for s.small.n ls (rw e sound.ends) d
+
+-- .. beside a limit for each of them
+pub sound_lists : (s : State) {ls next : List ℕ} → SoundState s → ls ≡ links_of s → Index ls next → PlantLists s.small.n s.limits ls next
+sound_lists s sound e d = record { index = sound_index s sound e d; limited = sound.limits-long }
 
 -- one with no holder is not held
 pub none-unheld : (n : ℕ) (hs : List ℕ) (v : ℕ) → n ≤ GATEWAYS → at hs v ≡ NONE → held n (at hs) v ≡ false

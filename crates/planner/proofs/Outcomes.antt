@@ -124,6 +124,6 @@ module _ (s : State) (leaders choke : List ℕ) where
   pub read-accepted : {leaders' choke' : List ℕ} → 0 ≡ call_refusal s (read leaders choke)
       → leaders' ≡ written s.small.n (list_of s.small.n (leader_list s.small.n s.order s.holders)) leaders
       → choke' ≡ written s.small.n (list_of s.small.n (choke_byte s.small.n (links_of s) s.holders)) choke
-      → (leaders' ≡ read_leaders s leaders choke) × (choke' ≡ read_choke s leaders choke)
-  unfolding read_leaders read_choke
-  read-accepted z p q = (accepted _ _ z refl p, accepted _ _ z refl q)
+      → (◌≡◌ {A = Answer} (record { refusal = 0; small = s.small }) (answer_of (call s (read leaders choke)))) × ((leaders' ≡ read_leaders s leaders choke) × (choke' ≡ read_choke s leaders choke))
+  unfolding read_leaders read_choke changed
+  read-accepted z p q = (accepted-answer s (read leaders choke) z, (accepted _ _ z refl p, accepted _ _ z refl q))

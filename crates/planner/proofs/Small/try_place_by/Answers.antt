@@ -5,7 +5,7 @@ use Rattle.planner.specs.State.{State, limit_of}
 use Rattle.planner.specs.Calls.{place_by, conditions, changed}
 use Rattle.planner.proofs.Conditions.{place_allowed}
 use Rattle.planner.proofs.Outcomes.{unsound_call, sound_call, refused-placing, refused-list, accepted-placing, accepted-list}
-use Rattle.planner.proofs.Next.{checked, sound_joining, sound_index, next-placed, next-moved}
+use Rattle.planner.proofs.Next.{checked, sound_joining, sound_lists, next-placed, next-moved}
 use Rattle.planner.proofs.Small.try_place_by.Goals as goal
 
 pub returns-in_err-check : goal.returns-in_err-check
@@ -29,10 +29,10 @@ pub bounds-order-self : goal.bounds-order-self
 bounds-order-self c = let sound = checked _ c.in_ok-check.ensures in omega (arith, sound.placed, sound.order-long, place_allowed _ _ (sym c.in_ok-of_place.ensures))
 
 pub invariant_of-plant : goal.invariant_of-plant
-invariant_of-plant c = record { index = sound_index _ (checked _ c.in_ok-check.ensures) c.links_of-ends.ensures c.index_of-next.ensures }
+invariant_of-plant c = record { index = (sound_lists _ (checked _ c.in_ok-check.ensures) c.links_of-ends.ensures c.index_of-next.ensures).index }
 
 pub invariant_of-plant-2 : goal.invariant_of-plant-2
-invariant_of-plant-2 c = record { limited = (checked _ c.in_ok-check.ensures).limits-long }
+invariant_of-plant-2 c = record { limited = (sound_lists _ (checked _ c.in_ok-check.ensures) c.links_of-ends.ensures c.index_of-next.ensures).limited }
 
 pub unwrap-moved-requires : goal.unwrap-moved-requires
 unfolding limit_of

@@ -1,7 +1,7 @@
 use mathlib.Core.Path.{sym}
 use Rattle.planner.specs.Calls.{read, conditions, changed}
 use Rattle.planner.proofs.Conditions.{read_allowed}
-use Rattle.planner.proofs.Outcomes.{unsound_call, sound_call, refused-answer, accepted-answer, read-refused, read-accepted}
+use Rattle.planner.proofs.Outcomes.{unsound_call, sound_call, refused-answer, read-refused, read-accepted}
 use Rattle.planner.proofs.Next.{checked, sound_joining, sound_index, leaders_placed, choke_placed}
 use Rattle.planner.proofs.Small.try_read.Goals as goal
 
@@ -33,5 +33,5 @@ returns c =
     let sound = checked _ c.in_ok-check.ensures in
     let (long, long-choke) = read_allowed _ _ _ (sym c.in_ok-of_read.ensures) in
     let number = sound_call _ (read _ _) c.in_ok-check.ensures c.in_ok-of_read.ensures in
-    let lists = read-accepted _ _ _ number (leaders_placed _ sound _ long c.leaders.ensures.out) (choke_placed _ sound _ long-choke (rw c.links_of-ends.ensures at c.choke_set.ensures.out)) in
-    record { answer = accepted-answer _ _ number; leaders = lists.0; choke = lists.1 }
+    let all = read-accepted _ _ _ number (leaders_placed _ sound _ long c.leaders.ensures.out) (choke_placed _ sound _ long-choke (rw c.links_of-ends.ensures at c.choke_set.ensures.out)) in
+    record { answer = all.0; leaders = all.1.0; choke = all.1.1 }
