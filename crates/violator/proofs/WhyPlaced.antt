@@ -1,5 +1,5 @@
 -- The look without the record: what it gives by its number, and that it is the look at a sound record.
-use Prim.Native.Nat.{ℕ, ◌<◌}
+use Prim.Native.Nat.{ℕ, zero, suc, ◌<◌}
 use mathlib.Core.Path.{◌≡◌, refl, sym, ap, ◌∙◌}
 use mathlib.Core.Bool.{true, not}
 use mathlib.Core.List.{List}
@@ -9,6 +9,7 @@ use Rattle.std.specs.Prelude.{Result, Ok, Err, IsErr, IsErrAnd, IfOk, Option, So
 use Rattle.std.specs.Option.{unwrap_or}
 use Rattle.std.proofs.lemmas.Result.{IfOk-from_err}
 use Rattle.packing.specs.Plant.{at}
+use Rattle.packing.specs.Refusals.{by_number}
 use Rattle.packing.proofs.Refusals.{refused, accepted}
 use Rattle.packing.proofs.Tests.{any_ext}
 use Rattle.sound.specs.Searchable.{searchable}
@@ -54,6 +55,11 @@ module _ (n k : ℕ) (ls os hs : List ℕ) (v : ℕ) (first second : List ℕ) w
       let same : r ≡ both_counted n ls hs v = ap (λ (o : Option Reached). unwrap_or o r) (sym some ∙ done.0) in
       ((λ i. record { first = (same i).queued; second = (same i).seen }), (accepted _ first z refl done.1.0, accepted _ second z refl done.1.1))
 
+-- both counts by one number: on a refusal they are 0
+counts_by : (e a b : ℕ) → ◌≡◌ {A = WhyCounts} (by_number {A = WhyCounts} e (record { first = a; second = b }) (record { first = 0; second = 0 })) (record { first = by_number e a 0; second = by_number e b 0 })
+counts_by zero a b = refl
+counts_by (suc e) a b = refl
+
 -- The look at a sound record is this one: it goes by the links that the record has, and by the first k of the order.
 module _ (s : State) (sound : sound_state s ≡ true) where
   conditions_of_lem : (os : List ℕ) → ((i : ℕ) → i < s.small.k → at s.order i ≡ at os i) → (v a b : ℕ) → why_conditions s.small.n s.small.k os s.holders v a b ≡ why_refusal s v a b
@@ -63,11 +69,12 @@ module _ (s : State) (sound : sound_state s ≡ true) where
   pub why_of_record : (n k : ℕ) (ls os hs : List ℕ) → s.small.n ≡ n → s.small.k ≡ k → links_of s ≡ ls → s.holders ≡ hs → ((i : ℕ) → i < k → at s.order i ≡ at os i) → (v : ℕ) (first second : List ℕ)
       → (why_conditions n k os hs v (length first) (length second) ≡ why_refusal s v (length first) (length second))
       × ((why_refusal s v (length first) (length second) ≡ 0 → placed_counts n ls hs v ≡ counts_of (why_answer s v (length first) (length second)))
-      × ((placed_first n k ls os hs v first second ≡ why_first s v first second) × (placed_second n k ls os hs v first second ≡ why_second s v first second)))
+      × ((by_number {A = WhyCounts} (why_conditions n k os hs v (length first) (length second)) (placed_counts n ls hs v) (record { first = 0; second = 0 }) ≡ counts_of (why_answer s v (length first) (length second)))
+      × ((placed_first n k ls os hs v first second ≡ why_first s v first second) × (placed_second n k ls os hs v first second ≡ why_second s v first second))))
   unfolding first_count second_count why_first why_second in_first in_second placed_first placed_second
   why_of_record n k ls os hs gateways placed links holders same v first second =
       rw (← gateways, ← placed, ← links, ← holders)
-      (let number = conditions_of_lem os (λ i l. same i (rw (← placed) l)) v (length first) (length second) in (number, ((λ z. rw z), (rw number, rw number))))
+      (let number = conditions_of_lem os (λ i l. same i (rw (← placed) l)) v (length first) (length second) in (number, ((λ z. rw z), (rw number (counts_by (why_refusal s v (length first) (length second)) _ _), (rw number, rw number)))))
 
   -- .. so what a look answers says the same of the record
   pub look_of_record : (n k : ℕ) (ls os hs : List ℕ) → s.small.n ≡ n → s.small.k ≡ k → links_of s ≡ ls → s.holders ≡ hs → ((i : ℕ) → i < k → at s.order i ≡ at os i) → (v : ℕ) (first second : List ℕ)
@@ -76,7 +83,7 @@ module _ (s : State) (sound : sound_state s ≡ true) where
       → (code r ≡ why_refusal s v (length first) (length second)) × (IfOk r (λ counts. counts ≡ counts_of (why_answer s v (length first) (length second)))
       × ((first' ≡ why_first s v first second) × (second' ≡ why_second s v first second)))
   look_of_record n k ls os hs gateways placed links holders same v first second r g is (one, two) =
-      let (number, (counts, (lists, lists'))) = why_of_record n k ls os hs gateways placed links holders same v first second in
+      let (number, (counts, (_, (lists, lists')))) = why_of_record n k ls os hs gateways placed links holders same v first second in
       (g ∙ number, (counted r (g ∙ number) counts is, (one ∙ lists, two ∙ lists')))
     where
       counted : (r : Result WhyCounts Refusal) {e : ℕ} {a b : WhyCounts} → code r ≡ e → (e ≡ 0 → a ≡ b) → IfOk r (λ counts. counts ≡ a) → IfOk r (λ counts. counts ≡ b)
