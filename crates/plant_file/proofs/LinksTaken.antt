@@ -1,14 +1,14 @@
 -- The loop that checks each link by the index of those before it and puts it into the lists.
-use Prim.Native.Nat.{ℕ, ◌+◌, ◌*◌, ◌≤◌}
+use Prim.Native.Nat.{ℕ, ◌+◌, ◌*◌, ◌<◌, ◌≤◌}
 use mathlib.Core.Path.{◌≡◌, refl, sym, ap, ◌∙◌}
 use Rattle.std.specs.Prelude.{Some}
 use mathlib.Core.List.{List, []}
 use native.Mathlib.Omega.{arith}
-use lib.ListN.{length, take, length-replicate}
+use lib.ListN.{length, take, replicate, length-replicate}
 use Rattle.packing.specs.Lists.{list_of}
 use Rattle.packing.specs.Plant.{NONE, GATEWAYS}
 use Rattle.packing.proofs.Lists.{list-start, written-front}
-use Rattle.chains.specs.Index.{root_of}
+use Rattle.chains.specs.Index.{SLOTS, root_of}
 use Rattle.chains.specs.Build.{Built, Adding}
 use Rattle.chains.proofs.BuiltIndex.{built-front}
 use Rattle.chains.proofs.LinkMore.{built-start}
@@ -29,6 +29,10 @@ module _ (so_far : Links) (t : Taking so_far) (a b : ℕ) (fine : 0 ≡ next_ref
       let f = ends_allowed so_far.n (take (2 * so_far.count) so_far.links.now) a b (sym fine) in
       record { built = t.built; more = t.more; first = omega (arith, f.first, t.few); second = omega (arith, f.second, t.few); differ = f.differ }
 
+  -- both ends have a place among the numbers of links, of which the struct's array holds one for any gateway
+  pub taking_degrees : length so_far.degrees ≡ GATEWAYS → (a < length so_far.degrees) × (b < length so_far.degrees)
+  taking_degrees long = (rw long taking_fine.first, rw long taking_fine.second)
+
 -- all of them
 pub record InTurn (file links₀ : List ℕ) (so_far : Links) : Type 0 where
   pub gateways : so_far.n ≡ file_n file
@@ -42,6 +46,9 @@ module _ (file links₀ next₀ : List ℕ) (u : Unindexed file links₀ next₀
 
   slots : length next₀ ≡ length links₀ + GATEWAYS
   slots = ap length u.unlinked.empty ∙ length-replicate (length links₀ + GATEWAYS) NONE
+
+  pub turn_roots : {last : List ℕ} → last ≡ replicate GATEWAYS 0 → (GATEWAYS ≤ length next₀) × (length next₀ ≤ SLOTS) × (length last ≡ GATEWAYS)
+  turn_roots e = (omega (arith, slots), omega (arith, slots, u.unlinked.few), ap length e ∙ length-replicate {A = ℕ} GATEWAYS 0)
 
   pub turn-start : (start : Links) → start.n ≡ file_n file → start.count ≡ 0 → start.links.now ≡ links₀ → start.next.now ≡ next₀ → start.last ≡ list_of GATEWAYS (root_of (length next₀)) → InTurn file links₀ start
   turn-start start is none p q e =

@@ -2,8 +2,11 @@ use borrow.Author.Rules.{rules}
 use mathlib.Core.Path.{refl, ◌∙◌}
 use Rattle.refusal.proofs.Numbers.{number-ne-0, handed_on}
 use Rattle.plant_file.proofs.Walks.{walk-start, walk-read, walk-on, walk-end}
-use Rattle.plant_file.proofs.LinksTaken.{turn-start, turn-refused, turn_on, turn_end}
+use Rattle.plant_file.proofs.LinksTaken.{turn_roots, turn-start, turn-refused, turn_on, turn_end}
 use Rattle.plant_file.proofs.indexed.take_links.Goals as goal
+
+pub with_roots-requires : goal.with_roots-requires
+with_roots-requires c = turn_roots _ _ _ c.requires refl
 
 pub loop-a-init : goal.loop-a-init
 loop-a-init c =
