@@ -18,7 +18,7 @@ use Rattle.packing.proofs.Tests.{by_bool, clash, below_suc, and_l, not_i, not_te
 use Rattle.packing.proofs.Prefixes.{Among, order-place}
 use Rattle.search.specs.RowPre.{RowsOf}
 use Rattle.search.specs.ChokeSet.{in_choke}
-use Rattle.search.specs.Pre.{Placeable}
+use Rattle.search.specs.Pre.{PlantLists, Placeable}
 use Rattle.search.specs.Dead.{Dead, Past, DeadThen, left_then}
 use Rattle.search.proofs.Dead.{dead_none}
 use Rattle.search.proofs.DeadChoke.{dead_choke}
@@ -37,6 +37,7 @@ use Rattle.plan.specs.declared.work.Work.{Work}
 use Rattle.plan.specs.Work.{AsLong}
 use Rattle.plan.specs.Pre.{is_queued, DeadBy, Loaded, Placings, DeadChoke}
 use Rattle.plan.proofs.FileMoves.{file_moves_fit}
+use Rattle.plan.proofs.LentWork.{as_long, long_then}
 use Rattle.plan.proofs.NextPlacing.{first-moves, placing_placeable, placing_next, placing_feasible, placing_moves_lem, placing_none}
 
 -- those left among the first j, and the dead of them; the short search has none
@@ -47,13 +48,14 @@ pub record LeftSoFar (w : Way) (file : List ℕ) (j : ℕ) (limit : ℕ → ℕ)
   pub all : is_queued w ≡ true → (i : ℕ) → i < j → held (file_n file) (at hs) (at (file_order file) i) ≡ false → left (at (file_order file) i) ≡ true
   pub nobody : is_queued w ≡ false → dead ≡ replicate (file_n file) NONE
 
--- the first j are placed
-pub record Placed (w : Way) (file : List ℕ) (k : ℕ) (ls ts : List ℕ) (work : Work) (total j : ℕ) : Type 0 where
+-- the first j are placed, in lists as long as those it began with
+pub record Placed (w : Way) (file : List ℕ) (k : ℕ) (ls ts : List ℕ) (begun work : Work) (total j : ℕ) : Type 0 where
   pub upto : j ≤ k
   pub holders : work.held.holders.now ≡ (state_by w file j).holders
   pub table : RowsOf (file_n file) work.held.holders.now work.held.rows.now
   pub places : file_n file ≤ length work.queue.now
   pub room : file_n file ≤ length work.looked.now
+  pub long : AsLong begun work
   pub moves : total ≡ file_moves_by w file j
   pub so_far : LeftSoFar w file j (at ts) ls work.held.holders.now work.dead.now
 
@@ -98,7 +100,7 @@ module _
     pub order-entry : (j : ℕ) → j < length (take k os) → at (take k os) j ≡ at os j
     order-entry j l = get_or-take k os j 0 (rw order-taken at l)
 
-    pub placed-start : Placed w file k ls ts begun 0 0
+    pub placed-start : Placed w file k ls ts begun begun 0 0
     placed-start =
         record {
           upto = omega arith;
@@ -106,12 +108,13 @@ module _
           table = p.table;
           places = p.places;
           room = p.room;
+          long = as_long;
           moves = sym (first-moves file z w);
           so_far = left-nobody w file 0 (at ts) ls begun.held.holders.now p.none (λ _. refl);
         }
 
     module _
-        {work : Work} {total j v : ℕ} (now : Placed w file k ls ts work total j) (l : j < k) (is : v ≡ at os j)
+        {work : Work} {total j v : ℕ} (now : Placed w file k ls ts begun work total j) (l : j < k) (is : v ≡ at os j)
       where
         abbrev hs : List ℕ
         hs = work.held.holders.now
@@ -201,8 +204,10 @@ module _
             by_bool (is_queued w) (λ q. left-more q (dead_queued (file_n file) (at ts) ls hs v dead after dead' w q m))
             (λ q. left-nobody w file (j + 1) (at ts) ls after (dead_recursive (file_n file) (at ts) ls hs v dead after dead' w q m ∙ now.so_far.nobody q) (λ r. clash (is_queued w) r q))
 
-        pub placed_past : {n : ℕ} → n ≡ file_n file → Past n (at ts) ls hs v work.held.rows.now work.queue.now dead work.looked.now
-        placed_past e = subst (λ (n : ℕ). Past n (at ts) ls hs v work.held.rows.now work.queue.now dead work.looked.now) (sym e) past
+        pub placed_past : {n : ℕ} → n ≡ file_n file → PlantLists n ts ls next × Past n (at ts) ls hs v work.held.rows.now work.queue.now dead work.looked.now
+        placed_past e =
+            let lists : PlantLists (file_n file) ts ls next = record { index = given.index; limited = given.limits-long } in
+            (subst (λ (n : ℕ). PlantLists n ts ls next) (sym e) lists, subst (λ (n : ℕ). Past n (at ts) ls hs v work.held.rows.now work.queue.now dead work.looked.now) (sym e) past)
 
         -- what place_one leaves
         module _
@@ -224,7 +229,7 @@ module _
             unfolding MovesFit
             placed-fits = rw moves_next (file_moves_fit w file (j + 1))
 
-            pub placed-turn : AsLong work work' → Placed w file k ls ts work' (total + r) (j + 1)
+            pub placed-turn : AsLong work work' → Placed w file k ls ts begun work' (total + r) (j + 1)
             placed-turn long =
                 record {
                   upto = omega arith;
@@ -232,19 +237,24 @@ module _
                   table = subst (λ (l : List ℕ). RowsOf (file_n file) l work'.held.rows.now) (sym left_then_lem.0) left_then_lem.1.1.0;
                   places = omega (arith, long.places, now.places);
                   room = omega (arith, long.notes, now.room);
+                  long = long_then now.long long;
                   moves = moves_next;
                   so_far = subst (λ (l : List ℕ). LeftSoFar w file (j + 1) (at ts) ls l work'.dead.now) (sym left_then_lem.0) (dead_next work'.dead.now left_then_lem.1.1.1);
                 }
 
-    -- in the end the marks are the choke set
-    pub placed_end : {work : Work} {total j : ℕ} → Placed w file k ls ts work total j → k ≤ j → DeadChoke w file k work.dead.now
-    placed_end {work} {j = j} now l q all =
-        (now.so_far.pair.marks, λ u b. dead_choke now.so_far.pair (file_allowed file z).few every u b ∙ ap (λ (l : List ℕ). in_choke (file_n file) l work.held.holders.now u) given.links ∙ ap (λ (l : List ℕ). in_choke (file_n file) (file_links file) l u) (now.holders ∙ ap (λ (i : ℕ). (state_by w file i).holders) end))
+    -- in the end all k are placed, and the marks are the choke set
+    pub placed_end : {work : Work} {total j : ℕ} → Placed w file k ls ts begun work total j → k ≤ j
+        → (work.held.holders.now ≡ (state_by w file k).holders) × (RowsOf (file_n file) (state_by w file k).holders work.held.rows.now × ((total ≡ file_moves_by w file k) × DeadChoke w file k work.dead.now))
+    placed_end {work} {j = j} now l =
+        let end : j ≡ k = le_antisymm now.upto l in
+        let made : work.held.holders.now ≡ (state_by w file k).holders = now.holders ∙ ap (λ (i : ℕ). (state_by w file i).holders) end in
+        (made, (subst (λ (l : List ℕ). RowsOf (file_n file) l work.held.rows.now) made now.table, (now.moves ∙ ap (file_moves_by w file) end, chosen end)))
       where
-        end : j ≡ k
-        end = le_antisymm now.upto l
-
-        every : (x : ℕ) → x < file_n file → held (file_n file) (at work.held.holders.now) x ≡ false → now.so_far.left x ≡ true
-        every x b e =
+        every : j ≡ k → k ≡ file_n file → is_queued w ≡ true → (x : ℕ) → x < file_n file → held (file_n file) (at work.held.holders.now) x ≡ false → now.so_far.left x ≡ true
+        every end all q x b e =
             let (i, less, same) = order-place (file_allowed file z).order x b in
             subst (λ (y : ℕ). now.so_far.left y ≡ true) same (now.so_far.all q i (omega (arith, end, all, less)) (subst (λ (y : ℕ). held (file_n file) (at work.held.holders.now) y ≡ false) (sym same) e))
+
+        chosen : j ≡ k → DeadChoke w file k work.dead.now
+        chosen end q all =
+            (now.so_far.pair.marks, λ u b. dead_choke now.so_far.pair (file_allowed file z).few (every end all q) u b ∙ ap (λ (l : List ℕ). in_choke (file_n file) l work.held.holders.now u) given.links ∙ ap (λ (l : List ℕ). in_choke (file_n file) (file_links file) l u) (now.holders ∙ ap (λ (i : ℕ). (state_by w file i).holders) end))

@@ -123,6 +123,10 @@ module _
           space = record { places = c.places; unseen = (rw e at f) ∙ written-whole (file_n file) (replicate (file_n file) NONE) dead (length-replicate (file_n file) NONE) (omega (arith, c.marks)) };
         })
 
+    pub choking_walked : {n : ℕ} {choke' : List ℕ} → n ≡ file_n file → choke' ≡ written n (list_of n (choke_byte n ls hs)) choke
+        → choke' ≡ written (file_n file) (list_of (file_n file) (choke_byte (file_n file) (file_links file) (state_by w file k).holders)) choke
+    choking_walked e f = rw (e, given.links, c.made) at f
+
 -- the plan of the lists
 module _ (w : Way) (file : List ℕ) (k : ℕ) {ls next os ts : List ℕ} (given : Loaded file ls next os ts) {leaders choke : List ℕ} (r : Readable file k leaders choke) where
   accepted : file_refusal file ≡ 0
