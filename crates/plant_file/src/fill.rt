@@ -1,11 +1,12 @@
 // Writes what a file says into the front of a lent list, and nothing past it.
 ghost use Rattle.std.specs.Prelude.{◌≡◌, ◌+◌, ◌*◌, ◌≤◌, length};
+ghost use Rattle.packing.specs.Count.{all};
 ghost use Rattle.packing.specs.Lists.{list_of, written};
-ghost use Rattle.plant_file.specs.PlantFile.{number, file_n, file_m, file_links, file_order, file_limits};
+ghost use Rattle.plant_file.specs.PlantFile.{number, file_n, file_m, file_links, file_order, file_limits, limit_byte, limit_allowed, limits_allowed};
 ghost use Rattle.plant_file.specs.Pre.{pair_limits};
 
 use crate::bytes::{number_at, number_in};
-use crate::limits::effective;
+use crate::limits::{effective, is_allowed};
 use crate::reader::Reader;
 use lists::byte;
 
@@ -46,29 +47,35 @@ pub(crate) fn with_order(file: &[u8], order: &mut [u16])
     }
 }
 
-// The limits of version 2, by the pairs of bytes behind the order. Where they begin is reckoned once: by limit_of, for each, a plant of 256 gateways takes a sixth more time.
-fn with_pairs(file: &[u8], limits: &mut [u8])
+// The limits of version 2, by the pairs of bytes behind the order; and whether each limit byte is allowed. One pass does both. Where the pairs begin is reckoned once: by limit_of, for each, a plant of 256 gateways takes a sixth more time.
+fn with_pairs(file: &[u8], limits: &mut [u8]) -> bool
     requires { file_n file.now ≤ length limits.old }
-    ensures { limits.new ≡ written (file_n file.now) (pair_limits file.now) limits.old }
+    ensures answer { result ≡ all (file_n file.now) (λ v. limit_allowed (limit_byte file.now v)) }
+    ensures limits { limits.new ≡ written (file_n file.now) (pair_limits file.now) limits.old }
 {
     let t = crate::limit(file);
     let n = crate::gateways(file) as usize;
     let pairs = 10 + 4 * (crate::link_count(file) as usize) + 2 * n;
+    let mut ok = true;
     for (v, limit) in limits[..n].iter_mut().enumerate() {
         let kind = byte(file, pairs + 2 * v);
-        *limit = effective(t, kind, byte(file, pairs + 2 * v + 1));
+        let written = byte(file, pairs + 2 * v + 1);
+        *limit = effective(t, kind, written);
+        ok &= is_allowed(written);
     }
+    ok
 }
 
-// The gateways' limits.
-pub(crate) fn with_limits(file: &[u8], limits: &mut [u8])
+// The gateways' limits, and whether each limit byte is allowed: version 1 has none. A bool and no Result: they are written either way, and load, which has checked the file, asks for nothing else.
+pub(crate) fn with_limits(file: &[u8], limits: &mut [u8]) -> bool
     requires { file_n file.now ≤ length limits.old }
-    ensures { limits.new ≡ written (file_n file.now) (file_limits file.now) limits.old }
+    ensures answer { result ≡ limits_allowed file.now }
+    ensures limits { limits.new ≡ written (file_n file.now) (file_limits file.now) limits.old }
 {
     if crate::has_pairs(file) {
-        with_pairs(file, limits);
-    } else {
-        let n = crate::gateways(file) as usize;
-        lists::fill::with_value(n, crate::limit(file), limits);
+        return with_pairs(file, limits);
     }
+    let n = crate::gateways(file) as usize;
+    lists::fill::with_value(n, crate::limit(file), limits);
+    true
 }

@@ -68,10 +68,9 @@ pub fn load_indexed(
     checks::of_header(file)?;
     indexed::take_links(file, links, next)?;
     indexed::take_order(file, order)?;
-    if !limits::are_allowed(file) {
+    if !fill::with_limits(file, limits) {
         return Err(Refusal::LimitNotAllowed);
     }
-    fill::with_limits(file, limits);
     Ok(())
 }
 

@@ -1,8 +1,7 @@
 // The limit of each gateway (02, change 8): in version 1 it is T for all, in version 2 it goes by the pairs of bytes behind the order, kind and limit.
 ghost use Rattle.std.specs.Prelude.{◌≡◌, ◌+◌, ◌*◌};
-ghost use Rattle.std.specs.List.{list_all, range_with_len};
 ghost use Rattle.packing.specs.Plant.{at};
-ghost use Rattle.plant_file.specs.PlantFile.{file_n, file_m, kind_byte, limit_byte, limit_of_kind, effective_limit, file_limit, limit_allowed, limits_allowed};
+ghost use Rattle.plant_file.specs.PlantFile.{file_n, file_m, kind_byte, limit_byte, limit_of_kind, effective_limit, file_limit, limit_allowed};
 
 use lists::byte;
 
@@ -66,23 +65,8 @@ pub fn limit_of(file: &[u8], v: u16) -> u8
 
 // Whether a limit byte is neither 1 nor above 16.
 #[tactic(auto, unfolding(crate::specs::PlantFile::limit_allowed))]
-fn is_allowed(limit: u8) -> bool
+pub(crate) fn is_allowed(limit: u8) -> bool
     ensures { result ≡ limit_allowed limit }
 {
     limit != 1 && limit <= lists::HIGHEST
-}
-
-// Whether the limit byte of each gateway below n is allowed.
-fn each_is_allowed(file: &[u8], n: u16) -> bool
-    ensures { result ≡ list_all (λ v. limit_allowed (limit_byte file.now v)) (range_with_len 0 n) }
-{
-    (0..n).all(|v| is_allowed(limit_byte(file, v)))
-}
-
-// Whether each limit byte of the file is allowed: version 1 has none.
-#[tactic(auto, unfolding(crate::specs::PlantFile::limits_allowed), using(packing::proofs::Ranges::all_range))]
-pub(crate) fn are_allowed(file: &[u8]) -> bool
-    ensures { result ≡ limits_allowed file.now }
-{
-    !crate::has_pairs(file) || each_is_allowed(file, crate::gateways(file))
 }

@@ -19,5 +19,5 @@ with_limits-requires c = (load-places _ _ _ _ c.in_ok-of_load.ensures refl).3
 
 pub returns : goal.returns
 returns c =
-    let (links, (order, limits)) = load-accepted _ _ _ _ c.in_ok-of_load.ensures c.with_links.ensures c.with_order.ensures c.with_limits.ensures in
+    let (links, (order, limits)) = load-accepted _ _ _ _ c.in_ok-of_load.ensures c.with_links.ensures c.with_order.ensures c.with_limits.ensures.limits in
     record { answer = c.in_ok-of_load.ensures; links = links; order = order; limits = limits }

@@ -21,16 +21,16 @@ pub returns-in_err-take_order-clause-answer : goal.returns-in_err-take_order-cla
 returns-in_err-take_order-clause-answer c =
     handed_on _ _ c.from_residual-in_err-take_order.ensures ∙ file_order_lem _ c.in_ok-of_header.ensures c.in_ok-take_links.ensures.answer c.in_err-take_order.ensures.answer (number-ne-0 _)
 
-pub returns-then-not-are_allowed-clause-answer : goal.returns-then-not-are_allowed-clause-answer
-returns-then-not-are_allowed-clause-answer c =
-    file_limits_lem _ c.in_ok-of_header.ensures c.in_ok-take_links.ensures.answer c.in_ok-take_order.ensures.answer c.are_allowed.ensures (ap not c.if-not-are_allowed.true)
-
 pub with_limits-requires : goal.with_limits-requires
 with_limits-requires c = load-limited _ c.requires c.in_ok-of_header.ensures
+
+pub returns-then-not-with_limits-clause-answer : goal.returns-then-not-with_limits-clause-answer
+returns-then-not-with_limits-clause-answer c =
+    file_limits_lem _ c.in_ok-of_header.ensures c.in_ok-take_links.ensures.answer c.in_ok-take_order.ensures.answer c.with_limits.ensures.answer (ap not c.if-not-with_limits.true)
 
 pub returns : goal.returns
 returns c =
     record {
-      answer = file_fine _ c.in_ok-of_header.ensures c.in_ok-take_links.ensures.answer c.in_ok-take_order.ensures.answer c.are_allowed.ensures (ap not c.if-not-are_allowed.false);
-      lists = load-whole c.in_ok-take_links.ensures.lists c.take_order.ensures.order c.with_limits.ensures;
+      answer = file_fine _ c.in_ok-of_header.ensures c.in_ok-take_links.ensures.answer c.in_ok-take_order.ensures.answer c.with_limits.ensures.answer (ap not c.if-not-with_limits.false);
+      lists = load-whole c.in_ok-take_links.ensures.lists c.take_order.ensures.order c.with_limits.ensures.limits;
     }
