@@ -13,8 +13,9 @@ pub fn with_roots(slots: usize, last: &mut [u16])
     requires { (GATEWAYS ≤ slots) × (slots ≤ SLOTS) × (length last.old ≡ GATEWAYS) }
     ensures { last.new ≡ list_of GATEWAYS (root_of slots) }
 {
-    for x in 0..PLACES {
-        last[x] = (slots - PLACES + x) as u16;
+    let first = (slots - PLACES) as u16;
+    for x in 0..lists::GATEWAYS {
+        last[x as usize] = first + x;
     }
 }
 
