@@ -15,26 +15,16 @@ struct Plant {
 }
 
 impl Plant {
-    fn open() -> Plant {
-        let links = [9u16; LARGE_LINKS];
-        let mut order = [9u16; LARGE];
-        let mut holders = [9u16; LARGE];
-        let mut limits = [9u8; LARGE];
+    fn open(&mut self) {
         let opened = Small::open(
             lists::GATEWAYS,
             lists::LOWEST,
-            &links,
-            &mut order,
-            &mut holders,
-            &mut limits,
+            &self.links,
+            &mut self.order,
+            &mut self.holders,
+            &mut self.limits,
         );
-        Plant {
-            small: opened.small,
-            links,
-            order,
-            holders,
-            limits,
-        }
+        self.small = opened.small;
     }
 
     fn link(&mut self, a: u16, b: u16) -> Answer {
@@ -108,7 +98,20 @@ impl Plant {
 }
 
 pub(crate) fn run(rt: &impl Print) -> io::Result<()> {
-    let mut plant = Plant::open();
+    // Made where it stays: a record that open returned would stand twice on the stack.
+    let mut plant = Plant {
+        small: Small {
+            n: 0,
+            t: lists::LOWEST,
+            m: 0,
+            k: 0,
+        },
+        links: [9u16; LARGE_LINKS],
+        order: [9u16; LARGE],
+        holders: [9u16; LARGE],
+        limits: [9u8; LARGE],
+    };
+    plant.open();
     plant.fill();
     plant.one_more_link(rt)?;
     for _ in 0..lists::GATEWAYS {

@@ -3,7 +3,7 @@
 use crate::lines;
 use crate::parts::{self, LARGE, LARGE_LINKS, Numbers};
 use planner::Small;
-use std::{array, io};
+use std::io;
 
 // The lists stand apart, and not as a record::Record: that lends the holders to be written and the links to be read, and here `link` writes the links.
 fn probe(
@@ -44,8 +44,15 @@ pub(crate) fn case(rt: &impl Print, label: &[u8], a: &Numbers) -> io::Result<()>
 
 // Any n and m: the order 0, 1, .., and the link 0-1 each time.
 pub(crate) fn large(rt: &impl Print, label: &[u8], n: u16, m: u16) -> io::Result<()> {
-    let mut links: [u16; LARGE_LINKS] = array::from_fn(|i| (i % 2) as u16);
-    let order: [u16; LARGE] = array::from_fn(|i| (i % 65536) as u16);
+    // array::from_fn would make each list twice on the stack.
+    let mut links = [0u16; LARGE_LINKS];
+    for (i, end) in links.iter_mut().enumerate() {
+        *end = (i % 2) as u16;
+    }
+    let mut order = [0u16; LARGE];
+    for (i, v) in order.iter_mut().enumerate() {
+        *v = (i % 65536) as u16;
+    }
     let s = Small { n, t: 2, m, k: 1 };
     probe(
         rt,
