@@ -84,7 +84,7 @@ extern "C" {
  * What it uses. The call is reentrant and keeps nothing: the library has no writable data and allocates
  * none. Calls may run at once in any threads, each with an out of its own; they may share a file that
  * nobody changes meanwhile. Its lists stand on the stack: 121,592 bytes were measured at most, little less
- * for a small plant (why_alone 162,280, check_groups 113,848, plan_groups_recursive below). A thread whose
+ * for a small plant (why_alone 162,312, check_groups 113,880, plan_groups_recursive below). A thread whose
  * stack has PLAN_GROUPS_STACK bytes, with what the thread itself takes of them, can make the call; what the
  * thread does besides needs more.
  *
