@@ -29,21 +29,20 @@ pub record PairsRead (file old new : List ℕ) (ok : Bool) (v : ℕ) : Type 0 wh
 
 module _ (file : List ℕ) where
   -- .. as the code reads it
-  pub pair-entry : (v : ℕ) {t m n kind limit x : ℕ} → t ≡ file_t file → m ≡ file_m file → n ≡ file_n file → kind ≡ at file (10 + 4 * m + 2 * n + 2 * v) → limit ≡ at file (10 + 4 * m + 2 * n + 2 * v + 1)
-      → x ≡ effective_limit t kind limit → x ≡ pair_limit file v
-  unfolding kind_byte limit_byte
-  pair-entry v {m = m} {n = n} is-t is_m is-n is-kind is-limit is =
-      is ∙ rw (is-t, is-kind, is-limit, is_m, is-n) (ap (λ (place : ℕ). effective_limit (file_t file) (at file (10 + 4 * file_m file + 2 * file_n file + 2 * v)) (at file place)) place)
+  limit-entry : (v : ℕ) {m n limit : ℕ} → m ≡ file_m file → n ≡ file_n file → limit ≡ at file (10 + 4 * m + 2 * n + 2 * v + 1) → limit ≡ limit_byte file v
+  unfolding limit_byte
+  limit-entry v is_m is-n is = is ∙ rw (is_m, is-n) (ap (at file) place)
     where
       place : 10 + 4 * file_m file + 2 * file_n file + 2 * v + 1 ≡ 11 + 4 * file_m file + 2 * file_n file + 2 * v
       place = omega arith
 
+  pub pair-entry : (v : ℕ) {t m n kind limit x : ℕ} → t ≡ file_t file → m ≡ file_m file → n ≡ file_n file → kind ≡ at file (10 + 4 * m + 2 * n + 2 * v) → limit ≡ at file (10 + 4 * m + 2 * n + 2 * v + 1)
+      → x ≡ effective_limit t kind limit → x ≡ pair_limit file v
+  unfolding kind_byte
+  pair-entry v is-t is_m is-n is-kind is-limit is = is ∙ rw (is-t, is-kind, limit-entry v is_m is-n is-limit, is_m, is-n)
+
   pub byte-entry : (v : ℕ) {m n limit : ℕ} {a : Bool} → m ≡ file_m file → n ≡ file_n file → limit ≡ at file (10 + 4 * m + 2 * n + 2 * v + 1) → a ≡ limit_allowed limit → a ≡ byte_allowed file v
-  unfolding limit_byte
-  byte-entry v {m = m} {n = n} is_m is-n is-limit is = is ∙ rw (is-limit, is_m, is-n) (ap (λ (place : ℕ). limit_allowed (at file place)) place)
-    where
-      place : 10 + 4 * file_m file + 2 * file_n file + 2 * v + 1 ≡ 11 + 4 * file_m file + 2 * file_n file + 2 * v
-      place = omega arith
+  byte-entry v is_m is-n is-limit is = is ∙ ap limit_allowed (limit-entry v is_m is-n is-limit)
 
   -- by whether it has pairs
   module _ (old : List ℕ) {paired : Bool} (is : paired ≡ eqb (file_version file) 2) {new : List ℕ} where
